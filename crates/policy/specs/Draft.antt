@@ -1,0 +1,218 @@
+-- The change that a record asks for, on tables: document 01, 'Where things go'. A draft's lists may pass their limits.
+use Prim.Native.Nat.{ℕ, _+_}
+use mathlib.Core.Bool.{Bool, true, false, not, _&&_, _||_, cond}
+use mathlib.Core.List.{List, [], _∷_, _++_, map}
+use mathlib.Core.Option.{Option, none, some}
+use lib.Dec.{eqb, leb, ltb}
+use lib.ListN.{length, getD}
+use Rattle.policy.specs.Lists.{implies, every, exists, keep, first, flat, upto, isNil, isSome, orElse}
+use Rattle.policy.specs.Contract.{Aid, eqAid, Tok, eqTok, Row, eqRow, Contract, hasTok, hasRow}
+use Rattle.policy.specs.Layout.{Layout}
+use Rattle.policy.specs.Record.{Change, load, remove, addService, removeService, addCall, removeCall, addGrant, removeGrant, addNeed, removeNeed}
+use Rattle.policy.specs.Tables.{Tables, Unmet, Waiting, noTok}
+use Rattle.policy.specs.Lookup.{Place, serviceAt, wanted, numbers, places, numberOf, serviceOf, serverOf, freeNumber, freeService}
+use Rattle.policy.specs.Sound.{eqUnmet, eqWaiting, everyBit}
+
+-- the number of the package that changes, the tables after the change, and the needs that it leaves unmet
+pub record Draft : Type 0 where
+  pub number : ℕ
+  pub tables : Tables
+  pub lost : List Unmet
+
+-- a change of package n that leaves every need met
+abbrev pub kept : ℕ → Tables → Draft
+kept n t = record { number = n; tables = t; lost = [] }
+
+-- the row of a call by package number i
+abbrev pub callRow : ℕ → Row → Unmet
+callRow i r = record { callee = r .aid; tok = r .tok; caller = i }
+
+abbrev pub hasUnmet : Unmet → List Unmet → Bool
+hasUnmet u l = exists (eqUnmet u) l
+
+abbrev pub hasWaiting : Waiting → List Waiting → Bool
+hasWaiting w l = exists (eqWaiting w) l
+
+-- ---- a function changed at one place
+abbrev pub put : {A : Type 0} → ℕ → A → (ℕ → A) → ℕ → A
+put n v f x = cond (eqb x n) v (f x)
+
+abbrev pub put2 : {A : Type 0} → ℕ → ℕ → A → (ℕ → ℕ → A) → ℕ → ℕ → A
+put2 j k v f x y = cond (eqb x j && eqb y k) v (f x y)
+
+abbrev pub put3 : ℕ → ℕ → ℕ → Bool → (ℕ → ℕ → ℕ → Bool) → ℕ → ℕ → ℕ → Bool
+put3 i j k v f x y z = cond (eqb x i && eqb y j && eqb z k) v (f x y z)
+
+-- ---- tables with new calls, grants or needs
+abbrev pub withCalls : (ℕ → ℕ → ℕ → Bool) → List Unmet → Tables → Tables
+withCalls c u t = record
+    { used = t .used; aid = t .aid; tok = t .tok; provides = t .provides
+    ; calls = c; grants = t .grants; needs = t .needs; unmet = u; waiting = t .waiting }
+
+abbrev pub withGrants : (ℕ → ℕ → ℕ → Bool) → List Waiting → Tables → Tables
+withGrants g w t = record
+    { used = t .used; aid = t .aid; tok = t .tok; provides = t .provides
+    ; calls = t .calls; grants = g; needs = t .needs; unmet = t .unmet; waiting = w }
+
+abbrev pub withNeeds : (ℕ → ℕ → ℕ → Bool) → Tables → Tables
+withNeeds n t = record
+    { used = t .used; aid = t .aid; tok = t .tok; provides = t .provides
+    ; calls = t .calls; grants = t .grants; needs = n; unmet = t .unmet; waiting = t .waiting }
+
+module _ (L : Layout) (t : Tables) where
+  -- ---- kinds 5, 6, 9, 10: a row of package i; it is a bit where its service is on the card
+  abbrev pub addCallAt : ℕ → Row → Option Place → Draft
+  addCallAt i r none = kept i (withCalls (t .calls) (t .unmet ++ (callRow i r ∷ [])) t)
+  addCallAt i r (some p) = kept i (withCalls (put3 i (p .callee) (p .service) true (t .calls)) (t .unmet) t)
+
+  -- 'a need on it goes too'
+  abbrev pub removeCallAt : ℕ → Row → Option Place → Draft
+  removeCallAt i r none = kept i (withCalls (t .calls) (keep (λ u. not (eqUnmet (callRow i r) u)) (t .unmet)) t)
+  removeCallAt i r (some p) =
+      kept i (withNeeds (put3 i (p .callee) (p .service) false (t .needs)) (withCalls (put3 i (p .callee) (p .service) false (t .calls)) (t .unmet) t))
+
+  abbrev pub addNeedAt : ℕ → Row → Option Place → Draft
+  addNeedAt i r none = record { number = i; tables = t; lost = callRow i r ∷ [] }
+  addNeedAt i r (some p) = kept i (withNeeds (put3 i (p .callee) (p .service) true (t .needs)) t)
+
+  abbrev pub removeNeedAt : ℕ → Row → Option Place → Draft
+  removeNeedAt i r none = kept i t
+  removeNeedAt i r (some p) = kept i (withNeeds (put3 i (p .callee) (p .service) false (t .needs)) t)
+
+  -- ---- kinds 7, 8: a grant of service k of package j to the AID a; it is a bit where a is installed
+  abbrev pub addGrantAt : ℕ → Aid → ℕ → Option ℕ → Draft
+  addGrantAt j a k none = kept j (withGrants (t .grants) (t .waiting ++ (record { caller = a; callee = j; service = k } ∷ [])) t)
+  addGrantAt j a k (some i) = kept j (withGrants (put3 j i k true (t .grants)) (t .waiting) t)
+
+  abbrev pub removeGrantAt : ℕ → Aid → ℕ → Option ℕ → Draft
+  removeGrantAt j a k none = kept j (withGrants (t .grants) (keep (λ w. not (eqWaiting (record { caller = a; callee = j; service = k }) w)) (t .waiting)) t)
+  removeGrantAt j a k (some i) = kept j (withGrants (put3 j i k false (t .grants)) (t .waiting) t)
+
+  -- ---- kind 3: service k of package j, with tokens s and grants to the AIDs of l; unmet calls on it become bits
+  abbrev pub asksFor : Aid → Tok → Unmet → Bool
+  asksFor a s u = eqAid (u .callee) a && eqTok (u .tok) s
+
+  abbrev pub addServiceAt : ℕ → ℕ → Tok → List Aid → Draft
+  addServiceAt j k s l = kept j (record
+      { used = t .used; aid = t .aid; tok = put2 j k s (t .tok); provides = put2 j k true (t .provides)
+      ; calls = λ x y z. t .calls x y z || (eqb y j && eqb z k && hasUnmet (record { callee = t .aid j; tok = s; caller = x }) (t .unmet))
+      ; grants = λ x y z. t .grants x y z || (eqb x j && eqb z k && (t .used y && exists (eqAid (t .aid y)) l))
+      ; needs = t .needs
+      ; unmet = keep (λ u. not (asksFor (t .aid j) s u)) (t .unmet)
+      ; waiting = t .waiting ++ map (λ a. record { caller = a; callee = j; service = k }) (keep (λ a. not (isSome (numberOf L t a))) l) })
+
+  -- ---- kinds 2 and 4: what calls or needs of others on the services d of package j leave behind, 'by caller number then
+  -- the service number it had'
+  abbrev pub leftBy : (ℕ → ℕ → ℕ → Bool) → ℕ → (ℕ → Bool) → List Unmet
+  leftBy b j d =
+      flat (λ i. map (λ k. callRow i (serviceAt t j k)) (keep (λ k. b i j k && d k) (places L t))) (numbers L t)
+
+  -- kind 4: service k of package j goes; 'its grants go too'
+  abbrev pub removeServiceAt : ℕ → ℕ → Draft
+  removeServiceAt j k = record
+      { number = j
+      ; tables = record
+          { used = t .used; aid = t .aid; tok = put2 j k noTok (t .tok); provides = put2 j k false (t .provides)
+          ; calls = λ x y z. t .calls x y z && not (eqb y j && eqb z k)
+          ; grants = λ x y z. t .grants x y z && not (eqb x j && eqb z k)
+          ; needs = λ x y z. t .needs x y z && not (eqb y j && eqb z k)
+          ; unmet = t .unmet ++ leftBy (t .calls) j (λ z. eqb z k)
+          ; waiting = keep (λ w. not (eqb (w .callee) j && eqb (w .service) k)) (t .waiting) }
+      ; lost = leftBy (t .needs) j (λ z. eqb z k) }
+
+  -- kind 2: package n goes; calls on it are unmet, grants to it wait, 'waiting grants by callee number then service number'
+  abbrev pub removeAt : ℕ → Draft
+  removeAt n = record
+      { number = n
+      ; tables = record
+          { used = put n false (t .used); aid = put n [] (t .aid)
+          ; tok = λ x y. cond (eqb x n) noTok (t .tok x y)
+          ; provides = λ x y. t .provides x y && not (eqb x n)
+          ; calls = λ x y z. t .calls x y z && not (eqb x n || eqb y n)
+          ; grants = λ x y z. t .grants x y z && not (eqb x n || eqb y n)
+          ; needs = λ x y z. t .needs x y z && not (eqb x n || eqb y n)
+          ; unmet = keep (λ u. not (eqb (u .caller) n)) (t .unmet) ++ leftBy (t .calls) n (λ z. true)
+          ; waiting = keep (λ w. not (eqb (w .callee) n)) (t .waiting)
+              ++ flat (λ j. map (λ k. record { caller = t .aid n; callee = j; service = k }) (keep (λ k. t .grants j n k) (places L t))) (numbers L t) }
+      ; lost = leftBy (t .needs) n (λ z. true) }
+
+  -- ---- kind 1: a contract at number n; 'its services take 0, 1, 2 in record order', 'loading turns fitting unmet calls and waiting grants into bits'
+  module _ (n : ℕ) (c : Contract) where
+    abbrev pub loadedTok : ℕ → ℕ → Tok
+    loadedTok x y = cond (eqb x n) (getD (c .provides) y noTok) (t .tok x y)
+
+    abbrev pub loadedProvides : ℕ → ℕ → Bool
+    loadedProvides x y = cond (eqb x n) (ltb y (length (c .provides))) (t .provides x y)
+
+    -- the package and its services alone
+    abbrev pub loadedNames : Tables
+    loadedNames = record
+        { used = put n true (t .used); aid = put n (c .aid) (t .aid); tok = loadedTok; provides = loadedProvides
+        ; calls = t .calls; grants = t .grants; needs = t .needs; unmet = t .unmet; waiting = t .waiting }
+
+    -- service z of package y is on the card and one of the rows
+    abbrev pub namedIn : List Row → ℕ → ℕ → Bool
+    namedIn l y z = loadedProvides y z && hasRow (serviceAt loadedNames y z) l
+
+    abbrev pub notServed : Row → Bool
+    notServed r = not (isSome (serverOf L loadedNames r))
+
+    -- the number of the service with tokens s in record order
+    abbrev pub loadedService : Tok → ℕ
+    loadedService s = orElse (serviceOf L loadedNames n s) 0 (λ k. k)
+
+    abbrev pub loadAt : Draft
+    loadAt = record
+        { number = n
+        ; tables = record
+            { used = loadedNames .used; aid = loadedNames .aid; tok = loadedTok; provides = loadedProvides
+            ; calls = λ x y z. cond (eqb x n) (namedIn (c .calls) y z)
+                (cond (eqb y n) (loadedProvides n z && hasUnmet (callRow x (serviceAt loadedNames n z)) (t .unmet)) (t .calls x y z))
+            ; grants = λ x y z. cond (eqb x n) (loadedProvides n z && (t .used y && hasRow (record { aid = t .aid y; tok = loadedTok n z }) (c .grants)))
+                (cond (eqb y n) (hasWaiting (record { caller = c .aid; callee = x; service = z }) (t .waiting)) (t .grants x y z))
+            ; needs = λ x y z. cond (eqb x n) (namedIn (c .needs) y z) (t .needs x y z)
+            ; unmet = keep (λ u. not (eqAid (u .callee) (c .aid) && hasTok (u .tok) (c .provides))) (t .unmet)
+                ++ map (callRow n) (keep notServed (c .calls))
+            ; waiting = keep (λ w. not (eqAid (w .caller) (c .aid))) (t .waiting)
+                ++ map (λ r. record { caller = r .aid; callee = n; service = loadedService (r .tok) }) (keep (λ r. not (isSome (numberOf L t (r .aid)))) (c .grants)) }
+        ; lost = map (callRow n) (keep notServed (c .needs)) }
+
+  -- ---- the draft of a record with first AID a; where a number is not found, a lower cause has applied
+  abbrev pub unchanged : Draft
+  unchanged = kept 255 t
+
+  abbrev pub atPackage : Aid → (ℕ → Draft) → Draft
+  atPackage a f = orElse (numberOf L t a) unchanged f
+
+  abbrev pub atService : ℕ → Tok → (ℕ → Draft) → Draft
+  atService j s f = orElse (serviceOf L t j s) unchanged f
+
+  unfoldable pub draft : Aid → Change → Draft
+  unfolding numberOf serviceOf serverOf freeNumber freeService
+  draft a (load p c g n) = orElse (freeNumber L t) unchanged (λ m. loadAt m (record { aid = a; provides = p; calls = c; grants = g; needs = n }))
+  draft a remove = atPackage a removeAt
+  draft a (addService s l) = atPackage a (λ j. orElse (freeService L t j) unchanged (λ k. addServiceAt j k s l))
+  draft a (removeService s) = atPackage a (λ j. atService j s (removeServiceAt j))
+  draft a (addCall r) = atPackage a (λ i. addCallAt i r (serverOf L t r))
+  draft a (removeCall r) = atPackage a (λ i. removeCallAt i r (serverOf L t r))
+  draft a (addGrant r) = atPackage a (λ j. atService j (r .tok) (λ k. addGrantAt j (r .aid) k (numberOf L t (r .aid))))
+  draft a (removeGrant r) = atPackage a (λ j. atService j (r .tok) (λ k. removeGrantAt j (r .aid) k (numberOf L t (r .aid))))
+  draft a (addNeed r) = atPackage a (λ i. addNeedAt i r (serverOf L t r))
+  draft a (removeNeed r) = atPackage a (λ i. removeNeedAt i r (serverOf L t r))
+
+-- ---- the full look at a draft: what causes 8 to 11 ask
+pub record Look : Type 0 where
+  -- every call bit has its grant bit
+  pub granted : Bool
+  -- no need is left unmet
+  pub needed : Bool
+  -- both lists fit
+  pub unmetFits : Bool
+  pub waitingFits : Bool
+
+unfoldable pub look : Layout → Draft → Look
+look L d = record
+    { granted = everyBit L (λ i j k. implies (d .tables .calls i j k) (d .tables .grants j i k))
+    ; needed = isNil (d .lost)
+    ; unmetFits = leb (length (d .tables .unmet)) (L .capacity)
+    ; waitingFits = leb (length (d .tables .waiting)) (L .capacity) }

@@ -1,0 +1,68 @@
+-- A card's sizes and limits, as a value: where the parts of its image stand, and what its records may hold.
+use Prim.Native.Nat.{ℕ, _+_, _*_, _-_, _^_, _≤_, _<_}
+use mathlib.Core.Path.{_≡_}
+use mathlib.Core.List.{List, [], _∷_}
+use lib.ListN.{length}
+
+pub record Layout : Type 0 where
+  -- package numbers, and service numbers of a package
+  pub packages : ℕ
+  pub services : ℕ
+  -- bytes of a row of bits, big-endian
+  pub width : ℕ
+  -- rows that each list has room for
+  pub capacity : ℕ
+  -- the image's first three bytes: its length and version
+  pub header : List ℕ
+  -- the version byte of its records
+  pub version : ℕ
+  -- bytes of the count of calls, grants and needs, big-endian; the most rows of each; the most callers of kind 3
+  pub countWidth : ℕ
+  pub mostRows : ℕ
+  pub mostCallers : ℕ
+
+-- the card of 1,094 bytes
+abbrev pub small : Layout
+small = record
+    { packages = 8; services = 8; width = 1; capacity = 16; header = 4 ∷ 70 ∷ 1 ∷ []
+    ; version = 1; countWidth = 1; mostRows = 72; mostCallers = 32 }
+
+-- bytes of an AID's place, of a row of unmet calls and of a row of waiting grants
+abbrev pub aidSize : ℕ
+aidSize = 17
+abbrev pub unmetSize : ℕ
+unmetSize = 20
+abbrev pub waitingSize : ℕ
+waitingSize = 19
+
+-- ---- where the parts stand
+module _ (L : Layout) where
+  abbrev pub usedAt : ℕ
+  usedAt = 3
+  abbrev pub aidsAt : ℕ
+  aidsAt = usedAt + L .width
+  abbrev pub tokensAt : ℕ
+  tokensAt = aidsAt + L .packages * aidSize
+  abbrev pub providesAt : ℕ
+  providesAt = tokensAt + L .packages * (L .services * 2)
+  abbrev pub callsAt : ℕ
+  callsAt = providesAt + L .packages * L .width
+  abbrev pub grantsAt : ℕ
+  grantsAt = callsAt + L .packages * (L .packages * L .width)
+  abbrev pub needsAt : ℕ
+  needsAt = grantsAt + L .packages * (L .packages * L .width)
+  abbrev pub unmetAt : ℕ
+  unmetAt = needsAt + L .packages * (L .packages * L .width)
+  abbrev pub waitingAt : ℕ
+  waitingAt = unmetAt + (1 + L .capacity * unmetSize)
+  abbrev pub size : ℕ
+  size = waitingAt + (1 + L .capacity * waitingSize)
+
+-- what the numbers of a layout must satisfy for its image to hold its tables, and its records every contract of a card
+pub record LayoutOk (L : Layout) : Type 0 where
+  pub header-size : length (L .header) ≡ 3
+  pub packages-fit : 2 ^ L .packages ≤ 256 ^ L .width
+  pub services-fit : 2 ^ L .services ≤ 256 ^ L .width
+  pub rows-fit : (L .packages - 1) * L .services + L .capacity ≤ L .mostRows
+  pub counts-fit : L .mostRows < 256 ^ L .countWidth
+  pub records-fit : 4 + (17 + ((1 + L .services * 2) + 3 * (L .countWidth + L .mostRows * 19))) < 256 ^ 2

@@ -1,0 +1,15 @@
+pub mod Lists
+pub mod Contract
+pub mod Layout
+pub mod Record
+pub mod Causes
+pub mod Machine
+pub mod Tables
+pub mod Lookup
+pub mod Sound
+pub mod Draft
+pub mod Judge
+pub mod History
+pub mod Marked
+pub mod ShortCheck
+pub mod Claims

@@ -1,0 +1,76 @@
+-- The marked cases of document 01, 'At the edges', in one table.
+use Prim.Native.Nat.{ℕ, zero, suc, _+_, _*_, _/_, _%_}
+use mathlib.Core.List.{List, [], _∷_, _++_, map}
+use lib.ListN.{length, replicate}
+use Rattle.policy.specs.Lists.{flat, from}
+
+-- a history from the empty card, and its answers
+pub record Case : Type 0 where
+  pub records : List (List ℕ)
+  pub answers : List ℕ
+
+-- the AID F0 00 00 00 n, as a record writes it; H is 1, C is 2, B is 3
+abbrev pub aidOf : ℕ → List ℕ
+aidOf n = 5 ∷ 240 ∷ 0 ∷ 0 ∷ 0 ∷ n ∷ []
+
+-- a record: its length, the version, the kind and what follows
+abbrev pub recordOf : ℕ → List ℕ → List ℕ
+recordOf k body = (4 + length body) / 256 ∷ (4 + length body) % 256 ∷ 1 ∷ k ∷ body
+
+-- service m of package n: tokens 0 and m
+abbrev pub rowOf : ℕ → ℕ → List ℕ
+rowOf n m = aidOf n ++ (0 ∷ m ∷ [])
+
+abbrev pub listOf : List (List ℕ) → List ℕ
+listOf l = length l ∷ flat (λ r. r) l
+
+abbrev pub loadOf : ℕ → List ℕ → List (List ℕ) → List (List ℕ) → List (List ℕ) → List ℕ
+loadOf n toks calls grants needs =
+    recordOf 1 (aidOf n ++ (listOf (map (λ m. 0 ∷ m ∷ []) toks) ++ (listOf calls ++ (listOf grants ++ listOf needs))))
+
+abbrev pub removalOf : ℕ → List ℕ
+removalOf n = recordOf 2 (aidOf n)
+
+-- package n calls services 1 to m of the absent package 9
+abbrev pub callsOn9 : ℕ → List (List ℕ)
+callsOn9 m = map (rowOf 9) (from 1 m)
+
+-- kind 5: package n calls service m of package k
+abbrev pub callOf : ℕ → ℕ → ℕ → List ℕ
+callOf n k m = recordOf 5 (aidOf n ++ rowOf k m)
+
+-- the records of the session, to the byte
+abbrev pub loadH : List ℕ
+loadH = 0x00 ∷ 0x18 ∷ 0x01 ∷ 0x01 ∷ 0x05 ∷ 0xF0 ∷ 0x00 ∷ 0x00 ∷ 0x00 ∷ 0x01 ∷ 0x01 ∷ 0x00 ∷ 0x00 ∷ 0x00 ∷ 0x01 ∷ 0x05 ∷ 0xF0 ∷ 0x00 ∷ 0x00 ∷ 0x00 ∷ 0x02 ∷ 0x00 ∷ 0x00 ∷ 0x00 ∷ []
+abbrev pub loadB : List ℕ
+loadB = 0x00 ∷ 0x16 ∷ 0x01 ∷ 0x01 ∷ 0x05 ∷ 0xF0 ∷ 0x00 ∷ 0x00 ∷ 0x00 ∷ 0x03 ∷ 0x00 ∷ 0x01 ∷ 0x05 ∷ 0xF0 ∷ 0x00 ∷ 0x00 ∷ 0x00 ∷ 0x01 ∷ 0x00 ∷ 0x00 ∷ 0x00 ∷ 0x00 ∷ []
+abbrev pub loadC : List ℕ
+loadC = 0x00 ∷ 0x1E ∷ 0x01 ∷ 0x01 ∷ 0x05 ∷ 0xF0 ∷ 0x00 ∷ 0x00 ∷ 0x00 ∷ 0x02 ∷ 0x00 ∷ 0x01 ∷ 0x05 ∷ 0xF0 ∷ 0x00 ∷ 0x00 ∷ 0x00 ∷ 0x01 ∷ 0x00 ∷ 0x00 ∷ 0x00 ∷ 0x01 ∷ 0x05 ∷ 0xF0 ∷ 0x00 ∷ 0x00 ∷ 0x00 ∷ 0x01 ∷ 0x00 ∷ 0x00 ∷ []
+abbrev pub removeH : List ℕ
+removeH = 0x00 ∷ 0x0A ∷ 0x01 ∷ 0x02 ∷ 0x05 ∷ 0xF0 ∷ 0x00 ∷ 0x00 ∷ 0x00 ∷ 0x01 ∷ []
+
+abbrev pub cases : List Case
+cases =
+    -- the four lines of the session
+    record { records = loadH ∷ loadB ∷ loadC ∷ removeH ∷ []; answers = 0 ∷ 8 ∷ 0 ∷ 9 ∷ [] }
+    -- a record of no bytes
+    ∷ record { records = [] ∷ []; answers = 2 ∷ [] }
+    -- removal on the empty image
+    ∷ record { records = removalOf 1 ∷ []; answers = 5 ∷ [] }
+    -- an AID of 4 or 17 bytes is malformed; of 5 or 16 it is read, and not installed
+    ∷ record
+        { records = recordOf 2 (4 ∷ from 1 4) ∷ recordOf 2 (17 ∷ from 1 17) ∷ recordOf 2 (5 ∷ from 1 5) ∷ recordOf 2 (16 ∷ from 1 16) ∷ []
+        ; answers = 2 ∷ 2 ∷ 5 ∷ 5 ∷ [] }
+    -- the ninth package
+    ∷ record { records = map (λ n. loadOf n [] [] [] []) (from 1 9); answers = replicate 8 0 ++ (7 ∷ []) }
+    -- a 17th unmet call
+    ∷ record { records = loadOf 1 [] (callsOn9 16) [] [] ∷ callOf 1 9 17 ∷ []; answers = 0 ∷ 10 ∷ [] }
+    -- with 16 standing, a granted load that meets one and adds one
+    ∷ record { records = loadOf 1 [] (callsOn9 16) [] [] ∷ loadOf 9 (1 ∷ []) (rowOf 10 20 ∷ []) (rowOf 1 1 ∷ []) [] ∷ []; answers = 0 ∷ 0 ∷ [] }
+    -- removing a server whose callers' calls would make 17 unmet
+    ∷ record
+        { records = loadH ∷ loadOf 2 [] (rowOf 1 0 ∷ []) [] [] ∷ loadOf 3 [] (callsOn9 16) [] [] ∷ removalOf 1 ∷ []
+        ; answers = 0 ∷ 0 ∷ 0 ∷ 10 ∷ [] }
+    -- a load failing on grant and on need
+    ∷ record { records = loadH ∷ loadOf 4 [] (rowOf 1 0 ∷ rowOf 9 0 ∷ []) [] (rowOf 9 0 ∷ []) ∷ []; answers = 0 ∷ 8 ∷ [] }
+    ∷ []

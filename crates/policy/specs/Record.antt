@@ -1,0 +1,191 @@
+-- Records: document 01, 'Records'. What a list of bytes reads as; nothing here speaks of positions.
+use Prim.Native.Nat.{ℕ, zero, suc, _+_, _*_}
+use mathlib.Core.Bool.{Bool, true, false, not, _&&_, cond}
+use mathlib.Core.List.{List, [], _∷_}
+use mathlib.Core.Option.{Option, none, some}
+use lib.ListN.{length, take, drop, getD}
+use lib.Dec.{leb, eqb}
+use Rattle.policy.specs.Lists.{every, distinct, orElse}
+use Rattle.policy.specs.Contract.{Aid, eqAid, Tok, eqTok, Row, eqRow, Contract, hasTok, hasRow, validAid}
+use Rattle.policy.specs.Layout.{Layout}
+
+-- what follows the first AID, by kind: 1 to 10 in order
+pub data Change : Type 0 where
+  load : List Tok → List Row → List Row → List Row → Change
+  remove : Change
+  addService : Tok → List Aid → Change
+  removeService : Tok → Change
+  addCall removeCall addGrant removeGrant addNeed removeNeed : Row → Change
+
+-- a record: the first AID, and the change of its contract
+pub record Request : Type 0 where
+  pub aid : Aid
+  pub change : Change
+
+-- ---- readers: a value and the bytes after it, or nothing
+pub data Got (A : Type 0) : Type 0 where
+  got : A → List ℕ → Got A
+  bad : Got A
+
+abbrev pub Reader : Type 0 → Type 0
+Reader A = List ℕ → Got A
+
+abbrev pub andThen : {A B : Type 0} → Got A → (A → Reader B) → Got B
+andThen (got a s) f = f a s
+andThen bad f = bad
+
+-- one reader after another, so that a format is a `do` block
+infixl 20 _>>=_
+abbrev pub _>>=_ : {A B : Type 0} → Reader A → (A → Reader B) → Reader B
+_>>=_ p f s = andThen (p s) f
+
+abbrev pub done : {A : Type 0} → A → Reader A
+done a s = got a s
+
+-- a reader under a test that must hold
+abbrev pub given : {A : Type 0} → Bool → Reader A → Reader A
+given true p s = p s
+given false p s = bad
+
+unfoldable pub byte : Reader ℕ
+byte [] = bad
+byte (b ∷ s) = got b s
+
+unfoldable pub bytes : ℕ → Reader (List ℕ)
+bytes n s = given (leb n (length s)) (λ t. got (take n t) (drop n t)) s
+
+-- a number of w bytes, big-endian, above the n that was read before
+abbrev pub numberFrom : ℕ → ℕ → Reader ℕ
+numberFrom zero n s = got n s
+numberFrom (suc w) n s = andThen (byte s) (λ b. numberFrom w (n * 256 + b))
+
+unfoldable pub number : ℕ → Reader ℕ
+unfolding byte
+number w = numberFrom w 0
+
+-- 'An AID is written as a length byte and its bytes': 5 to 16 of them
+unfoldable pub aid : Reader Aid
+unfolding byte bytes
+aid = do
+  n ← byte
+  a ← bytes n
+  given (validAid a) (done a)
+
+unfoldable pub tokens : Reader Tok
+unfolding byte
+tokens = do
+  i ← byte
+  m ← byte
+  done (record { itf = i; mth = m })
+
+unfoldable pub aRow : Reader Row
+unfolding aid tokens
+aRow = do
+  a ← aid
+  s ← tokens
+  done (record { aid = a; tok = s })
+
+-- n things of one sort, one after another
+abbrev pub many : {A : Type 0} → Reader A → ℕ → Reader (List A)
+many p zero s = got [] s
+many p (suc n) s = andThen (p s) (λ a t. andThen (many p n t) (λ l u. got (a ∷ l) u))
+
+-- 'A list is a count byte and its rows': a count of w bytes, at most most, and as many things
+unfoldable pub counted : {A : Type 0} → ℕ → ℕ → Reader A → Reader (List A)
+unfolding number
+counted w most p = do
+  n ← number w
+  given (leb n most) (many p n)
+
+module _ (L : Layout) where
+  abbrev pub tokenList : Reader (List Tok)
+  tokenList = counted 1 (L .services) tokens
+
+  abbrev pub rowList : Reader (List Row)
+  rowList = counted (L .countWidth) (L .mostRows) aRow
+
+  abbrev pub callerList : Reader (List Aid)
+  callerList = counted 1 (L .mostCallers) aid
+
+  unfoldable pub aLoad : Reader Change
+  unfolding counted tokens aRow
+  aLoad = do
+    p ← tokenList
+    c ← rowList
+    g ← rowList
+    n ← rowList
+    done (load p c g n)
+
+  unfoldable pub aService : Reader Change
+  unfolding counted tokens aid
+  aService = do
+    s ← tokens
+    l ← callerList
+    done (addService s l)
+
+  -- what follows the first AID, for the kinds from 0 on; there is no kind 0
+  abbrev pub kinds : List (Reader Change)
+  kinds =
+      (λ s. bad)
+      ∷ aLoad
+      ∷ done remove
+      ∷ aService
+      ∷ (tokens >>= λ s. done (removeService s))
+      ∷ (aRow >>= λ r. done (addCall r))
+      ∷ (aRow >>= λ r. done (removeCall r))
+      ∷ (aRow >>= λ r. done (addGrant r))
+      ∷ (aRow >>= λ r. done (removeGrant r))
+      ∷ (aRow >>= λ r. done (addNeed r))
+      ∷ (aRow >>= λ r. done (removeNeed r))
+      ∷ []
+
+  unfoldable pub change : ℕ → Reader Change
+  unfolding aLoad aService tokens aRow
+  change k = getD kinds k (λ s. bad)
+
+  -- a record of l bytes: 'its whole length in two bytes, big-endian, then the version byte, then a kind byte'
+  unfoldable pub fields : ℕ → Reader Request
+  unfolding number byte aid change
+  fields l = do
+    n ← number 2
+    v ← byte
+    k ← byte
+    a ← given (eqb n l && eqb v (L .version)) aid
+    c ← change k
+    done (record { aid = a; change = c })
+
+  -- a value with no bytes left over
+  abbrev pub whole : {A : Type 0} → Got A → Option A
+  whole (got a []) = some a
+  whole (got a (b ∷ s)) = none
+  whole bad = none
+
+  -- the record that the bytes are; nothing is cause 2
+  unfoldable pub parse : List ℕ → Option Request
+  unfolding fields
+  parse s = whole (fields (length s) s)
+
+-- ---- cause 3: 'repeated row, own AID as the other end, need not called, grant of a service not provided (kind 1);
+-- own AID or a repeated AID (kind 3); own AID as the other end (5 to 10)'
+abbrev pub notOwn : Aid → List Row → Bool
+notOwn a l = every (λ r. not (eqAid (r .aid) a)) l
+
+unfoldable pub proper : Aid → Change → Bool
+proper a (load p c g n) =
+    (distinct eqTok p && distinct eqRow c && distinct eqRow g && distinct eqRow n)
+    && (notOwn a c && notOwn a g && notOwn a n)
+    && (every (λ r. hasRow r c) n && every (λ r. hasTok (r .tok) p) g)
+proper a remove = true
+proper a (addService s l) = every (λ b. not (eqAid b a)) l && distinct eqAid l
+proper a (removeService s) = true
+proper a (addCall r) = not (eqAid (r .aid) a)
+proper a (removeCall r) = not (eqAid (r .aid) a)
+proper a (addGrant r) = not (eqAid (r .aid) a)
+proper a (removeGrant r) = not (eqAid (r .aid) a)
+proper a (addNeed r) = not (eqAid (r .aid) a)
+proper a (removeNeed r) = not (eqAid (r .aid) a)
+
+-- the first AID of a record, which stands from its byte 5 on; an empty part for cause 2
+unfoldable pub firstAid : Layout → List ℕ → Aid
+unfolding parse
+firstAid L s = orElse (parse L s) [] (λ q. q .aid)

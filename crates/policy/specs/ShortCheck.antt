@@ -1,0 +1,125 @@
+-- The short check: causes 8 to 11 of a record by the rows with its package at one end, and counts; no draft is built.
+use Prim.Native.Nat.{ℕ, suc, _+_}
+use mathlib.Core.Bool.{Bool, true, false, not, _&&_}
+use mathlib.Core.List.{List, [], _∷_, map}
+use mathlib.Core.Option.{Option, none, some}
+use lib.Dec.{eqb, leb}
+use lib.ListN.{length}
+use Rattle.policy.specs.Lists.{implies, every, exists, keep, isSome, orElse}
+use Rattle.policy.specs.Contract.{Aid, eqAid, Tok, Row, Contract, hasTok, hasRow}
+use Rattle.policy.specs.Layout.{Layout}
+use Rattle.policy.specs.Record.{Change, load, remove, addService, removeService, addCall, removeCall, addGrant, removeGrant, addNeed, removeNeed}
+use Rattle.policy.specs.Tables.{Tables, Unmet, Waiting}
+use Rattle.policy.specs.Lookup.{Place, numbers, places, numberOf, serviceOf, serverOf, freeNumber, freeService}
+use Rattle.policy.specs.Draft.{Look, asksFor, hasWaiting}
+
+-- how many pass
+abbrev pub count : {A : Type 0} → (A → Bool) → List A → ℕ
+count f l = length (keep f l)
+
+abbrev pub sum : (ℕ → ℕ) → List ℕ → ℕ
+sum f [] = 0
+sum f (x ∷ l) = f x + sum f l
+
+-- nothing to refuse
+abbrev pub fine : Look
+fine = record { granted = true; needed = true; unmetFits = true; waitingFits = true }
+
+module _ (L : Layout) (t : Tables) where
+  abbrev pub fits : ℕ → Bool
+  fits n = leb n (L .capacity)
+
+  -- how many bits of f, by package and service number
+  abbrev pub ones : (ℕ → ℕ → Bool) → ℕ
+  ones f = sum (λ i. count (f i) (places L t)) (numbers L t)
+
+  abbrev pub notInstalled : Aid → Bool
+  notInstalled a = not (isSome (numberOf L t a))
+
+  -- kind 5: a call of package i
+  abbrev pub shortAddCall : ℕ → Option Place → Look
+  shortAddCall i none = record { granted = true; needed = true; unmetFits = fits (suc (length (t .unmet))); waitingFits = true }
+  shortAddCall i (some p) = record { granted = t .grants (p .callee) i (p .service); needed = true; unmetFits = true; waitingFits = true }
+
+  -- kind 7: a grant to a caller
+  abbrev pub shortAddGrant : Option ℕ → Look
+  shortAddGrant none = record { granted = true; needed = true; unmetFits = true; waitingFits = fits (suc (length (t .waiting))) }
+  shortAddGrant (some i) = fine
+
+  -- kind 8: a grant of service k of package j is not called by its caller
+  abbrev pub shortRemoveGrant : ℕ → ℕ → Option ℕ → Look
+  shortRemoveGrant j k none = fine
+  shortRemoveGrant j k (some i) = record { granted = not (t .calls i j k); needed = true; unmetFits = true; waitingFits = true }
+
+  -- kind 9
+  abbrev pub shortAddNeed : Option Place → Look
+  shortAddNeed o = record { granted = true; needed = isSome o; unmetFits = true; waitingFits = true }
+
+  -- kind 3: each unmet call on the new service is by one of the callers; callers not installed wait
+  abbrev pub shortAddService : ℕ → Tok → List Aid → Look
+  shortAddService j s l = record
+      { granted = every (λ u. implies (asksFor L t (t .aid j) s u) (exists (eqAid (t .aid (u .caller))) l)) (t .unmet)
+      ; needed = true
+      ; unmetFits = true
+      ; waitingFits = fits (length (t .waiting) + count notInstalled l) }
+
+  -- kind 4: no package needs the service; its callers' calls are unmet
+  abbrev pub shortRemoveService : ℕ → ℕ → Look
+  shortRemoveService j k = record
+      { granted = true
+      ; needed = every (λ i. not (t .needs i j k)) (numbers L t)
+      ; unmetFits = fits (length (t .unmet) + count (λ i. t .calls i j k) (numbers L t))
+      ; waitingFits = true }
+
+  -- kind 2: no package needs a service of n; calls on it are unmet, grants to it wait, its own rows go
+  abbrev pub shortRemove : ℕ → Look
+  shortRemove n = record
+      { granted = true
+      ; needed = every (λ i. every (λ k. not (t .needs i n k)) (places L t)) (numbers L t)
+      ; unmetFits = fits (count (λ u. not (eqb (u .caller) n)) (t .unmet) + ones (λ i k. t .calls i n k))
+      ; waitingFits = fits (count (λ w. not (eqb (w .callee) n)) (t .waiting) + ones (λ j k. t .grants j n k)) }
+
+  -- ---- kind 1: the report's three conditions, section 7.1
+  module _ (c : Contract) where
+    -- the newcomer's calls are granted: a grant to it waits at each server that it calls
+    abbrev pub newcomerRights : Bool
+    newcomerRights = every (λ r. orElse (serverOf L t r) true (λ p. hasWaiting (record { caller = c .aid; callee = p .callee; service = p .service }) (t .waiting))) (c .calls)
+
+    -- its needs are on the card
+    abbrev pub newcomerNeeds : Bool
+    newcomerNeeds = every (λ r. isSome (serverOf L t r)) (c .needs)
+
+    -- an unmet call that the newcomer meets
+    abbrev pub nowMet : Unmet → Bool
+    nowMet u = eqAid (u .callee) (c .aid) && hasTok (u .tok) (c .provides)
+
+    -- calls of those already there are granted by it
+    abbrev pub othersRights : Bool
+    othersRights = every (λ u. implies (nowMet u) (hasRow (record { aid = t .aid (u .caller); tok = u .tok }) (c .grants))) (t .unmet)
+
+    abbrev pub shortLoad : Look
+    shortLoad = record
+        { granted = newcomerRights && othersRights
+        ; needed = newcomerNeeds
+        ; unmetFits = fits (count (λ u. not (nowMet u)) (t .unmet) + count (λ r. not (isSome (serverOf L t r))) (c .calls))
+        ; waitingFits = fits (count (λ w. not (eqAid (w .caller) (c .aid))) (t .waiting) + count (λ r. notInstalled (r .aid)) (c .grants)) }
+
+  -- ---- by kind, with first AID a
+  abbrev pub shortAt : Aid → (ℕ → Look) → Look
+  shortAt a f = orElse (numberOf L t a) fine f
+
+  abbrev pub shortService : ℕ → Tok → (ℕ → Look) → Look
+  shortService j s f = orElse (serviceOf L t j s) fine f
+
+  unfoldable pub shortLook : Aid → Change → Look
+  unfolding numberOf serviceOf serverOf
+  shortLook a (load p c g n) = shortLoad (record { aid = a; provides = p; calls = c; grants = g; needs = n })
+  shortLook a remove = shortAt a shortRemove
+  shortLook a (addService s l) = shortAt a (λ j. shortAddService j s l)
+  shortLook a (removeService s) = shortAt a (λ j. shortService j s (shortRemoveService j))
+  shortLook a (addCall r) = shortAt a (λ i. shortAddCall i (serverOf L t r))
+  shortLook a (removeCall r) = fine
+  shortLook a (addGrant r) = shortAddGrant (numberOf L t (r .aid))
+  shortLook a (removeGrant r) = shortAt a (λ j. shortService j (r .tok) (λ k. shortRemoveGrant j k (numberOf L t (r .aid))))
+  shortLook a (addNeed r) = shortAddNeed (serverOf L t r)
+  shortLook a (removeNeed r) = fine

@@ -1,0 +1,85 @@
+-- A sound image: document 01, 'An image is sound when', item by item.
+use Prim.Native.Nat.{ℕ}
+use mathlib.Core.Bool.{Bool, true, false, not, _&&_, _||_}
+use mathlib.Core.List.{List, [], _∷_, map}
+use mathlib.Core.Option.{Option, none, some}
+use lib.Dec.{eqb, leb}
+use lib.ListN.{length, take}
+use Rattle.policy.specs.Lists.{implies, every, keep, distinct, isNil, isSome, upto, eqBytes}
+use Rattle.policy.specs.Contract.{Aid, eqAid, validAid, eqTok}
+use Rattle.policy.specs.Layout.{Layout, size}
+use Rattle.policy.specs.Tables.{Tables, Unmet, Waiting, noTok, decode, encode}
+use Rattle.policy.specs.Lookup.{numbers, places, usedNumbers, numberOf, serverOf, wanted}
+
+abbrev pub eqUnmet : Unmet → Unmet → Bool
+eqUnmet u v = eqAid (u .callee) (v .callee) && eqTok (u .tok) (v .tok) && eqb (u .caller) (v .caller)
+
+abbrev pub eqWaiting : Waiting → Waiting → Bool
+eqWaiting v w = eqAid (v .caller) (w .caller) && eqb (v .callee) (w .callee) && eqb (v .service) (w .service)
+
+module _ (L : Layout) where
+  -- for every caller i, callee j and service k of the callee
+  abbrev pub everyBit : (ℕ → ℕ → ℕ → Bool) → Bool
+  everyBit f = every (λ i. every (λ j. every (f i j) (upto (L .services))) (upto (L .packages))) (upto (L .packages))
+
+  module _ (t : Tables) where
+    -- 'used AIDs are valid and differ'
+    unfoldable pub aidsOk : Bool
+    aidsOk = every (λ n. validAid (t .aid n)) (usedNumbers L t) && distinct eqAid (map (t .aid) (usedNumbers L t))
+
+    -- 'tokens provided by one package differ'
+    unfoldable pub tokensOk : Bool
+    tokensOk = every (λ j. distinct eqTok (map (t .tok j) (keep (t .provides j) (places L t)))) (numbers L t)
+
+    -- 'every unused place .. is zero': of an AID, of tokens and of provided services;
+    unfoldable pub blanksOk : Bool
+    blanksOk =
+        every (λ n. t .used n || isNil (t .aid n)) (numbers L t)
+        && every (λ j. every (λ k. t .provides j k || eqTok (t .tok j k) noTok) (places L t)) (numbers L t)
+        && every (λ j. every (λ k. implies (t .provides j k) (t .used j)) (places L t)) (numbers L t)
+
+    -- 'row and column': entries of unused numbers; 'diagonals are zero'
+    unfoldable pub entriesOk : Bool
+    entriesOk = everyBit (λ i j k. implies (t .calls i j k || t .grants j i k || t .needs i j k) (t .used i && t .used j && not (eqb i j)))
+
+    -- 'call and grant bits name provided services'
+    unfoldable pub bitsProvided : Bool
+    bitsProvided = everyBit (λ i j k. implies (t .calls i j k || t .grants j i k) (t .provides j k))
+
+    -- 'needs are among call bits': so every need is met
+    unfoldable pub needsCalled : Bool
+    needsCalled = everyBit (λ i j k. implies (t .needs i j k) (t .calls i j k))
+
+    -- 'the card is lawful': every call bit has its grant bit
+    unfoldable pub bitsGranted : Bool
+    bitsGranted = everyBit (λ i j k. implies (t .calls i j k) (t .grants j i k))
+
+    -- 'list counts are at most 16; no list row repeats'
+    unfoldable pub listsOk : Bool
+    listsOk =
+        (leb (length (t .unmet)) (L .capacity) && leb (length (t .waiting)) (L .capacity))
+        && (distinct eqUnmet (t .unmet) && distinct eqWaiting (t .waiting))
+
+    -- 'every unmet call has a valid AID other than its caller's, a used caller and no such service on the card'
+    abbrev pub unmetOk : Unmet → Bool
+    unmetOk u = (validAid (u .callee) && not (eqAid (u .callee) (t .aid (u .caller)))) && (t .used (u .caller) && not (isSome (serverOf L t (wanted u))))
+
+    -- 'every waiting grant has a valid AID that is not installed, a used callee and a provided service'
+    abbrev pub waitingOk : Waiting → Bool
+    waitingOk w = (validAid (w .caller) && not (isSome (numberOf L t (w .caller)))) && (t .used (w .callee) && t .provides (w .callee) (w .service))
+
+    unfoldable pub rowsOk : Bool
+    unfolding numberOf serverOf
+    rowsOk = every unmetOk (t .unmet) && every waitingOk (t .waiting)
+
+    unfoldable pub soundTables : Bool
+    unfolding aidsOk tokensOk blanksOk entriesOk bitsProvided needsCalled bitsGranted listsOk rowsOk
+    soundTables =
+        (aidsOk && tokensOk) && (blanksOk && entriesOk) && (bitsProvided && needsCalled) && (bitsGranted && (listsOk && rowsOk))
+
+  -- 'the first three bytes are as above'; and no byte but those that the tables give: fill bytes, and list places past the count, are zero
+  unfoldable pub sound : List ℕ → Bool
+  unfolding soundTables decode encode
+  sound img =
+      eqb (length img) (size L) && eqBytes (take 3 img) (L .header)
+      && (let t = decode L img in eqBytes (encode L t) img && soundTables t)
