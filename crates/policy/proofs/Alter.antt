@@ -22,7 +22,6 @@ module _ (L : Layout) (t t′ : Tables) (lost : List Unmet) (cs : List Contract)
     (others : (n : ℕ) (c : Contract) → T (t .used n) → (n ≡ i → ⊥) → HasContract t [] n c → HasContract t′ lost n c)
     (own : (c : Contract) → HasContract t [] i c → HasContract t′ lost i (f c))
     (sets : (c : Contract) → HasContract t [] i c → FourSets c → FourSets (f c)) where
-
   step : Contract → Contract
   step c = cond (eqAid (c .aid) a) (f c) c
 
@@ -53,17 +52,20 @@ module _ (L : Layout) (t t′ : Tables) (lost : List Unmet) (cs : List Contract)
 
   pub stands-alter : Stands t′ lost (alter a f cs)
   unfolding step
-  stands-alter = record
-      { these = λ d m.
-          let p = map-in (λ k. cond (eqAid (k .aid) a) (f k) k) cs m in
-          let h = st .these (p .0) (p .1) in
-          (h .0, subst (λ (z : ℕ → Bool). T (z (h .0))) (sym eu) (h .1),
-            subst (λ (z : Contract). HasContract t′ lost (h .0) z) (sym (p .2)) (has-step (p .0) (h .0) (h .1) (h .2) (eqAid (p .0 .aid) a) refl))
-      ; no-others = λ n u.
-          let h = st .no-others n (subst (λ (z : ℕ → Bool). T (z n)) eu u) in
-          (step (h .0), in-map (λ k. cond (eqAid (k .aid) a) (f k) k) (h .1), aid-step (h .0) (eqAid (h .0 .aid) a) ∙ h .2 ∙ ap (λ (z : ℕ → Aid). z n) (sym ea))
-      ; one-each = subst (λ (z : List Aid). NoRepeat z) (sym (aids-step cs)) (st .one-each)
-      ; four-sets = λ d m.
-          let p = map-in (λ k. cond (eqAid (k .aid) a) (f k) k) cs m in
-          let h = st .these (p .0) (p .1) in
-          subst FourSets (sym (p .2)) (sets-step (p .0) (h .0) (h .1) (h .2) (st .four-sets (p .0) (p .1)) (eqAid (p .0 .aid) a) refl) }
+  stands-alter = record {
+    these = λ d m.
+        let p = map-in (λ k. cond (eqAid (k .aid) a) (f k) k) cs m in
+        let h = st .these (p .0) (p .1) in (
+          h .0,
+          subst (λ (z : ℕ → Bool). T (z (h .0))) (sym eu) (h .1),
+          subst (λ (z : Contract). HasContract t′ lost (h .0) z) (sym (p .2)) (has-step (p .0) (h .0) (h .1) (h .2) (eqAid (p .0 .aid) a) refl),
+        );
+    no-others = λ n u.
+        let h = st .no-others n (subst (λ (z : ℕ → Bool). T (z n)) eu u) in
+        (step (h .0), in-map (λ k. cond (eqAid (k .aid) a) (f k) k) (h .1), aid-step (h .0) (eqAid (h .0 .aid) a) ∙ h .2 ∙ ap (λ (z : ℕ → Aid). z n) (sym ea));
+    one-each = subst (λ (z : List Aid). NoRepeat z) (sym (aids-step cs)) (st .one-each);
+    four-sets = λ d m.
+        let p = map-in (λ k. cond (eqAid (k .aid) a) (f k) k) cs m in
+        let h = st .these (p .0) (p .1) in
+        subst FourSets (sym (p .2)) (sets-step (p .0) (h .0) (h .1) (h .2) (st .four-sets (p .0) (p .1)) (eqAid (p .0 .aid) a) refl);
+  }

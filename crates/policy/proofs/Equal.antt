@@ -50,10 +50,11 @@ eqUnmet→ u v h =
     let a = eqAid (u .callee) (v .callee) in
     let b = eqTok (u .tok) (v .tok) in
     let c = eqb (u .caller) (v .caller) in
-    λ i. record
-      { callee = eqAid→ (u .callee) (v .callee) (and-l a b (and-l (a && b) c h)) i
-      ; tok = eqTok→ (u .tok) (v .tok) (and-r a b (and-l (a && b) c h)) i
-      ; caller = eqb→eq (u .caller) (v .caller) (and-r (a && b) c h) i }
+    λ i. record {
+      callee = eqAid→ (u .callee) (v .callee) (and-l a b (and-l (a && b) c h)) i;
+      tok = eqTok→ (u .tok) (v .tok) (and-r a b (and-l (a && b) c h)) i;
+      caller = eqb→eq (u .caller) (v .caller) (and-r (a && b) c h) i;
+    }
 
 pub eqUnmet-refl : (u : Unmet) → T (eqUnmet u u)
 eqUnmet-refl u =
@@ -66,10 +67,11 @@ eqWaiting→ v w h =
     let a = eqAid (v .caller) (w .caller) in
     let b = eqb (v .callee) (w .callee) in
     let c = eqb (v .service) (w .service) in
-    λ i. record
-      { caller = eqAid→ (v .caller) (w .caller) (and-l a b (and-l (a && b) c h)) i
-      ; callee = eqb→eq (v .callee) (w .callee) (and-r a b (and-l (a && b) c h)) i
-      ; service = eqb→eq (v .service) (w .service) (and-r (a && b) c h) i }
+    λ i. record {
+      caller = eqAid→ (v .caller) (w .caller) (and-l a b (and-l (a && b) c h)) i;
+      callee = eqb→eq (v .callee) (w .callee) (and-r a b (and-l (a && b) c h)) i;
+      service = eqb→eq (v .service) (w .service) (and-r (a && b) c h) i;
+    }
 
 pub eqWaiting-refl : (w : Waiting) → T (eqWaiting w w)
 eqWaiting-refl w =

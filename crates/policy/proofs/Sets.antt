@@ -299,7 +299,7 @@ module _ {A B : Type 0} (f : A → List B) where
   once-flat [] d e h = tt
   once-flat (x ∷ l) d e h =
       once-append (f x) (flat f l) (e x (here refl)) (once-flat l (d .1) (λ y m. e y (there m)) (λ y z w m n p q. h y z w (there m) (there n) p q))
-        (λ z m n. let p = flat-in f l n in d .0 (in-cast (h x (p .0) z (here refl) (there (p .1)) m (p .2)) (p .1)))
+      (λ z m n. let p = flat-in f l n in d .0 (in-cast (h x (p .0) z (here refl) (there (p .1)) m (p .2)) (p .1)))
 
 -- ---- upto
 pub from-in : (i n : ℕ) {x : ℕ} → In x (from i n) → (i ≤ x) × (x < i + n)

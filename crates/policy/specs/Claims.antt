@@ -96,11 +96,11 @@ ShortIsFull L = (img : List ℕ) (a : Aid) (c : Change) → T (sound L img) → 
 -- the record read out is well formed, has no cause 3, and is the contract again; a card that accepts it holds the same four sets
 pub record ReadsOut (L : Layout) (img : List ℕ) (n : ℕ) : Type 0 where
   pub parses : (c : Contract) → c ≡ contractAt L (decode L img) n
-    → parse L (loadRecord L c) ≡ some (record { aid = c .aid; change = load (c .provides) (c .calls) (c .grants) (c .needs) })
+      → parse L (loadRecord L c) ≡ some (record { aid = c .aid; change = load (c .provides) (c .calls) (c .grants) (c .needs) })
   pub is-proper : (c : Contract) → c ≡ contractAt L (decode L img) n → T (proper (c .aid) (load (c .provides) (c .calls) (c .grants) (c .needs)))
   pub loads-again : (c : Contract) → c ≡ contractAt L (decode L img) n
-    → (img₂ : List ℕ) → judge L img₂ (loadRecord L c) .answered ≡ 0
-    → (m : ℕ) × T (decode L (judge L img₂ (loadRecord L c) .bytes) .used m) × SameContract c (contractAt L (decode L (judge L img₂ (loadRecord L c) .bytes)) m)
+      → (img₂ : List ℕ) → judge L img₂ (loadRecord L c) .answered ≡ 0
+      → (m : ℕ) × T (decode L (judge L img₂ (loadRecord L c) .bytes) .used m) × SameContract c (contractAt L (decode L (judge L img₂ (loadRecord L c) .bytes)) m)
 
 abbrev pub ReadOutAgain : Layout → Type 0
 ReadOutAgain L = (img : List ℕ) (n : ℕ) → T (sound L img) → T (decode L img .used n) → ReadsOut L img n
@@ -117,12 +117,12 @@ RefusesWith ns second lent o = (n : ℕ) × In n ns × (o ≡ refusal n second l
 
 pub record AnswersAlways (L : Layout) : Type 0 where
   pub judging : (img s : List ℕ) → ((judge L img s .answered ≡ 0) × (judge L img s .second < L .packages))
-    ⊎ RefusesWith (1 ∷ 2 ∷ 3 ∷ 4 ∷ 5 ∷ 6 ∷ 7 ∷ 8 ∷ 9 ∷ 10 ∷ 11 ∷ []) 255 img (judge L img s)
+      ⊎ RefusesWith (1 ∷ 2 ∷ 3 ∷ 4 ∷ 5 ∷ 6 ∷ 7 ∷ 8 ∷ 9 ∷ 10 ∷ 11 ∷ []) 255 img (judge L img s)
   pub checking : (img : List ℕ) → ((check L img .answered ≡ 0) × (check L img .second ≤ L .packages) × (check L img .bytes ≡ img))
-    ⊎ RefusesWith (1 ∷ []) 255 img (check L img)
+      ⊎ RefusesWith (1 ∷ []) 255 img (check L img)
   pub emptying : (b : List ℕ) → ((writeEmpty L b ≡ record { answered = 0; second = 0; bytes = emptyImage L }) × (length b ≡ size L))
-    ⊎ RefusesWith (1 ∷ []) 255 b (writeEmpty L b)
+      ⊎ RefusesWith (1 ∷ []) 255 b (writeEmpty L b)
   pub reading : (img : List ℕ) (n : ℕ) (out : List ℕ)
-    → ((readOut L img n out .answered ≡ 0) × (length (readOut L img n out .bytes) ≡ length out)
+      → ((readOut L img n out .answered ≡ 0) × (length (readOut L img n out .bytes) ≡ length out)
       × (drop (readOut L img n out .second) (readOut L img n out .bytes) ≡ drop (readOut L img n out .second) out))
-    ⊎ RefusesWith (1 ∷ 5 ∷ 12 ∷ []) 0 out (readOut L img n out)
+      ⊎ RefusesWith (1 ∷ 5 ∷ 12 ∷ []) 0 out (readOut L img n out)

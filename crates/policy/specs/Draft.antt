@@ -45,19 +45,43 @@ put3 i j k v f x y z = cond (eqb x i && eqb y j && eqb z k) v (f x y z)
 
 -- ---- tables with new calls, grants or needs
 abbrev pub withCalls : (ℕ → ℕ → ℕ → Bool) → List Unmet → Tables → Tables
-withCalls c u t = record
-    { used = t .used; aid = t .aid; tok = t .tok; provides = t .provides
-    ; calls = c; grants = t .grants; needs = t .needs; unmet = u; waiting = t .waiting }
+withCalls c u t = record {
+  used = t .used;
+  aid = t .aid;
+  tok = t .tok;
+  provides = t .provides;
+  calls = c;
+  grants = t .grants;
+  needs = t .needs;
+  unmet = u;
+  waiting = t .waiting;
+}
 
 abbrev pub withGrants : (ℕ → ℕ → ℕ → Bool) → List Waiting → Tables → Tables
-withGrants g w t = record
-    { used = t .used; aid = t .aid; tok = t .tok; provides = t .provides
-    ; calls = t .calls; grants = g; needs = t .needs; unmet = t .unmet; waiting = w }
+withGrants g w t = record {
+  used = t .used;
+  aid = t .aid;
+  tok = t .tok;
+  provides = t .provides;
+  calls = t .calls;
+  grants = g;
+  needs = t .needs;
+  unmet = t .unmet;
+  waiting = w;
+}
 
 abbrev pub withNeeds : (ℕ → ℕ → ℕ → Bool) → Tables → Tables
-withNeeds n t = record
-    { used = t .used; aid = t .aid; tok = t .tok; provides = t .provides
-    ; calls = t .calls; grants = t .grants; needs = n; unmet = t .unmet; waiting = t .waiting }
+withNeeds n t = record {
+  used = t .used;
+  aid = t .aid;
+  tok = t .tok;
+  provides = t .provides;
+  calls = t .calls;
+  grants = t .grants;
+  needs = n;
+  unmet = t .unmet;
+  waiting = t .waiting;
+}
 
 module _ (L : Layout) (t : Tables) where
   -- ---- kinds 5, 6, 9, 10: a row of package i; it is a bit where its service is on the card
@@ -93,13 +117,17 @@ module _ (L : Layout) (t : Tables) where
   asksFor a s u = eqAid (u .callee) a && eqTok (u .tok) s
 
   abbrev pub addServiceAt : ℕ → ℕ → Tok → List Aid → Draft
-  addServiceAt j k s l = kept j (record
-      { used = t .used; aid = t .aid; tok = put2 j k s (t .tok); provides = put2 j k true (t .provides)
-      ; calls = λ x y z. t .calls x y z || (eqb y j && eqb z k && hasUnmet (record { callee = t .aid j; tok = s; caller = x }) (t .unmet))
-      ; grants = λ x y z. t .grants x y z || (eqb x j && eqb z k && (t .used y && exists (eqAid (t .aid y)) l))
-      ; needs = t .needs
-      ; unmet = keep (λ u. not (asksFor (t .aid j) s u)) (t .unmet)
-      ; waiting = t .waiting ++ map (λ a. record { caller = a; callee = j; service = k }) (keep (λ a. not (isSome (numberOf L t a))) l) })
+  addServiceAt j k s l = kept j (record {
+    used = t .used;
+    aid = t .aid;
+    tok = put2 j k s (t .tok);
+    provides = put2 j k true (t .provides);
+    calls = λ x y z. t .calls x y z || (eqb y j && eqb z k && hasUnmet (record { callee = t .aid j; tok = s; caller = x }) (t .unmet));
+    grants = λ x y z. t .grants x y z || (eqb x j && eqb z k && (t .used y && exists (eqAid (t .aid y)) l));
+    needs = t .needs;
+    unmet = keep (λ u. not (asksFor (t .aid j) s u)) (t .unmet);
+    waiting = t .waiting ++ map (λ a. record { caller = a; callee = j; service = k }) (keep (λ a. not (isSome (numberOf L t a))) l);
+  })
 
   -- ---- kinds 2 and 4: what calls or needs of others on the services d of package j leave behind, 'by caller number then
   -- the service number it had'
@@ -109,32 +137,40 @@ module _ (L : Layout) (t : Tables) where
 
   -- kind 4: service k of package j goes; 'its grants go too'
   abbrev pub removeServiceAt : ℕ → ℕ → Draft
-  removeServiceAt j k = record
-      { number = j
-      ; tables = record
-          { used = t .used; aid = t .aid; tok = put2 j k noTok (t .tok); provides = put2 j k false (t .provides)
-          ; calls = λ x y z. t .calls x y z && not (eqb y j && eqb z k)
-          ; grants = λ x y z. t .grants x y z && not (eqb x j && eqb z k)
-          ; needs = λ x y z. t .needs x y z && not (eqb y j && eqb z k)
-          ; unmet = t .unmet ++ leftBy (t .calls) j (λ z. eqb z k)
-          ; waiting = keep (λ w. not (eqb (w .callee) j && eqb (w .service) k)) (t .waiting) }
-      ; lost = leftBy (t .needs) j (λ z. eqb z k) }
+  removeServiceAt j k = record {
+    number = j;
+    tables = record {
+      used = t .used;
+      aid = t .aid;
+      tok = put2 j k noTok (t .tok);
+      provides = put2 j k false (t .provides);
+      calls = λ x y z. t .calls x y z && not (eqb y j && eqb z k);
+      grants = λ x y z. t .grants x y z && not (eqb x j && eqb z k);
+      needs = λ x y z. t .needs x y z && not (eqb y j && eqb z k);
+      unmet = t .unmet ++ leftBy (t .calls) j (λ z. eqb z k);
+      waiting = keep (λ w. not (eqb (w .callee) j && eqb (w .service) k)) (t .waiting);
+    };
+    lost = leftBy (t .needs) j (λ z. eqb z k);
+  }
 
   -- kind 2: package n goes; calls on it are unmet, grants to it wait, 'waiting grants by callee number then service number'
   abbrev pub removeAt : ℕ → Draft
-  removeAt n = record
-      { number = n
-      ; tables = record
-          { used = put n false (t .used); aid = put n [] (t .aid)
-          ; tok = λ x y. cond (eqb x n) noTok (t .tok x y)
-          ; provides = λ x y. t .provides x y && not (eqb x n)
-          ; calls = λ x y z. t .calls x y z && not (eqb x n || eqb y n)
-          ; grants = λ x y z. t .grants x y z && not (eqb x n || eqb y n)
-          ; needs = λ x y z. t .needs x y z && not (eqb x n || eqb y n)
-          ; unmet = keep (λ u. not (eqb (u .caller) n)) (t .unmet) ++ leftBy (t .calls) n (λ z. true)
-          ; waiting = keep (λ w. not (eqb (w .callee) n)) (t .waiting)
-              ++ flat (λ j. map (λ k. record { caller = t .aid n; callee = j; service = k }) (keep (λ k. t .grants j n k) (places L t))) (numbers L t) }
-      ; lost = leftBy (t .needs) n (λ z. true) }
+  removeAt n = record {
+    number = n;
+    tables = record {
+      used = put n false (t .used);
+      aid = put n [] (t .aid);
+      tok = λ x y. cond (eqb x n) noTok (t .tok x y);
+      provides = λ x y. t .provides x y && not (eqb x n);
+      calls = λ x y z. t .calls x y z && not (eqb x n || eqb y n);
+      grants = λ x y z. t .grants x y z && not (eqb x n || eqb y n);
+      needs = λ x y z. t .needs x y z && not (eqb x n || eqb y n);
+      unmet = keep (λ u. not (eqb (u .caller) n)) (t .unmet) ++ leftBy (t .calls) n (λ z. true);
+      waiting = keep (λ w. not (eqb (w .callee) n)) (t .waiting)
+          ++ flat (λ j. map (λ k. record { caller = t .aid n; callee = j; service = k }) (keep (λ k. t .grants j n k) (places L t))) (numbers L t);
+    };
+    lost = leftBy (t .needs) n (λ z. true);
+  }
 
   -- ---- kind 1: a contract at number n; 'its services take 0, 1, 2 in record order', 'loading turns fitting unmet calls and waiting grants into bits'
   module _ (n : ℕ) (c : Contract) where
@@ -146,9 +182,17 @@ module _ (L : Layout) (t : Tables) where
 
     -- the package and its services alone
     abbrev pub loadedNames : Tables
-    loadedNames = record
-        { used = put n true (t .used); aid = put n (c .aid) (t .aid); tok = loadedTok; provides = loadedProvides
-        ; calls = t .calls; grants = t .grants; needs = t .needs; unmet = t .unmet; waiting = t .waiting }
+    loadedNames = record {
+      used = put n true (t .used);
+      aid = put n (c .aid) (t .aid);
+      tok = loadedTok;
+      provides = loadedProvides;
+      calls = t .calls;
+      grants = t .grants;
+      needs = t .needs;
+      unmet = t .unmet;
+      waiting = t .waiting;
+    }
 
     -- service z of package y is on the card and one of the rows
     abbrev pub namedIn : List Row → ℕ → ℕ → Bool
@@ -162,20 +206,25 @@ module _ (L : Layout) (t : Tables) where
     loadedService s = orElse (serviceOf L loadedNames n s) 0 (λ k. k)
 
     abbrev pub loadAt : Draft
-    loadAt = record
-        { number = n
-        ; tables = record
-            { used = loadedNames .used; aid = loadedNames .aid; tok = loadedTok; provides = loadedProvides
-            ; calls = λ x y z. cond (eqb x n) (namedIn (c .calls) y z)
-                (cond (eqb y n) (loadedProvides n z && hasUnmet (callRow x (serviceAt loadedNames n z)) (t .unmet)) (t .calls x y z))
-            ; grants = λ x y z. cond (eqb x n) (loadedProvides n z && (t .used y && hasRow (record { aid = t .aid y; tok = loadedTok n z }) (c .grants)))
-                (cond (eqb y n) (hasWaiting (record { caller = c .aid; callee = x; service = z }) (t .waiting)) (t .grants x y z))
-            ; needs = λ x y z. cond (eqb x n) (namedIn (c .needs) y z) (t .needs x y z)
-            ; unmet = keep (λ u. not (eqAid (u .callee) (c .aid) && hasTok (u .tok) (c .provides))) (t .unmet)
-                ++ map (callRow n) (keep notServed (c .calls))
-            ; waiting = keep (λ w. not (eqAid (w .caller) (c .aid))) (t .waiting)
-                ++ map (λ r. record { caller = r .aid; callee = n; service = loadedService (r .tok) }) (keep (λ r. not (isSome (numberOf L t (r .aid)))) (c .grants)) }
-        ; lost = map (callRow n) (keep notServed (c .needs)) }
+    loadAt = record {
+      number = n;
+      tables = record {
+        used = loadedNames .used;
+        aid = loadedNames .aid;
+        tok = loadedTok;
+        provides = loadedProvides;
+        calls = λ x y z. cond (eqb x n) (namedIn (c .calls) y z)
+            (cond (eqb y n) (loadedProvides n z && hasUnmet (callRow x (serviceAt loadedNames n z)) (t .unmet)) (t .calls x y z));
+        grants = λ x y z. cond (eqb x n) (loadedProvides n z && (t .used y && hasRow (record { aid = t .aid y; tok = loadedTok n z }) (c .grants)))
+            (cond (eqb y n) (hasWaiting (record { caller = c .aid; callee = x; service = z }) (t .waiting)) (t .grants x y z));
+        needs = λ x y z. cond (eqb x n) (namedIn (c .needs) y z) (t .needs x y z);
+        unmet = keep (λ u. not (eqAid (u .callee) (c .aid) && hasTok (u .tok) (c .provides))) (t .unmet)
+            ++ map (callRow n) (keep notServed (c .calls));
+        waiting = keep (λ w. not (eqAid (w .caller) (c .aid))) (t .waiting)
+            ++ map (λ r. record { caller = r .aid; callee = n; service = loadedService (r .tok) }) (keep (λ r. not (isSome (numberOf L t (r .aid)))) (c .grants));
+      };
+      lost = map (callRow n) (keep notServed (c .needs));
+    }
 
   -- ---- the draft of a record with first AID a; where a number is not found, a lower cause has applied
   abbrev pub unchanged : Draft
@@ -211,8 +260,9 @@ pub record Look : Type 0 where
   pub waitingFits : Bool
 
 unfoldable pub look : Layout → Draft → Look
-look L d = record
-    { granted = everyBit L (λ i j k. implies (d .tables .calls i j k) (d .tables .grants j i k))
-    ; needed = isNil (d .lost)
-    ; unmetFits = leb (length (d .tables .unmet)) (L .capacity)
-    ; waitingFits = leb (length (d .tables .waiting)) (L .capacity) }
+look L d = record {
+  granted = everyBit L (λ i j k. implies (d .tables .calls i j k) (d .tables .grants j i k));
+  needed = isNil (d .lost);
+  unmetFits = leb (length (d .tables .unmet)) (L .capacity);
+  waitingFits = leb (length (d .tables .waiting)) (L .capacity);
+}

@@ -23,15 +23,25 @@ pub record Layout : Type 0 where
 
 -- the card of 1,094 bytes
 abbrev pub small : Layout
-small = record
-    { packages = 8; services = 8; width = 1; capacity = 16; header = 4 ∷ 70 ∷ 1 ∷ []
-    ; version = 1; countWidth = 1; mostRows = 72; mostCallers = 32 }
+small = record {
+  packages = 8;
+  services = 8;
+  width = 1;
+  capacity = 16;
+  header = 4 ∷ 70 ∷ 1 ∷ [];
+  version = 1;
+  countWidth = 1;
+  mostRows = 72;
+  mostCallers = 32;
+}
 
 -- bytes of an AID's place, of a row of unmet calls and of a row of waiting grants
 abbrev pub aidSize : ℕ
 aidSize = 17
+
 abbrev pub unmetSize : ℕ
 unmetSize = 20
+
 abbrev pub waitingSize : ℕ
 waitingSize = 19
 
@@ -39,22 +49,31 @@ waitingSize = 19
 module _ (L : Layout) where
   abbrev pub usedAt : ℕ
   usedAt = 3
+
   abbrev pub aidsAt : ℕ
   aidsAt = usedAt + L .width
+
   abbrev pub tokensAt : ℕ
   tokensAt = aidsAt + L .packages * aidSize
+
   abbrev pub providesAt : ℕ
   providesAt = tokensAt + L .packages * (L .services * 2)
+
   abbrev pub callsAt : ℕ
   callsAt = providesAt + L .packages * L .width
+
   abbrev pub grantsAt : ℕ
   grantsAt = callsAt + L .packages * (L .packages * L .width)
+
   abbrev pub needsAt : ℕ
   needsAt = grantsAt + L .packages * (L .packages * L .width)
+
   abbrev pub unmetAt : ℕ
   unmetAt = needsAt + L .packages * (L .packages * L .width)
+
   abbrev pub waitingAt : ℕ
   waitingAt = unmetAt + (1 + L .capacity * unmetSize)
+
   abbrev pub size : ℕ
   size = waitingAt + (1 + L .capacity * waitingSize)
 

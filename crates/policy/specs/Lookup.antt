@@ -60,11 +60,12 @@ module _ (L : Layout) (t : Tables) where
   -- number and service number, then the unmet in list order; grants by caller number and service number, then the waiting;
   -- needs by callee number and service number'
   unfoldable pub contractAt : ℕ → Contract
-  contractAt n = record
-      { aid = t .aid n
-      ; provides = map (t .tok n) (keep (t .provides n) places)
-      ; calls = flat (λ j. map (serviceAt t j) (keep (t .calls n j) places)) numbers
-          ++ map wanted (keep (λ u. eqb (u .caller) n) (t .unmet))
-      ; grants = flat (λ i. map (λ k. record { aid = t .aid i; tok = t .tok n k }) (keep (t .grants n i) places)) numbers
-          ++ map (grantAt t) (keep (λ w. eqb (w .callee) n) (t .waiting))
-      ; needs = flat (λ j. map (serviceAt t j) (keep (t .needs n j) places)) numbers }
+  contractAt n = record {
+    aid = t .aid n;
+    provides = map (t .tok n) (keep (t .provides n) places);
+    calls = flat (λ j. map (serviceAt t j) (keep (t .calls n j) places)) numbers
+        ++ map wanted (keep (λ u. eqb (u .caller) n) (t .unmet));
+    grants = flat (λ i. map (λ k. record { aid = t .aid i; tok = t .tok n k }) (keep (t .grants n i) places)) numbers
+        ++ map (grantAt t) (keep (λ w. eqb (w .callee) n) (t .waiting));
+    needs = flat (λ j. map (serviceAt t j) (keep (t .needs n j) places)) numbers;
+  }

@@ -18,12 +18,20 @@ withoutRow r l = keep (λ x. not (eqRow r x)) l
 abbrev pub altered : Change → Contract → Contract
 altered (load p c g n) k = record { aid = k .aid; provides = p; calls = c; grants = g; needs = n }
 altered remove k = k
-altered (addService s l) k = record
-    { aid = k .aid; provides = k .provides ++ (s ∷ []); calls = k .calls
-    ; grants = k .grants ++ map (λ a. record { aid = a; tok = s }) l; needs = k .needs }
-altered (removeService s) k = record
-    { aid = k .aid; provides = keep (λ x. not (eqTok s x)) (k .provides); calls = k .calls
-    ; grants = keep (λ x. not (eqTok s (x .tok))) (k .grants); needs = k .needs }
+altered (addService s l) k = record {
+  aid = k .aid;
+  provides = k .provides ++ (s ∷ []);
+  calls = k .calls;
+  grants = k .grants ++ map (λ a. record { aid = a; tok = s }) l;
+  needs = k .needs;
+}
+altered (removeService s) k = record {
+  aid = k .aid;
+  provides = keep (λ x. not (eqTok s x)) (k .provides);
+  calls = k .calls;
+  grants = keep (λ x. not (eqTok s (x .tok))) (k .grants);
+  needs = k .needs;
+}
 altered (addCall r) k = record { aid = k .aid; provides = k .provides; calls = k .calls ++ (r ∷ []); grants = k .grants; needs = k .needs }
 altered (removeCall r) k = record { aid = k .aid; provides = k .provides; calls = withoutRow r (k .calls); grants = k .grants; needs = withoutRow r (k .needs) }
 altered (addGrant r) k = record { aid = k .aid; provides = k .provides; calls = k .calls; grants = k .grants ++ (r ∷ []); needs = k .needs }
@@ -97,6 +105,7 @@ module _ (L : Layout) where
 
   unfoldable pub machine : List Contract → List ℕ → Held
   unfolding parse proper callsGranted needsMet unmetCalls waitingGrants
-  machine cs s = elim (parse L s)
-      [ none ↦ held cs cs 2
-      | some q ↦ held cs (effect cs (q .aid) (q .change)) (answer (causes3to11 cs q)) ]
+  machine cs s = elim (parse L s) [
+    | none ↦ held cs cs 2
+    | some q ↦ held cs (effect cs (q .aid) (q .change)) (answer (causes3to11 cs q))
+  ]

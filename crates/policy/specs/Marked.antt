@@ -42,10 +42,13 @@ callOf n k m = recordOf 5 (aidOf n ++ rowOf k m)
 -- the records of the session, to the byte
 abbrev pub loadH : List ℕ
 loadH = 0x00 ∷ 0x18 ∷ 0x01 ∷ 0x01 ∷ 0x05 ∷ 0xF0 ∷ 0x00 ∷ 0x00 ∷ 0x00 ∷ 0x01 ∷ 0x01 ∷ 0x00 ∷ 0x00 ∷ 0x00 ∷ 0x01 ∷ 0x05 ∷ 0xF0 ∷ 0x00 ∷ 0x00 ∷ 0x00 ∷ 0x02 ∷ 0x00 ∷ 0x00 ∷ 0x00 ∷ []
+
 abbrev pub loadB : List ℕ
 loadB = 0x00 ∷ 0x16 ∷ 0x01 ∷ 0x01 ∷ 0x05 ∷ 0xF0 ∷ 0x00 ∷ 0x00 ∷ 0x00 ∷ 0x03 ∷ 0x00 ∷ 0x01 ∷ 0x05 ∷ 0xF0 ∷ 0x00 ∷ 0x00 ∷ 0x00 ∷ 0x01 ∷ 0x00 ∷ 0x00 ∷ 0x00 ∷ 0x00 ∷ []
+
 abbrev pub loadC : List ℕ
 loadC = 0x00 ∷ 0x1E ∷ 0x01 ∷ 0x01 ∷ 0x05 ∷ 0xF0 ∷ 0x00 ∷ 0x00 ∷ 0x00 ∷ 0x02 ∷ 0x00 ∷ 0x01 ∷ 0x05 ∷ 0xF0 ∷ 0x00 ∷ 0x00 ∷ 0x00 ∷ 0x01 ∷ 0x00 ∷ 0x00 ∷ 0x00 ∷ 0x01 ∷ 0x05 ∷ 0xF0 ∷ 0x00 ∷ 0x00 ∷ 0x00 ∷ 0x01 ∷ 0x00 ∷ 0x00 ∷ []
+
 abbrev pub removeH : List ℕ
 removeH = 0x00 ∷ 0x0A ∷ 0x01 ∷ 0x02 ∷ 0x05 ∷ 0xF0 ∷ 0x00 ∷ 0x00 ∷ 0x00 ∷ 0x01 ∷ []
 
@@ -58,9 +61,10 @@ cases =
     -- removal on the empty image
     ∷ record { records = removalOf 1 ∷ []; answers = 5 ∷ [] }
     -- an AID of 4 or 17 bytes is malformed; of 5 or 16 it is read, and not installed
-    ∷ record
-        { records = recordOf 2 (4 ∷ from 1 4) ∷ recordOf 2 (17 ∷ from 1 17) ∷ recordOf 2 (5 ∷ from 1 5) ∷ recordOf 2 (16 ∷ from 1 16) ∷ []
-        ; answers = 2 ∷ 2 ∷ 5 ∷ 5 ∷ [] }
+    ∷ record {
+      records = recordOf 2 (4 ∷ from 1 4) ∷ recordOf 2 (17 ∷ from 1 17) ∷ recordOf 2 (5 ∷ from 1 5) ∷ recordOf 2 (16 ∷ from 1 16) ∷ [];
+      answers = 2 ∷ 2 ∷ 5 ∷ 5 ∷ [];
+    }
     -- the ninth package
     ∷ record { records = map (λ n. loadOf n [] [] [] []) (from 1 9); answers = replicate 8 0 ++ (7 ∷ []) }
     -- a 17th unmet call
@@ -68,9 +72,10 @@ cases =
     -- with 16 standing, a granted load that meets one and adds one
     ∷ record { records = loadOf 1 [] (callsOn9 16) [] [] ∷ loadOf 9 (1 ∷ []) (rowOf 10 20 ∷ []) (rowOf 1 1 ∷ []) [] ∷ []; answers = 0 ∷ 0 ∷ [] }
     -- removing a server whose callers' calls would make 17 unmet
-    ∷ record
-        { records = loadH ∷ loadOf 2 [] (rowOf 1 0 ∷ []) [] [] ∷ loadOf 3 [] (callsOn9 16) [] [] ∷ removalOf 1 ∷ []
-        ; answers = 0 ∷ 0 ∷ 0 ∷ 10 ∷ [] }
+    ∷ record {
+      records = loadH ∷ loadOf 2 [] (rowOf 1 0 ∷ []) [] [] ∷ loadOf 3 [] (callsOn9 16) [] [] ∷ removalOf 1 ∷ [];
+      answers = 0 ∷ 0 ∷ 0 ∷ 10 ∷ [];
+    }
     -- a load failing on grant and on need
     ∷ record { records = loadH ∷ loadOf 4 [] (rowOf 1 0 ∷ rowOf 9 0 ∷ []) [] (rowOf 9 0 ∷ []) ∷ []; answers = 0 ∷ 8 ∷ [] }
     ∷ []

@@ -57,27 +57,30 @@ module _ (L : Layout) (t : Tables) where
 
   -- kind 3: each unmet call on the new service is by one of the callers; callers not installed wait
   abbrev pub shortAddService : ℕ → Tok → List Aid → Look
-  shortAddService j s l = record
-      { granted = every (λ u. implies (asksFor L t (t .aid j) s u) (exists (eqAid (t .aid (u .caller))) l)) (t .unmet)
-      ; needed = true
-      ; unmetFits = true
-      ; waitingFits = fits (length (t .waiting) + count notInstalled l) }
+  shortAddService j s l = record {
+    granted = every (λ u. implies (asksFor L t (t .aid j) s u) (exists (eqAid (t .aid (u .caller))) l)) (t .unmet);
+    needed = true;
+    unmetFits = true;
+    waitingFits = fits (length (t .waiting) + count notInstalled l);
+  }
 
   -- kind 4: no package needs the service; its callers' calls are unmet
   abbrev pub shortRemoveService : ℕ → ℕ → Look
-  shortRemoveService j k = record
-      { granted = true
-      ; needed = every (λ i. not (t .needs i j k)) (numbers L t)
-      ; unmetFits = fits (length (t .unmet) + count (λ i. t .calls i j k) (numbers L t))
-      ; waitingFits = true }
+  shortRemoveService j k = record {
+    granted = true;
+    needed = every (λ i. not (t .needs i j k)) (numbers L t);
+    unmetFits = fits (length (t .unmet) + count (λ i. t .calls i j k) (numbers L t));
+    waitingFits = true;
+  }
 
   -- kind 2: no package needs a service of n; calls on it are unmet, grants to it wait, its own rows go
   abbrev pub shortRemove : ℕ → Look
-  shortRemove n = record
-      { granted = true
-      ; needed = every (λ i. every (λ k. not (t .needs i n k)) (places L t)) (numbers L t)
-      ; unmetFits = fits (count (λ u. not (eqb (u .caller) n)) (t .unmet) + ones (λ i k. t .calls i n k))
-      ; waitingFits = fits (count (λ w. not (eqb (w .callee) n)) (t .waiting) + ones (λ j k. t .grants j n k)) }
+  shortRemove n = record {
+    granted = true;
+    needed = every (λ i. every (λ k. not (t .needs i n k)) (places L t)) (numbers L t);
+    unmetFits = fits (count (λ u. not (eqb (u .caller) n)) (t .unmet) + ones (λ i k. t .calls i n k));
+    waitingFits = fits (count (λ w. not (eqb (w .callee) n)) (t .waiting) + ones (λ j k. t .grants j n k));
+  }
 
   -- ---- kind 1: the report's three conditions, section 7.1
   module _ (c : Contract) where
@@ -98,11 +101,12 @@ module _ (L : Layout) (t : Tables) where
     othersRights = every (λ u. implies (nowMet u) (hasRow (record { aid = t .aid (u .caller); tok = u .tok }) (c .grants))) (t .unmet)
 
     abbrev pub shortLoad : Look
-    shortLoad = record
-        { granted = newcomerRights && othersRights
-        ; needed = newcomerNeeds
-        ; unmetFits = fits (count (λ u. not (nowMet u)) (t .unmet) + count (λ r. not (isSome (serverOf L t r))) (c .calls))
-        ; waitingFits = fits (count (λ w. not (eqAid (w .caller) (c .aid))) (t .waiting) + count (λ r. notInstalled (r .aid)) (c .grants)) }
+    shortLoad = record {
+      granted = newcomerRights && othersRights;
+      needed = newcomerNeeds;
+      unmetFits = fits (count (λ u. not (nowMet u)) (t .unmet) + count (λ r. not (isSome (serverOf L t r))) (c .calls));
+      waitingFits = fits (count (λ w. not (eqAid (w .caller) (c .aid))) (t .waiting) + count (λ r. notInstalled (r .aid)) (c .grants));
+    }
 
   -- ---- by kind, with first AID a
   abbrev pub shortAt : Aid → (ℕ → Look) → Look

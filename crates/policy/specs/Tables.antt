@@ -126,16 +126,17 @@ module _ (L : Layout) where
       let aids = map readAid (pieces aidSize (L .packages) (drop (aidsAt L) img)) in
       let toks = map (λ l. map readTok (pieces 2 (L .services) l)) (pieces (L .services * 2) (L .packages) (drop (tokensAt L) img)) in
       let provs = pieces (L .width) (L .packages) (drop (providesAt L) img) in
-      record
-        { used = bitOf (L .packages) (take (L .width) (drop (usedAt L) img))
-        ; aid = λ i. getD aids i []
-        ; tok = λ j k. getD (getD toks j []) k noTok
-        ; provides = λ j k. bitOf (L .services) (getD provs j []) k
-        ; calls = readTable (drop (callsAt L) img)
-        ; grants = readTable (drop (grantsAt L) img)
-        ; needs = readTable (drop (needsAt L) img)
-        ; unmet = readList readUnmet unmetSize (drop (unmetAt L) img)
-        ; waiting = readList readWaiting waitingSize (drop (waitingAt L) img) }
+      record {
+        used = bitOf (L .packages) (take (L .width) (drop (usedAt L) img));
+        aid = λ i. getD aids i [];
+        tok = λ j k. getD (getD toks j []) k noTok;
+        provides = λ j k. bitOf (L .services) (getD provs j []) k;
+        calls = readTable (drop (callsAt L) img);
+        grants = readTable (drop (grantsAt L) img);
+        needs = readTable (drop (needsAt L) img);
+        unmet = readList readUnmet unmetSize (drop (unmetAt L) img);
+        waiting = readList readWaiting waitingSize (drop (waitingAt L) img);
+      }
 
   unfoldable pub encode : Tables → List ℕ
   unfolding rowOf
