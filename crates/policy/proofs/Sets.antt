@@ -310,7 +310,7 @@ from-in i (suc n) {x} m = go (λ q. from-in (suc i) n q) (in-cons m)
     go ih (inl e) = omega arith
     go ih (inr q) = let p = ih q in omega arith
 
-in-from : (i n x : ℕ) → i ≤ x → x < i + n → In x (from i n)
+pub in-from : (i n x : ℕ) → i ≤ x → x < i + n → In x (from i n)
 in-from i zero x a b = absurd (omega arith)
 in-from i (suc n) x a b = go (test (eqb x i)) (λ p. in-from (suc i) n x p (omega arith))
   where

@@ -234,13 +234,13 @@ module _ (L : Layout) (t : Tables) where
   atPackage a f = orElse (numberOf L t a) unchanged f
 
   abbrev pub atService : ℕ → Tok → (ℕ → Draft) → Draft
-  atService j s f = orElse (serviceOf L t j s) unchanged f
+  atService j s f = orElse (serviceOf L t j s) (kept j t) f
 
   unfoldable pub draft : Aid → Change → Draft
   unfolding numberOf serviceOf serverOf freeNumber freeService
   draft a (load p c g n) = orElse (freeNumber L t) unchanged (λ m. loadAt m (record { aid = a; provides = p; calls = c; grants = g; needs = n }))
   draft a remove = atPackage a removeAt
-  draft a (addService s l) = atPackage a (λ j. orElse (freeService L t j) unchanged (λ k. addServiceAt j k s l))
+  draft a (addService s l) = atPackage a (λ j. orElse (freeService L t j) (kept j t) (λ k. addServiceAt j k s l))
   draft a (removeService s) = atPackage a (λ j. atService j s (removeServiceAt j))
   draft a (addCall r) = atPackage a (λ i. addCallAt i r (serverOf L t r))
   draft a (removeCall r) = atPackage a (λ i. removeCallAt i r (serverOf L t r))

@@ -25,6 +25,13 @@ pub record Out : Type 0 where
 abbrev pub refusal : ℕ → ℕ → List ℕ → Out
 refusal n s b = record { answered = n; second = s; bytes = b }
 
+-- an AID and a row, as a record writes them
+abbrev pub aidBytes : Aid → List ℕ
+aidBytes a = length a ∷ a
+
+abbrev pub rowBytes : Row → List ℕ
+rowBytes r = aidBytes (r .aid) ++ writeTok (r .tok)
+
 module _ (L : Layout) where
   -- ---- causes 4 to 7, on tables
   module _ (t : Tables) where
@@ -90,12 +97,6 @@ module _ (L : Layout) where
   writeEmpty b = cond (eqb (length b) (size L)) (record { answered = 0; second = 0; bytes = emptyImage L }) (refusal 1 255 b)
 
   -- ---- a contract as a kind 1 record
-  abbrev pub aidBytes : Aid → List ℕ
-  aidBytes a = length a ∷ a
-
-  abbrev pub rowBytes : Row → List ℕ
-  rowBytes r = aidBytes (r .aid) ++ writeTok (r .tok)
-
   abbrev pub rowsBytes : List Row → List ℕ
   rowsBytes l = writeNumber (L .countWidth) (length l) (flat rowBytes l)
 

@@ -1,0 +1,338 @@
+-- Kind 3: a service added with its grants. Unmet calls on it become bits; a grant is a bit where its caller is installed, else it waits.
+use Prim.Native.Nat.{ℕ, _<_}
+use mathlib.Core.Path.{_≡_, refl, sym, ap, _∙_, subst}
+use mathlib.Core.Logic.{_⊎_, inl, inr, _↔_, Iff·trans}
+use mathlib.Core.Bool.{Bool, true, false, not, _&&_, _||_}
+use mathlib.Core.List.{List, [], _∷_, _++_, map}
+use mathlib.Core.List.{List·Memᴰ as In, List·Memᴰ·head as here, List·Memᴰ·cases-cons as in-cons, List·Memᴰ·not-nil as in-nil}
+use mathlib.Core.List.{Memᴰ·append-left as in-left, Memᴰ·append-right as in-right, List·Memᴰ·append-cases as in-append, Memᴰ·cast as in-cast}
+use mathlib.Core.Option.{Option, none, some}
+use lib.Dec.{T, eqb, eqb→eq}
+use Rattle.policy.specs.Lists.{every, exists, keep, isSome, orElse, distinct, NoRepeat}
+use Rattle.policy.specs.Contract.{Aid, eqAid, Tok, eqTok, Row, Contract, validAid, hasTok}
+use Rattle.policy.specs.Layout.{Layout}
+use Rattle.policy.specs.Record.{addService, proper}
+use Rattle.policy.specs.Causes.{_when_, answer}
+use Rattle.policy.specs.Machine.{altered, alter}
+use Rattle.policy.specs.Tables.{Tables, Unmet, Waiting}
+use Rattle.policy.specs.Lookup.{serviceAt, numberOf, freeService, contractAt}
+use Rattle.policy.specs.Draft.{callRow, hasUnmet, asksFor, addServiceAt, kept, draft}
+use Rattle.policy.proofs.Sets.{test, and-l, and-r, and-i, or-l, or-r, or-e, not-i, not-e, false-T}
+use Rattle.policy.proofs.Sets.{every-in, keep-in, in-keep, once-keep, in-map, map-in, once-map, once-append, once-snoc, each-append, distinct→once}
+use Rattle.policy.proofs.Equal.{eqAid→, eqAid-refl, eqAid-of, eqb-of, eqTok→, eqTok-of, tok-has, has-aid, aid-has, has-unmet, unmet-has}
+use Rattle.policy.proofs.Formed.{Names, Bits, Formed, ProvidesAt, at, grantBit, RowAt, bit, row, GrantAt, HasContract, Stands, Turns, KindTurns}
+use Rattle.policy.proofs.Found.{NumberIs, number-is, FreeIs, free-service-is}
+use Rattle.policy.proofs.Answers.{answer-zero}
+use Rattle.policy.proofs.Alter.{stands-alter}
+use Rattle.policy.proofs.Put2.{NewPlace, new-place}
+use Rattle.policy.proofs.Grown.{More, more-others, more-own}
+use Rattle.policy.proofs.Reach.{last-no, granted-provided, at-package}
+use Rattle.policy.proofs.ContractAt.{provides-at}
+
+module _ (L : Layout) (t : Tables) (f : Formed L t) (j k : ℕ) (uj : T (t .used j)) (k< : k < L .services) (free : T (t .provides j k) → ⊥)
+    (s : Tok) (fresh : ProvidesAt t j s → ⊥) (l : List Aid) (valid : (b : Aid) → In b l → T (validAid b)) (others : (b : Aid) → In b l → b ≡ t .aid j → ⊥) (once : NoRepeat l) where
+  abbrev after : Tables
+  after = addServiceAt L t j k s l .tables
+
+  place : NewPlace (t .tok) (after .tok) (t .provides) (after .provides) j k s
+  place = new-place (t .tok) (t .provides) j k s free
+
+  names : Names L (t .used) (t .aid) (after .tok) (after .provides)
+  names = record
+      { used-lt = f .names .used-lt
+      ; prov-lt = λ x y p. lt (place .prov-cases x y p)
+      ; prov-used = λ x y p. used (place .prov-cases x y p)
+      ; aid-valid = f .names .aid-valid
+      ; aid-blank = f .names .aid-blank
+      ; tok-blank = λ x y np. place .none-tok x y np ∙ f .names .tok-blank x y (λ p. np (place .old-prov x y p))
+      ; aid-inj = f .names .aid-inj
+      ; tok-inj = λ x y z p q e. inj x y z e (place .prov-cases x y p) (place .prov-cases x z q) }
+    where
+      lt : {x y : ℕ} → ((x ≡ j) × (y ≡ k)) ⊎ T (t .provides x y) → y < L .services
+      lt (inl e) = rw (e .1) k<
+      lt {x} {y} (inr p) = f .names .prov-lt x y p
+
+      used : {x y : ℕ} → ((x ≡ j) × (y ≡ k)) ⊎ T (t .provides x y) → T (t .used x)
+      used (inl e) = rw (e .0) uj
+      used {x} {y} (inr p) = f .names .prov-used x y p
+
+      -- no other service of the package has these tokens
+      clash : (x y z : ℕ) → x ≡ j → y ≡ k → T (t .provides x z) → after .tok x y ≡ after .tok x z → ⊥
+      clash x y z ex ey p e =
+          fresh (at z (subst (λ (w : ℕ). T (t .provides w z)) ex p) (sym (place .new-tok) ∙ (λ i. after .tok (sym ex i) (sym ey i)) ∙ e ∙ place .old-tok x z p ∙ (λ i. t .tok (ex i) z)))
+
+      inj : (x y z : ℕ) → after .tok x y ≡ after .tok x z → ((x ≡ j) × (y ≡ k)) ⊎ T (t .provides x y) → ((x ≡ j) × (z ≡ k)) ⊎ T (t .provides x z) → y ≡ z
+      inj x y z e (inl a) (inl b) = a .1 ∙ sym (b .1)
+      inj x y z e (inl a) (inr q) = absurd (clash x y z (a .0) (a .1) q e)
+      inj x y z e (inr p) (inl b) = absurd (clash x z y (b .0) (b .1) p (sym e))
+      inj x y z e (inr p) (inr q) = f .names .tok-inj x y z p q (sym (place .old-tok x y p) ∙ e ∙ place .old-tok x z q)
+
+  -- ---- a bit that was set, or one of the new service with a caller of c
+  abbrev orNew : (ℕ → ℕ → ℕ → Bool) → (ℕ → Bool) → ℕ → ℕ → ℕ → Bool
+  orNew b c x y z = b x y z || (eqb y j && eqb z k && c x)
+
+  module _ (b : ℕ → ℕ → ℕ → Bool) (c : ℕ → Bool) where
+    abbrev OldOrNew : ℕ → ℕ → ℕ → Type 0
+    OldOrNew x y z = T (b x y z) ⊎ ((y ≡ j) × (z ≡ k) × T (c x))
+
+    bit-is : (x y z : ℕ) → T (orNew b c x y z) ↔ OldOrNew x y z
+    bit-is x y z = (λ h. out (or-e (b x y z) (eqb y j && eqb z k && c x) h), into)
+      where
+        out : T (b x y z) ⊎ T (eqb y j && eqb z k && c x) → OldOrNew x y z
+        out (inl h) = inl h
+        out (inr h) =
+            let yz : T (eqb y j && eqb z k) = and-l (eqb y j && eqb z k) (c x) h in
+            inr (eqb→eq y j (and-l (eqb y j) (eqb z k) yz), eqb→eq z k (and-r (eqb y j) (eqb z k) yz), and-r (eqb y j && eqb z k) (c x) h)
+
+        into : OldOrNew x y z → T (orNew b c x y z)
+        into (inl h) = or-l (b x y z) (eqb y j && eqb z k && c x) h
+        into (inr h) = or-r (b x y z) (eqb y j && eqb z k && c x) (and-i (eqb y j && eqb z k) (c x) (and-i (eqb y j) (eqb z k) (eqb-of (h .0)) (eqb-of (h .1))) (h .2))
+
+    bits : Bits (t .used) (t .provides) b → ((x : ℕ) → T (c x) → T (t .used x)) → ((x : ℕ) → T (c x) → x ≡ j → ⊥) → Bits (t .used) (after .provides) (orNew b c)
+    bits old u ne = record
+        { by-used = λ x y z h. used x y z (bit-is x y z .0 h)
+        ; of-prov = λ x y z h. prov x y z (bit-is x y z .0 h)
+        ; other = λ x y z h. apart x y z (bit-is x y z .0 h) }
+      where
+        used : (x y z : ℕ) → OldOrNew x y z → T (t .used x)
+        used x y z (inl h) = old .by-used x y z h
+        used x y z (inr h) = u x (h .2)
+
+        prov : (x y z : ℕ) → OldOrNew x y z → T (after .provides y z)
+        prov x y z (inl h) = place .old-prov y z (old .of-prov x y z h)
+        prov x y z (inr h) = rw (h .0, h .1) (place .new-prov)
+
+        apart : (x y z : ℕ) → OldOrNew x y z → x ≡ y → ⊥
+        apart x y z (inl h) e = old .other x y z h e
+        apart x y z (inr h) e = ne x (h .2) (e ∙ h .0)
+
+  -- an unmet call of package x on the new service; an installed package x that it is granted to
+  abbrev asks : ℕ → Unmet
+  asks x = callRow x (record { aid = t .aid j; tok = s })
+
+  abbrev asked : ℕ → Bool
+  asked x = hasUnmet (asks x) (t .unmet)
+
+  abbrev granted : ℕ → Bool
+  granted x = t .used x && exists (eqAid (t .aid x)) l
+
+  was-asked : (x : ℕ) → T (asked x) → In (asks x) (t .unmet)
+  was-asked x h = has-unmet (asks x) (t .unmet) h
+
+  in-l : (x : ℕ) → T (granted x) → In (t .aid x) l
+  in-l x h = has-aid (t .aid x) l (and-r (t .used x) (exists (eqAid (t .aid x)) l) h)
+
+  -- not installed: its grant waits
+  abbrev lone : Aid → Bool
+  lone b = not (isSome (numberOf L t b))
+
+  lone-off : (b : Aid) → T (lone b) → NumberIs t b none
+  lone-off b h = go (numberOf L t b) (number-is L t (f .names) b) h
+    where
+      go : (o : Option ℕ) → NumberIs t b o → T (not (isSome o)) → NumberIs t b none
+      go none n q = n
+      go (some x) n q = absurd q
+
+  abbrev wait : ℕ → ℕ → Aid → Waiting
+  wait n z b = record { caller = b; callee = n; service = z }
+
+  abbrev waits : Aid → Waiting
+  waits b = wait j k b
+
+  new-row : (w : Waiting) → In w (map waits (keep lone l)) → (b : Aid) × In b l × T (lone b) × (w ≡ waits b)
+  new-row w m =
+      let p = map-in waits (keep lone l) m in
+      let q = keep-in lone l (p .1) in
+      (p .0, q .0, q .1, p .2)
+
+  was-unmet : (u : Unmet) → In u (after .unmet) → In u (t .unmet) × (T (asksFor L t (t .aid j) s u) → ⊥)
+  was-unmet u m = let p = keep-in (λ v. not (asksFor L t (t .aid j) s v)) (t .unmet) m in (p .0, not-e (asksFor L t (t .aid j) s u) (p .1))
+
+  formed : Formed L after
+  formed = record
+      { names = names
+      ; calls = bits (t .calls) asked (f .calls) (λ x h. f .unmet .off .off-used (asks x) (was-asked x h))
+          (λ x h e. f .unmet .unmet-other (asks x) (was-asked x h) (ap (t .aid) (sym e)))
+      ; grants = bits (grantBit t) granted (f .grants) (λ x h. and-l (t .used x) (exists (eqAid (t .aid x)) l) h)
+          (λ x h e. others (t .aid x) (in-l x h) (ap (t .aid) e))
+      ; need-call = λ x y z h. bit-is (t .calls) asked x y z .1 (inl (f .need-call x y z h))
+      ; unmet = record
+          { off = record
+              { off-used = λ u m. f .unmet .off .off-used u (was-unmet u m .0)
+              ; off-card = λ u m y z p ea et. off u y z (was-unmet u m .0) (was-unmet u m .1) ea et (place .prov-cases y z p) }
+          ; unmet-valid = λ u m. f .unmet .unmet-valid u (was-unmet u m .0)
+          ; unmet-other = λ u m. f .unmet .unmet-other u (was-unmet u m .0)
+          ; unmet-once = once-keep (λ v. not (asksFor L t (t .aid j) s v)) (t .unmet) (f .unmet .unmet-once) }
+      ; waiting = record
+          { wait-valid = each-append (t .waiting) (map waits (keep lone l)) (f .waiting .wait-valid)
+              (λ w m. let p = new-row w m in rw (p .3) (valid (p .0) (p .1)))
+          ; wait-off = each-append (t .waiting) (map waits (keep lone l)) (f .waiting .wait-off)
+              (λ w m n u e. let p = new-row w m in lone-off (p .0) (p .2) n u (e ∙ ap (λ (v : Waiting). v .caller) (p .3)))
+          ; wait-prov = each-append (t .waiting) (map waits (keep lone l)) (λ w m. place .old-prov (w .callee) (w .service) (f .waiting .wait-prov w m))
+              (λ w m. let p = new-row w m in rw (p .3) (place .new-prov))
+          ; wait-once = once-append (t .waiting) (map waits (keep lone l)) (f .waiting .wait-once)
+              (once-map waits (keep lone l) (λ b c m n e. ap (λ (v : Waiting). v .caller) e) (once-keep lone l once))
+              (λ w m n. let p = new-row w n in free (rw (p .3) at (f .waiting .wait-prov w m))) } }
+    where
+      off : (u : Unmet) (y z : ℕ) → In u (t .unmet) → (T (asksFor L t (t .aid j) s u) → ⊥) → t .aid y ≡ u .callee → after .tok y z ≡ u .tok
+        → ((y ≡ j) × (z ≡ k)) ⊎ T (t .provides y z) → ⊥
+      off u y z m no-ask ea et (inl e) =
+          no-ask (and-i (eqAid (u .callee) (t .aid j)) (eqTok (u .tok) s) (eqAid-of (sym ea ∙ ap (t .aid) (e .0)))
+            (eqTok-of (sym et ∙ (λ i. after .tok (e .0 i) (e .1 i)) ∙ place .new-tok)))
+      off u y z m no-ask ea et (inr p) = f .unmet .off .off-card u m y z p ea (sym (place .old-tok y z p) ∙ et)
+
+  -- ---- what the packages provide, call, grant and need
+  -- the tokens at the new place, and the service at one that was provided
+  tok-new : (x y : ℕ) → x ≡ j → y ≡ k → after .tok x y ≡ s
+  tok-new x y ex ey = (λ i. after .tok (ex i) (ey i)) ∙ place .new-tok
+
+  service-as : (x y : ℕ) → T (t .provides x y) → serviceAt after x y ≡ serviceAt t x y
+  service-as x y p = λ i. record { aid = t .aid x; tok = place .old-tok x y p i }
+
+  more-provided : More (ProvidesAt t) (ProvidesAt after) j (s ∷ [])
+  more-provided n x = (cases, back)
+    where
+      which : (z : ℕ) → x ≡ after .tok n z → ((n ≡ j) × (z ≡ k)) ⊎ T (t .provides n z) → ProvidesAt t n x ⊎ ((n ≡ j) × In x (s ∷ []))
+      which z e (inl q) = inr (q .0, here (e ∙ tok-new n z (q .0) (q .1)))
+      which z e (inr p) = inl (at z p (e ∙ place .old-tok n z p))
+
+      cases : ProvidesAt after n x → ProvidesAt t n x ⊎ ((n ≡ j) × In x (s ∷ []))
+      cases (at z p e) = which z e (place .prov-cases n z p)
+
+      old : ProvidesAt t n x → ProvidesAt after n x
+      old (at z p e) = at z (place .old-prov n z p) (e ∙ sym (place .old-tok n z p))
+
+      new : n ≡ j → (x ≡ s) ⊎ In x [] → ProvidesAt after n x
+      new en (inl e) = at k (rw en (place .new-prov)) (e ∙ sym (tok-new n k en refl))
+      new en (inr m) = absurd (in-nil m)
+
+      back : ProvidesAt t n x ⊎ ((n ≡ j) × In x (s ∷ [])) → ProvidesAt after n x
+      back (inl p) = old p
+      back (inr p) = new (p .0) (in-cons (p .1))
+
+  abbrev grantTo : Aid → Row
+  grantTo b = record { aid = b; tok = s }
+
+  more-granted : More (GrantAt t) (GrantAt after) j (map grantTo l)
+  more-granted n x = (cases, back)
+    where
+      -- a grant at the new place to an AID of l
+      is-new : (z : ℕ) → n ≡ j → z ≡ k → x .tok ≡ after .tok n z → In (x .aid) l → (n ≡ j) × In x (map grantTo l)
+      is-new z en ez q m = let e : x .tok ≡ s = q ∙ tok-new n z en ez in (en, in-cast (λ i. record { aid = x .aid; tok = e i }) (in-map grantTo m))
+
+      by-bit : (i z : ℕ) → x .aid ≡ t .aid i → x .tok ≡ after .tok n z → OldOrNew (grantBit t) granted i n z → GrantAt t n x ⊎ ((n ≡ j) × In x (map grantTo l))
+      by-bit i z e q (inl b) = inl (bit i z b e (q ∙ place .old-tok n z (f .grants .of-prov i n z b)))
+      by-bit i z e q (inr h) = inr (is-new z (h .0) (h .1) q (in-cast e (in-l i (h .2))))
+
+      by-row : (z : ℕ) → x .tok ≡ after .tok n z → In (wait n z (x .aid)) (t .waiting) ⊎ In (wait n z (x .aid)) (map waits (keep lone l))
+        → GrantAt t n x ⊎ ((n ≡ j) × In x (map grantTo l))
+      by-row z q (inl m) = inl (row z m (q ∙ place .old-tok n z (f .waiting .wait-prov (wait n z (x .aid)) m)))
+      by-row z q (inr m) =
+          let p = new-row (wait n z (x .aid)) m in
+          inr (is-new z (ap (λ (v : Waiting). v .callee) (p .3)) (ap (λ (v : Waiting). v .service) (p .3)) q (in-cast (ap (λ (v : Waiting). v .caller) (p .3)) (p .1)))
+
+      cases : GrantAt after n x → GrantAt t n x ⊎ ((n ≡ j) × In x (map grantTo l))
+      cases (bit i z b e q) = by-bit i z e q (bit-is (grantBit t) granted i n z .0 b)
+      cases (row z m q) = by-row z q (in-append (t .waiting) m)
+
+      old : GrantAt t n x → GrantAt after n x
+      old (bit i z b e q) = bit i z (bit-is (grantBit t) granted i n z .1 (inl b)) e (q ∙ sym (place .old-tok n z (f .grants .of-prov i n z b)))
+      old (row z m q) = row z (in-left (map waits (keep lone l)) m) (q ∙ sym (place .old-tok n z (f .waiting .wait-prov (wait n z (x .aid)) m)))
+
+      -- by whether the caller is installed
+      new : (b : Aid) → In b l → (o : Option ℕ) → NumberIs t b o → (T (not (isSome o)) → T (lone b)) → GrantAt after j (grantTo b)
+      new b m none h g = row k (in-right (t .waiting) (in-map waits (in-keep lone m (g tt)))) (sym (place .new-tok))
+      new b m (some i) h g =
+          let q : T (granted i) = and-i (t .used i) (exists (eqAid (t .aid i)) l) (h .0) (aid-has (in-cast (h .1) m)) in
+          bit i k (bit-is (grantBit t) granted i j k .1 (inr (refl, refl, q))) (sym (h .1)) (sym (place .new-tok))
+
+      back : GrantAt t n x ⊎ ((n ≡ j) × In x (map grantTo l)) → GrantAt after n x
+      back (inl p) = old p
+      back (inr p) =
+          let q = map-in grantTo l (p .1) in
+          rw (p .0, q .2) (new (q .0) (q .1) (numberOf L t (q .0)) (number-is L t (f .names) (q .0)) (λ h. h))
+
+  calls-as : (n : ℕ) (r : Row) → RowAt t (t .calls) (t .unmet) n r ↔ RowAt after (after .calls) (after .unmet) n r
+  calls-as n r = (there, back)
+    where
+      -- an unmet call on the new service is a bit now
+      met : In (callRow n r) (t .unmet) → T (asksFor L t (t .aid j) s (callRow n r)) ⊎ (T (asksFor L t (t .aid j) s (callRow n r)) → ⊥) → RowAt after (after .calls) (after .unmet) n r
+      met m (inl h) =
+          let ea : r .aid ≡ t .aid j = eqAid→ (r .aid) (t .aid j) (and-l (eqAid (r .aid) (t .aid j)) (eqTok (r .tok) s) h) in
+          let es : r .tok ≡ s = eqTok→ (r .tok) s (and-r (eqAid (r .aid) (t .aid j)) (eqTok (r .tok) s) h) in
+          let e : r .tok ≡ after .tok j k = es ∙ sym (place .new-tok) in
+          let h : T (asked n) = unmet-has (in-cast (λ i. record { callee = sym ea i; tok = sym es i; caller = n }) m) in
+          bit j k (bit-is (t .calls) asked n j k .1 (inr (refl, refl, h))) (λ i. record { aid = ea i; tok = e i })
+      met m (inr h) = row (in-keep (λ v. not (asksFor L t (t .aid j) s v)) m (not-i (asksFor L t (t .aid j) s (callRow n r)) h))
+
+      there : RowAt t (t .calls) (t .unmet) n r → RowAt after (after .calls) (after .unmet) n r
+      there (bit y z b e) = bit y z (bit-is (t .calls) asked n y z .1 (inl b)) (e ∙ sym (service-as y z (f .calls .of-prov n y z b)))
+      there (row m) = met m (test (asksFor L t (t .aid j) s (callRow n r)))
+
+      was : (y z : ℕ) → r ≡ serviceAt after y z → OldOrNew (t .calls) asked n y z → RowAt t (t .calls) (t .unmet) n r
+      was y z e (inl b) = bit y z b (e ∙ service-as y z (f .calls .of-prov n y z b))
+      was y z e (inr h) =
+          let es : r .tok ≡ s = ap (λ (v : Row). v .tok) e ∙ tok-new y z (h .0) (h .1) in
+          let ea : r .aid ≡ t .aid j = ap (λ (v : Row). v .aid) e ∙ ap (t .aid) (h .0) in
+          row (in-cast (λ i. record { callee = ea i; tok = es i; caller = n }) (was-asked n (h .2)))
+
+      back : RowAt after (after .calls) (after .unmet) n r → RowAt t (t .calls) (t .unmet) n r
+      back (bit y z b e) = was y z e (bit-is (t .calls) asked n y z .0 b)
+      back (row m) = row (was-unmet (callRow n r) m .0)
+
+  needs-as : (n : ℕ) (r : Row) → RowAt t (t .needs) [] n r ↔ RowAt after (t .needs) [] n r
+  needs-as n r = (there, back)
+    where
+      prov : (y z : ℕ) → T (t .needs n y z) → T (t .provides y z)
+      prov y z b = f .calls .of-prov n y z (f .need-call n y z b)
+
+      there : RowAt t (t .needs) [] n r → RowAt after (t .needs) [] n r
+      there (bit y z b e) = bit y z b (e ∙ sym (service-as y z (prov y z b)))
+      there (row m) = row m
+
+      back : RowAt after (t .needs) [] n r → RowAt t (t .needs) [] n r
+      back (bit y z b e) = bit y z b (e ∙ service-as y z (prov y z b))
+      back (row m) = row m
+
+  -- ---- the package's contract gets the service and its grants, every other one stays
+  has : (n : ℕ) (c : Contract) (p : List Tok) (g : List Row) → HasContract t [] n c → ((x : Tok) → In x p ↔ ProvidesAt after n x) → ((x : Row) → In x g ↔ GrantAt after n x)
+    → HasContract after [] n (record { aid = c .aid; provides = p; calls = c .calls; grants = g; needs = c .needs })
+  has n c p g h e q = record
+      { aid = h .aid; provides = e; calls = λ r. Iff·trans (h .calls r) (calls-as n r); grants = q; needs = λ r. Iff·trans (h .needs r) (needs-as n r) }
+
+  service-turns : (cs : List Contract) (a : Aid) → Stands t [] cs → t .aid j ≡ a → Turns L (addServiceAt L t j k s l) (alter a (altered (addService s l)) cs)
+  service-turns cs a st aj = record
+      { formed = formed
+      ; lost-off = record { off-used = λ u m. absurd (in-nil m); off-card = λ u m. absurd (in-nil m) }
+      ; stands = stands-alter L t after [] cs a (altered (addService s l)) j (f .names) st uj aj refl refl (λ c. refl)
+          (λ n c u ne h. has n c (c .provides) (c .grants) h
+            (more-others (ProvidesAt t) (ProvidesAt after) j (s ∷ []) more-provided n ne (c .provides) (h .provides))
+            (more-others (GrantAt t) (GrantAt after) j (map grantTo l) more-granted n ne (c .grants) (h .grants)))
+          (λ c h. has j c (c .provides ++ (s ∷ [])) (c .grants ++ map grantTo l) h
+            (more-own (ProvidesAt t) (ProvidesAt after) j (s ∷ []) more-provided (c .provides) (h .provides))
+            (more-own (GrantAt t) (GrantAt after) j (map grantTo l) more-granted (c .grants) (h .grants)))
+          (λ c h d. record
+            { provides = once-snoc (c .provides) s (d .provides) (λ m. fresh (h .provides s .0 m))
+            ; calls = d .calls
+            ; grants = once-append (c .grants) (map grantTo l) (d .grants) (once-map grantTo l (λ x y m n e. ap (λ (v : Row). v .aid) e) once)
+                (λ x m n. fresh (subst (ProvidesAt t j) (ap (λ (v : Row). v .tok) (map-in grantTo l n .2)) (granted-provided L t f j x (h .grants x .0 m))))
+            ; needs = d .needs }) }
+
+pub kind-3 : (s : Tok) (l : List Aid) → KindTurns (addService s l)
+unfolding draft proper
+kind-3 s l L t cs a f st va vl pr e =
+    at-package L t (f .names) (λ d. Turns L d (alter a (altered (addService s l)) cs)) (λ j. orElse (freeService L t j) (kept j t) (λ k. addServiceAt L t j k s l)) a
+      (λ o. 6 when orElse o false (λ i. hasTok s (contractAt L t i .provides)) ∷ 7 when orElse o false (λ j. not (isSome (freeService L t j))) ∷ []) e
+      (λ j uj aj q.
+        let p = answer-zero 5 (hasTok s (contractAt L t j .provides)) (7 when not (isSome (freeService L t j)) ∷ []) q in
+        at-free j uj aj (λ h. false-T (p .0) (tok-has (provides-at L t f j s .1 h))) (freeService L t j) (free-service-is L t j) (p .1))
+  where
+    apart : (b : Aid) → In b l → b ≡ a → ⊥
+    apart b m e = not-e (eqAid b a) (every-in (λ b. not (eqAid b a)) l (and-l (every (λ b. not (eqAid b a)) l) (distinct eqAid l) pr) m) (eqAid-of e)
+
+    at-free : (j : ℕ) → T (t .used j) → t .aid j ≡ a → (ProvidesAt t j s → ⊥) → (o : Option ℕ) → FreeIs (L .services) (t .provides j) o
+      → answer (7 when not (isSome o) ∷ []) ≡ 0 → Turns L (orElse o (kept j t) (λ k. addServiceAt L t j k s l)) (alter a (altered (addService s l)) cs)
+    at-free j uj aj fresh none h q = absurd (last-no 6 true q tt)
+    at-free j uj aj fresh (some k) h q =
+        service-turns L t f j k uj (h .0) (h .1) s fresh l vl (λ b m e. apart b m (e ∙ aj))
+          (distinct→once eqAid eqAid→ eqAid-refl l (and-r (every (λ b. not (eqAid b a)) l) (distinct eqAid l) pr)) cs a st aj

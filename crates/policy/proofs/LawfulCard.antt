@@ -1,0 +1,43 @@
+-- Lawful tables stand for lawful contracts: every met call is granted by its provider, every need is met.
+use Prim.Native.Nat.{ℕ}
+use mathlib.Core.Path.{_≡_, refl, sym, ap, _∙_, subst}
+use mathlib.Core.List.{List, []}
+use mathlib.Core.List.{List·Memᴰ as In, List·Memᴰ·not-nil as in-nil, Memᴰ·cast as in-cast}
+use lib.Dec.{T}
+use Rattle.policy.specs.Contract.{Tok, Row, Contract}
+use Rattle.policy.specs.Layout.{Layout}
+use Rattle.policy.specs.Tables.{Tables}
+use Rattle.policy.specs.Claims.{CallsGranted, NeedsPresent}
+use Rattle.policy.proofs.Formed.{Formed, Lawful, ProvidesAt, at, RowAt, GrantAt, HasContract, Stands}
+
+module _ (L : Layout) (t : Tables) (cs : List Contract) (g : Formed L t) (w : Lawful t) (st : Stands t [] cs) where
+  -- the number of a contract with the AID of package j is j
+  at-number : (d : Contract) (m j : ℕ) → T (t .used m) → HasContract t [] m d → T (t .used j) → d .aid ≡ t .aid j → HasContract t [] j d
+  at-number d m j um h uj e = subst (λ (z : ℕ). HasContract t [] z d) (g .names .aid-inj m j um uj (sym (h .aid) ∙ e)) h
+
+  pub calls-granted : CallsGranted cs
+  calls-granted c d r mc md mr e mt =
+      let p = st .these c mc in
+      let q = st .these d md in
+      go (p .0) (p .2) (q .0) (q .1) (q .2) (p .2 .calls r .0 mr) (q .2 .provides (r .tok) .0 mt)
+    where
+      go : (i : ℕ) → HasContract t [] i c → (m : ℕ) → T (t .used m) → HasContract t [] m d → RowAt t (t .calls) (t .unmet) i r → ProvidesAt t m (r .tok)
+        → In (record { aid = c .aid; tok = r .tok }) (d .grants)
+      go i hc m um hd (RowAt.bit j k b f) v =
+          let pj = g .calls .of-prov i j k b in
+          let hj = at-number d m j um hd (g .names .prov-used j k pj) (e ∙ ap (λ (z : Row). z .aid) f) in
+          hj .grants (record { aid = c .aid; tok = r .tok }) .1 (GrantAt.bit i k (w i j k b) (hc .aid) (ap (λ (z : Row). z .tok) f))
+      go i hc m um hd (RowAt.row n) (at k v f) = absurd (g .unmet .off .off-card _ n m k v (sym (hd .aid) ∙ e) (sym f))
+
+  pub needs-present : NeedsPresent cs
+  needs-present c r mc mr = let p = st .these c mc in go (p .0) (p .2 .needs r .0 mr)
+    where
+      go : (i : ℕ) → RowAt t (t .needs) [] i r → (d : Contract) × In d cs × (d .aid ≡ r .aid) × In (r .tok) (d .provides)
+      go i (RowAt.bit j k b f) =
+          let pj = g .calls .of-prov i j k (g .need-call i j k b) in
+          let uj = g .names .prov-used j k pj in
+          let q = st .no-others j uj in
+          let h = st .these (q .0) (q .1) in
+          let hj = at-number (q .0) (h .0) j (h .1) (h .2) uj (q .2) in
+          (q .0, q .1, q .2 ∙ sym (ap (λ (z : Row). z .aid) f), hj .provides (r .tok) .1 (at k pj (ap (λ (z : Row). z .tok) f)))
+      go i (RowAt.row n) = absurd (in-nil n)

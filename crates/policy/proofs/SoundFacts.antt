@@ -1,0 +1,462 @@
+-- A sound image's tables satisfy the facts, and tables that satisfy the facts pass the tests of a sound image.
+use Prim.Native.Nat.{ℕ, zero, suc, _<_, _%_, _^_, _*_, zero-le, suc-le-suc}
+use native.Mathlib.Nat.{zero-div}
+use mathlib.Core.Path.{_≡_, refl, sym, ap, _∙_, subst}
+use mathlib.Core.Logic.{_⊎_, inl, inr}
+use mathlib.Core.Bool.{Bool, true, false, not, _&&_, _||_}
+use mathlib.Core.List.{List, [], _∷_, map}
+use mathlib.Core.List.{List·Memᴰ as In, List·Memᴰ·cases-cons as in-cons, List·Memᴰ·not-nil as in-nil, Memᴰ·cast as in-cast}
+use mathlib.Core.Option.{Option, none, some}
+use lib.Dec.{T, eqb, leb, ltb, eqb→eq, ltb→lt, leb→le, le→leb}
+use lib.ListN.{length, getD, take, drop, length-map}
+use Rattle.policy.specs.Lists.{implies, every, keep, distinct, isNil, isSome, upto, eqBytes, NoRepeat}
+use Rattle.policy.specs.Contract.{eqAid, validAid, Tok, eqTok}
+use Rattle.policy.specs.Layout.{Layout, size, aidSize, usedAt, aidsAt, tokensAt, providesAt, callsAt, grantsAt, needsAt}
+use Rattle.policy.specs.Tables.{Tables, Unmet, Waiting, noTok, bit, readNumber, readAid, readTok, pieces, bitOf, readTable, decode, encode}
+use Rattle.policy.specs.Lookup.{numbers, places, usedNumbers, numberOf, serverOf, wanted}
+use Rattle.policy.specs.Sound.{eqUnmet, eqWaiting, everyBit, unmetOk, waitingOk}
+use Rattle.policy.specs.Sound.{aidsOk, tokensOk, blanksOk, entriesOk, bitsProvided, needsCalled, bitsGranted, listsOk, rowsOk, soundTables, sound}
+use Rattle.policy.proofs.Sets.{and-l, and-r, and-i, or-l, or-r, or-e, implies-i, implies-e, not-i, not-e}
+use Rattle.policy.proofs.Sets.{every-in, in-every, keep-in, in-keep, once-keep, in-map, once-map, distinct→once, once→distinct, in-upto, once-upto, eqBytes-refl}
+use Rattle.policy.proofs.Equal.{eqAid→, eqAid-refl, eqAid-of, eqb-of, eqTok→, eqTok-refl, eqTok-of, eqUnmet→, eqUnmet-refl, eqWaiting→, eqWaiting-refl}
+use Rattle.policy.proofs.Formed.{Names, Bits, UnmetRows, WaitingRows, grantBit, Formed, Lawful, Fitting}
+use Rattle.policy.proofs.Found.{NumberIs, ServerIs, number-is, server-is}
+
+-- ---- what tables hold stands in range
+abbrev BitIn : Layout → ℕ → ℕ → ℕ → Type 0
+BitIn L i j k = (i < L .packages) × (j < L .packages) × (k < L .services)
+
+record InRange (L : Layout) (t : Tables) : Type 0 where
+  used-in : (n : ℕ) → T (t .used n) → n < L .packages
+  aid-in : (n : ℕ) → (t .aid n ≡ [] → ⊥) → n < L .packages
+  tok-in : (j k : ℕ) → (t .tok j k ≡ noTok → ⊥) → (j < L .packages) × (k < L .services)
+  prov-in : (j k : ℕ) → T (t .provides j k) → (j < L .packages) × (k < L .services)
+  calls-in : (i j k : ℕ) → T (t .calls i j k) → BitIn L i j k
+  grants-in : (i j k : ℕ) → T (t .grants i j k) → BitIn L i j k
+  needs-in : (i j k : ℕ) → T (t .needs i j k) → BitIn L i j k
+
+pieces-length : (w n : ℕ) (bs : List ℕ) → length (pieces w n bs) ≡ n
+pieces-length w zero bs = refl
+pieces-length w (suc n) bs = ap suc (pieces-length w n (drop w bs))
+
+-- what is not the default stands in the list
+entry-in : {A : Type 0} (l : List A) (d : A) (n : ℕ) → (getD l n d ≡ d → ⊥) → n < length l
+entry-in [] d n h = absurd (h refl)
+entry-in (x ∷ l) d zero h = suc-le-suc zero-le
+entry-in (x ∷ l) d (suc n) h = suc-le-suc (entry-in l d n h)
+
+-- and in a list of lines of n entries each
+cell-in : {A B : Type 0} (f : A → List B) (n : ℕ) → ((x : A) → length (f x) ≡ n) → (l : List A) (d : B) (i j : ℕ) → (getD (getD (map f l) i []) j d ≡ d → ⊥) → (i < length l) × (j < n)
+cell-in f n wide [] d i j h = absurd (h refl)
+cell-in f n wide (x ∷ l) d zero j h = (suc-le-suc zero-le, subst (λ (z : ℕ). j < z) (wide x) (entry-in (f x) d j h))
+cell-in f n wide (x ∷ l) d (suc i) j h = let p = cell-in f n wide l d i j h in (suc-le-suc (p .0), p .1)
+
+-- a bit of a row is one of its n, and the row has bytes
+no-bit : (k : ℕ) → T (bit 0 k) → ⊥
+unfolding bit
+no-bit k h = subst (λ (z : ℕ). T (eqb (z % 2) 1)) (zero-div (2 ^ k)) h
+
+row-bit : (L : Layout) (n : ℕ) (bs : List ℕ) (k : ℕ) → T (bitOf L n bs k) → (k < n) × (bs ≡ [] → ⊥)
+row-bit L n bs k h =
+    ( ltb→lt k n (and-l (ltb k n) (bit (readNumber 0 bs) k) h)
+    , λ e. no-bit k (subst (λ (z : List ℕ). T (bit (readNumber 0 z) k)) e (and-r (ltb k n) (bit (readNumber 0 bs) k) h)) )
+
+module _ (L : Layout) (img : List ℕ) where
+  table-in : (at : ℕ) (i j k : ℕ) → T (readTable L (drop at img) i j k) → BitIn L i j k
+  table-in at i j k h =
+      let lines = pieces (L .packages * L .width) (L .packages) (drop at img) in
+      let row = getD (getD (map (pieces (L .width) (L .packages)) lines) i []) j [] in
+      let r = row-bit L (L .services) row k h in
+      let c = cell-in (pieces (L .width) (L .packages)) (L .packages) (pieces-length (L .width) (L .packages)) lines [] i j (r .1) in
+      (subst (λ (z : ℕ). i < z) (pieces-length (L .packages * L .width) (L .packages) (drop at img)) (c .0), c .1, r .0)
+
+  decode-in : InRange L (decode L img)
+  unfolding decode
+  decode-in = record
+      { used-in = λ n h. row-bit L (L .packages) (take (L .width) (drop (usedAt L) img)) n h .0
+      ; aid-in = λ n h. subst (λ (z : ℕ). n < z) (length-map aids readAid ∙ pieces-length aidSize (L .packages) (drop (aidsAt L) img)) (entry-in (map readAid aids) [] n h)
+      ; tok-in = λ j k h.
+          let c = cell-in line (L .services) (λ l. length-map (pieces 2 (L .services) l) readTok ∙ pieces-length 2 (L .services) l) toks noTok j k h in
+          (subst (λ (z : ℕ). j < z) (pieces-length (L .services * 2) (L .packages) (drop (tokensAt L) img)) (c .0), c .1)
+      ; prov-in = λ j k h.
+          let r = row-bit L (L .services) (getD provs j []) k h in
+          (subst (λ (z : ℕ). j < z) (pieces-length (L .width) (L .packages) (drop (providesAt L) img)) (entry-in provs [] j (r .1)), r .0)
+      ; calls-in = table-in (callsAt L); grants-in = table-in (grantsAt L); needs-in = table-in (needsAt L) }
+    where
+      aids : List (List ℕ)
+      aids = pieces aidSize (L .packages) (drop (aidsAt L) img)
+
+      toks : List (List ℕ)
+      toks = pieces (L .services * 2) (L .packages) (drop (tokensAt L) img)
+
+      line : List ℕ → List Tok
+      line l = map readTok (pieces 2 (L .services) l)
+
+      provs : List (List ℕ)
+      provs = pieces (L .width) (L .packages) (drop (providesAt L) img)
+
+-- ---- tests of the items, to facts and back
+-- conjunctions as they stand in the tests
+both : (a b : Bool) → T (a && b) → T a × T b
+both a b h = (and-l a b h, and-r a b h)
+
+four : (a b c d : Bool) → T ((a && b) && (c && d)) → T a × T b × T c × T d
+four a b c d h = let p = both (a && b) (c && d) h in let q = both a b (p .0) in let r = both c d (p .1) in (q .0, q .1, r .0, r .1)
+
+four-back : (a b c d : Bool) → T a → T b → T c → T d → T ((a && b) && (c && d))
+four-back a b c d w x y z = and-i (a && b) (c && d) (and-i a b w x) (and-i c d y z)
+
+-- the nine items of sound tables
+abbrev nine : (a b c d e f g h i : Bool) → Bool
+nine a b c d e f g h i = (a && b) && (c && d) && (e && f) && (g && (h && i))
+
+nine-to : (a b c d e f g h i : Bool) → T (nine a b c d e f g h i) → T a × T b × T c × T d × T e × T f × T g × T h × T i
+nine-to a b c d e f g h i ok =
+    let p = both ((a && b) && (c && d) && (e && f)) (g && (h && i)) ok in
+    let q = both ((a && b) && (c && d)) (e && f) (p .0) in
+    let w = four a b c d (q .0) in
+    let x = both e f (q .1) in
+    let y = both g (h && i) (p .1) in
+    let z = both h i (y .1) in
+    (w .0, w .1, w .2, w .3, x .0, x .1, y .0, z .0, z .1)
+
+nine-back : (a b c d e f g h i : Bool) → T a → T b → T c → T d → T e → T f → T g → T h → T i → T (nine a b c d e f g h i)
+nine-back a b c d e f g h i r s t u v w x y z =
+    and-i ((a && b) && (c && d) && (e && f)) (g && (h && i))
+      (and-i ((a && b) && (c && d)) (e && f) (four-back a b c d r s t u) (and-i e f v w)) (and-i g (h && i) x (and-i h i y z))
+
+-- b at a place where a fails: the test of the place is at hand unless b holds there anyway
+blank-to : (a b : Bool) → ((T b → ⊥) → T (a || b)) → (T a → ⊥) → T b
+blank-to true b h n = absurd (n tt)
+blank-to false true h n = tt
+blank-to false false h n = h (λ u. u)
+
+blank-back : (a b : Bool) → ((T a → ⊥) → T b) → T (a || b)
+blank-back true b h = tt
+blank-back false b h = h (λ u. u)
+
+isNil→ : {A : Type 0} (l : List A) → T (isNil l) → l ≡ []
+isNil→ [] h = refl
+isNil→ (x ∷ l) h = absurd h
+
+nil-is : {A : Type 0} {l : List A} → l ≡ [] → T (isNil l)
+nil-is {A} e = subst (λ (z : List A). T (isNil z)) (sym e) tt
+
+-- what a search that found nothing says, and that it found nothing
+none-to : {A : Type 0} (P : Option A → Type 0) (o : Option A) → P o → T (not (isSome o)) → P none
+none-to P none p h = p
+none-to P (some x) p h = absurd h
+
+none-back : {A : Type 0} (P : Option A → Type 0) → ((x : A) → P (some x) → ⊥) → (o : Option A) → P o → T (not (isSome o))
+none-back P h none p = tt
+none-back P h (some x) p = h x p
+
+-- a test of every number below n
+below-to : (f : ℕ → Bool) (n : ℕ) → T (every f (upto n)) → (x : ℕ) → x < n → T (f x)
+below-to f n h x l = every-in f (upto n) h (in-upto n x l)
+
+below-back : (f : ℕ → Bool) (n : ℕ) → ((x : ℕ) → T (f x)) → T (every f (upto n))
+below-back f n h = in-every f (upto n) (λ x m. h x)
+
+-- f differs on a list whose image does not repeat
+map-inj : {A B : Type 0} (f : A → B) (l : List A) → NoRepeat (map f l) → {x y : A} → In x l → In y l → f x ≡ f y → x ≡ y
+map-inj f [] d m n e = absurd (in-nil m)
+map-inj f (z ∷ l) d {x} {y} m n e = go (λ p q. map-inj f l (d .1) p q e) (in-cons m) (in-cons n)
+  where
+    go : (In x l → In y l → x ≡ y) → (x ≡ z) ⊎ In x l → (y ≡ z) ⊎ In y l → x ≡ y
+    go ih (inl p) (inl q) = p ∙ sym q
+    go ih (inl p) (inr q) = absurd (d .0 (in-cast (ap f (sym p) ∙ e) (in-map f q)))
+    go ih (inr p) (inl q) = absurd (d .0 (in-cast (ap f (sym q) ∙ sym e) (in-map f p)))
+    go ih (inr p) (inr q) = ih p q
+
+-- the values of f at the numbers that pass differ: 'used AIDs differ', 'tokens provided by one package differ'
+module _ {A : Type 0} (eq : A → A → Bool) (eq→ : (x y : A) → T (eq x y) → x ≡ y) (eq-refl : (x : A) → T (eq x x)) (f : ℕ → A) (p : ℕ → Bool) (n : ℕ) where
+  differ-to : T (distinct eq (map f (keep p (upto n)))) → ((x : ℕ) → T (p x) → x < n) → (x y : ℕ) → T (p x) → T (p y) → f x ≡ f y → x ≡ y
+  differ-to h lt x y a b e = map-inj f (keep p (upto n)) (distinct→once eq eq→ eq-refl (map f (keep p (upto n))) h) (kept x a) (kept y b) e
+    where
+      kept : (z : ℕ) → T (p z) → In z (keep p (upto n))
+      kept z c = in-keep p (in-upto n z (lt z c)) c
+
+  differ-back : ((x y : ℕ) → T (p x) → T (p y) → f x ≡ f y → x ≡ y) → T (distinct eq (map f (keep p (upto n))))
+  differ-back inj = once→distinct eq eq→ eq-refl (map f (keep p (upto n)))
+      (once-map f (keep p (upto n)) (λ x y m o e. inj x y (keep-in p (upto n) m .1) (keep-in p (upto n) o .1) e) (once-keep p (upto n) (once-upto n)))
+
+-- every bit of a is one of b
+module _ (L : Layout) (a b : ℕ → ℕ → ℕ → Bool) where
+  abbrev bitOk : ℕ → ℕ → ℕ → Bool
+  bitOk i j k = implies (a i j k) (b i j k)
+  abbrev entryOk : ℕ → ℕ → Bool
+  entryOk i j = every (bitOk i j) (upto (L .services))
+  abbrev lineOk : ℕ → Bool
+  lineOk i = every (entryOk i) (upto (L .packages))
+
+  bits-to : T (everyBit L bitOk) → (i j k : ℕ) → BitIn L i j k → T (a i j k) → T (b i j k)
+  bits-to h i j k c = implies-e (a i j k) (b i j k)
+      (below-to (bitOk i j) (L .services) (below-to (entryOk i) (L .packages) (below-to lineOk (L .packages) h i (c .0)) j (c .1)) k (c .2))
+
+  bits-back : ((i j k : ℕ) → T (a i j k) → T (b i j k)) → T (everyBit L bitOk)
+  bits-back h = below-back lineOk (L .packages) (λ i. below-back (entryOk i) (L .packages) (λ j. below-back (bitOk i j) (L .services)
+      (λ k. implies-i (a i j k) (b i j k) (h i j k))))
+
+-- ---- the items, by the facts that they give
+module _ (L : Layout) (t : Tables) where
+  abbrev aidsValid : Bool
+  aidsValid = every (λ n. validAid (t .aid n)) (usedNumbers L t)
+  abbrev aidsDiffer : Bool
+  aidsDiffer = distinct eqAid (map (t .aid) (usedNumbers L t))
+  abbrev toksDiffer : ℕ → Bool
+  toksDiffer j = distinct eqTok (map (t .tok j) (keep (t .provides j) (places L t)))
+  abbrev aidBlank : ℕ → Bool
+  aidBlank n = t .used n || isNil (t .aid n)
+  abbrev tokBlank : ℕ → ℕ → Bool
+  tokBlank j k = t .provides j k || eqTok (t .tok j k) noTok
+  abbrev provUsed : ℕ → ℕ → Bool
+  provUsed j k = implies (t .provides j k) (t .used j)
+  abbrev everyNumber : (ℕ → Bool) → Bool
+  everyNumber f = every f (numbers L t)
+  abbrev everyPlace : (ℕ → ℕ → Bool) → Bool
+  everyPlace f = every (λ j. every (f j) (places L t)) (numbers L t)
+
+  place-to : (f : ℕ → ℕ → Bool) → T (everyPlace f) → (j k : ℕ) → j < L .packages → k < L .services → T (f j k)
+  place-to f h j k a b = below-to (f j) (L .services) (below-to (λ j. every (f j) (places L t)) (L .packages) h j a) k b
+
+  place-back : (f : ℕ → ℕ → Bool) → ((j k : ℕ) → T (f j k)) → T (everyPlace f)
+  place-back f h = below-back (λ j. every (f j) (places L t)) (L .packages) (λ j. below-back (f j) (L .services) (h j))
+
+  names-to : InRange L t → T (aidsOk L t) → T (tokensOk L t) → T (blanksOk L t) → Names L (t .used) (t .aid) (t .tok) (t .provides)
+  unfolding aidsOk tokensOk blanksOk
+  names-to r a s b =
+      let aids = both aidsValid aidsDiffer a in
+      let blanks = both (everyNumber aidBlank && everyPlace tokBlank) (everyPlace provUsed) b in
+      let zeros = both (everyNumber aidBlank) (everyPlace tokBlank) (blanks .0) in
+      record
+        { used-lt = r .used-in
+        ; prov-lt = λ j k h. r .prov-in j k h .1
+        ; prov-used = λ j k h. let c = r .prov-in j k h in implies-e (t .provides j k) (t .used j) (place-to provUsed (blanks .1) j k (c .0) (c .1)) h
+        ; aid-valid = λ n u. every-in (λ n. validAid (t .aid n)) (usedNumbers L t) (aids .0) (in-keep (t .used) (in-upto (L .packages) n (r .used-in n u)) u)
+        ; aid-blank = λ n u. isNil→ (t .aid n) (blank-to (t .used n) (isNil (t .aid n))
+            (λ f. below-to aidBlank (L .packages) (zeros .0) n (r .aid-in n (λ e. f (nil-is e)))) u)
+        ; tok-blank = λ j k p. eqTok→ (t .tok j k) noTok (blank-to (t .provides j k) (eqTok (t .tok j k) noTok)
+            (λ f. let c = r .tok-in j k (λ e. f (eqTok-of e)) in place-to tokBlank (zeros .1) j k (c .0) (c .1)) p)
+        ; aid-inj = differ-to eqAid eqAid→ eqAid-refl (t .aid) (t .used) (L .packages) (aids .1) (r .used-in)
+        ; tok-inj = λ j k l p. differ-to eqTok eqTok→ eqTok-refl (t .tok j) (t .provides j) (L .services)
+            (below-to toksDiffer (L .packages) s j (r .prov-in j k p .0)) (λ k q. r .prov-in j k q .1) k l p }
+
+  module _ (n : Names L (t .used) (t .aid) (t .tok) (t .provides)) where
+    aids-back : T (aidsOk L t)
+    unfolding aidsOk
+    aids-back = and-i aidsValid aidsDiffer
+        (in-every (λ n. validAid (t .aid n)) (usedNumbers L t) (λ x m. n .aid-valid x (keep-in (t .used) (numbers L t) m .1)))
+        (differ-back eqAid eqAid→ eqAid-refl (t .aid) (t .used) (L .packages) (n .aid-inj))
+
+    tokens-back : T (tokensOk L t)
+    unfolding tokensOk
+    tokens-back = below-back toksDiffer (L .packages) (λ j. differ-back eqTok eqTok→ eqTok-refl (t .tok j) (t .provides j) (L .services) (n .tok-inj j))
+
+    blanks-back : T (blanksOk L t)
+    unfolding blanksOk
+    blanks-back = and-i (everyNumber aidBlank && everyPlace tokBlank) (everyPlace provUsed)
+        (and-i (everyNumber aidBlank) (everyPlace tokBlank)
+          (below-back aidBlank (L .packages) (λ x. blank-back (t .used x) (isNil (t .aid x)) (λ u. nil-is (n .aid-blank x u))))
+          (place-back tokBlank (λ j k. blank-back (t .provides j k) (eqTok (t .tok j k) noTok) (λ p. eqTok-of (n .tok-blank j k p)))))
+        (place-back provUsed (λ j k. implies-i (t .provides j k) (t .used j) (n .prov-used j k)))
+
+  -- call and grant bits by caller, callee and service; and any bits
+  abbrev callOrGrant : ℕ → ℕ → ℕ → Bool
+  callOrGrant i j k = t .calls i j k || t .grants j i k
+  abbrev someBit : ℕ → ℕ → ℕ → Bool
+  someBit i j k = callOrGrant i j k || t .needs i j k
+  abbrev apart : ℕ → ℕ → ℕ → Bool
+  apart i j k = t .used i && t .used j && not (eqb i j)
+  abbrev provided : ℕ → ℕ → ℕ → Bool
+  provided i j k = t .provides j k
+
+  bits-formed : T (entriesOk L t) → T (bitsProvided L t) → (b : ℕ → ℕ → ℕ → Bool) → ((i j k : ℕ) → T (b i j k) → BitIn L i j k) → ((i j k : ℕ) → T (b i j k) → T (callOrGrant i j k))
+      → Bits (t .used) (t .provides) b
+  unfolding entriesOk bitsProvided
+  bits-formed e p b range one = record
+      { by-used = λ i j k h. and-l (t .used i) (t .used j) (and-l (t .used i && t .used j) (not (eqb i j)) (entry i j k h))
+      ; of-prov = λ i j k h. bits-to L callOrGrant provided p i j k (range i j k h) (one i j k h)
+      ; other = λ i j k h q. not-e (eqb i j) (and-r (t .used i && t .used j) (not (eqb i j)) (entry i j k h)) (eqb-of q) }
+    where
+      entry : (i j k : ℕ) → T (b i j k) → T (apart i j k)
+      entry i j k h = bits-to L someBit apart e i j k (range i j k h) (or-l (callOrGrant i j k) (t .needs i j k) (one i j k h))
+
+  -- what is said of every bit: of calls and grants, and of needs because they are among the calls
+  module _ (f : Formed L t) where
+    abbrev BitFacts : ℕ → ℕ → ℕ → Type 0
+    BitFacts i j k = T (t .used i) × T (t .provides j k) × (i ≡ j → ⊥)
+
+    bit-facts : (b : ℕ → ℕ → ℕ → Bool) → Bits (t .used) (t .provides) b → (i j k : ℕ) → T (b i j k) → BitFacts i j k
+    bit-facts b h i j k x = (h .by-used i j k x, h .of-prov i j k x, h .other i j k x)
+
+    one-facts : (i j k : ℕ) → T (callOrGrant i j k) → BitFacts i j k
+    one-facts i j k h = go (or-e (t .calls i j k) (t .grants j i k) h)
+      where
+        go : T (t .calls i j k) ⊎ T (t .grants j i k) → BitFacts i j k
+        go (inl x) = bit-facts (t .calls) (f .calls) i j k x
+        go (inr x) = bit-facts (grantBit t) (f .grants) i j k x
+
+    some-facts : (i j k : ℕ) → T (someBit i j k) → BitFacts i j k
+    some-facts i j k h = go (or-e (callOrGrant i j k) (t .needs i j k) h)
+      where
+        go : T (callOrGrant i j k) ⊎ T (t .needs i j k) → BitFacts i j k
+        go (inl x) = one-facts i j k x
+        go (inr x) = bit-facts (t .calls) (f .calls) i j k (f .need-call i j k x)
+
+    entries-back : T (entriesOk L t)
+    unfolding entriesOk
+    entries-back = bits-back L someBit apart (λ i j k h.
+        let c = some-facts i j k h in
+        and-i (t .used i && t .used j) (not (eqb i j)) (and-i (t .used i) (t .used j) (c .0) (f .names .prov-used j k (c .1))) (not-i (eqb i j) (λ q. c .2 (eqb→eq i j q))))
+
+    provided-back : T (bitsProvided L t)
+    unfolding bitsProvided
+    provided-back = bits-back L callOrGrant provided (λ i j k h. one-facts i j k h .1)
+
+    needs-back : T (needsCalled L t)
+    unfolding needsCalled
+    needs-back = bits-back L (t .needs) (t .calls) (f .need-call)
+
+  needs-to : InRange L t → T (needsCalled L t) → (i j k : ℕ) → T (t .needs i j k) → T (t .calls i j k)
+  unfolding needsCalled
+  needs-to r h i j k x = bits-to L (t .needs) (t .calls) h i j k (r .needs-in i j k x) x
+
+  granted-to : InRange L t → T (bitsGranted L t) → Lawful t
+  unfolding bitsGranted
+  granted-to r h i j k x = bits-to L (t .calls) (grantBit t) h i j k (r .calls-in i j k x) x
+
+  granted-back : Lawful t → T (bitsGranted L t)
+  unfolding bitsGranted
+  granted-back h = bits-back L (t .calls) (grantBit t) h
+
+  abbrev fits : Bool
+  fits = leb (length (t .unmet)) (L .capacity) && leb (length (t .waiting)) (L .capacity)
+  abbrev rowsDiffer : Bool
+  rowsDiffer = distinct eqUnmet (t .unmet) && distinct eqWaiting (t .waiting)
+
+  lists-to : T (listsOk L t) → Fitting L t × NoRepeat (t .unmet) × NoRepeat (t .waiting)
+  unfolding listsOk
+  lists-to h =
+      let c = both fits rowsDiffer h in
+      let l = both (leb (length (t .unmet)) (L .capacity)) (leb (length (t .waiting)) (L .capacity)) (c .0) in
+      let d = both (distinct eqUnmet (t .unmet)) (distinct eqWaiting (t .waiting)) (c .1) in
+      ( record { unmet-fits = leb→le (length (t .unmet)) (L .capacity) (l .0); waiting-fits = leb→le (length (t .waiting)) (L .capacity) (l .1) }
+      , distinct→once eqUnmet eqUnmet→ eqUnmet-refl (t .unmet) (d .0), distinct→once eqWaiting eqWaiting→ eqWaiting-refl (t .waiting) (d .1) )
+
+  lists-back : Fitting L t → NoRepeat (t .unmet) → NoRepeat (t .waiting) → T (listsOk L t)
+  unfolding listsOk
+  lists-back f u w = and-i fits rowsDiffer
+      (and-i (leb (length (t .unmet)) (L .capacity)) (leb (length (t .waiting)) (L .capacity))
+        (le→leb (length (t .unmet)) (L .capacity) (f .unmet-fits)) (le→leb (length (t .waiting)) (L .capacity) (f .waiting-fits)))
+      (and-i (distinct eqUnmet (t .unmet)) (distinct eqWaiting (t .waiting))
+        (once→distinct eqUnmet eqUnmet→ eqUnmet-refl (t .unmet) u) (once→distinct eqWaiting eqWaiting→ eqWaiting-refl (t .waiting) w))
+
+  -- a row of either list: a valid AID and a test of it, and two tests of the rest
+  abbrev other : Unmet → Bool
+  other u = not (eqAid (u .callee) (t .aid (u .caller)))
+  abbrev unserved : Unmet → Bool
+  unserved u = not (isSome (serverOf L t (wanted u)))
+  abbrev absent : Waiting → Bool
+  absent w = not (isSome (numberOf L t (w .caller)))
+  abbrev granting : Waiting → Bool
+  granting w = t .provides (w .callee) (w .service)
+
+  module _ (names : Names L (t .used) (t .aid) (t .tok) (t .provides)) where
+    unmet-to : T (rowsOk L t) → NoRepeat (t .unmet) → UnmetRows (t .used) (t .aid) (t .tok) (t .provides) (t .unmet)
+    unfolding rowsOk
+    unmet-to h once = record
+        { off = record
+            { off-used = λ u m. row u m .2
+            ; off-card = λ u m. none-to (ServerIs t (wanted u)) (serverOf L t (wanted u)) (server-is L t names (wanted u)) (row u m .3) }
+        ; unmet-valid = λ u m. row u m .0
+        ; unmet-other = λ u m e. not-e (eqAid (u .callee) (t .aid (u .caller))) (row u m .1) (eqAid-of e)
+        ; unmet-once = once }
+      where
+        row : (u : Unmet) → In u (t .unmet) → T (validAid (u .callee)) × T (other u) × T (t .used (u .caller)) × T (unserved u)
+        row u m = four (validAid (u .callee)) (other u) (t .used (u .caller)) (unserved u)
+            (every-in (unmetOk L t) (t .unmet) (and-l (every (unmetOk L t) (t .unmet)) (every (waitingOk L t) (t .waiting)) h) m)
+
+    waiting-to : T (rowsOk L t) → NoRepeat (t .waiting) → WaitingRows (t .used) (t .aid) (t .provides) (t .waiting)
+    unfolding rowsOk
+    waiting-to h once = record
+        { wait-valid = λ w m. row w m .0
+        ; wait-off = λ w m. none-to (NumberIs t (w .caller)) (numberOf L t (w .caller)) (number-is L t names (w .caller)) (row w m .1)
+        ; wait-prov = λ w m. row w m .3
+        ; wait-once = once }
+      where
+        row : (w : Waiting) → In w (t .waiting) → T (validAid (w .caller)) × T (absent w) × T (t .used (w .callee)) × T (granting w)
+        row w m = four (validAid (w .caller)) (absent w) (t .used (w .callee)) (granting w)
+            (every-in (waitingOk L t) (t .waiting) (and-r (every (unmetOk L t) (t .unmet)) (every (waitingOk L t) (t .waiting)) h) m)
+
+    rows-back : UnmetRows (t .used) (t .aid) (t .tok) (t .provides) (t .unmet) → WaitingRows (t .used) (t .aid) (t .provides) (t .waiting) → T (rowsOk L t)
+    unfolding rowsOk
+    rows-back r s = and-i (every (unmetOk L t) (t .unmet)) (every (waitingOk L t) (t .waiting))
+        (in-every (unmetOk L t) (t .unmet) (λ u m. four-back (validAid (u .callee)) (other u) (t .used (u .caller)) (unserved u)
+          (r .unmet-valid u m) (not-i (eqAid (u .callee) (t .aid (u .caller))) (λ e. r .unmet-other u m (eqAid→ (u .callee) (t .aid (u .caller)) e))) (r .off .off-used u m)
+          (none-back (ServerIs t (wanted u)) (λ p h. r .off .off-card u m (p .callee) (p .service) (h .0) (h .1) (h .2)) (serverOf L t (wanted u)) (server-is L t names (wanted u)))))
+        (in-every (waitingOk L t) (t .waiting) (λ w m. four-back (validAid (w .caller)) (absent w) (t .used (w .callee)) (granting w)
+          (s .wait-valid w m)
+          (none-back (NumberIs t (w .caller)) (λ n h. s .wait-off w m n (h .0) (h .1)) (numberOf L t (w .caller)) (number-is L t names (w .caller)))
+          (names .prov-used (w .callee) (w .service) (s .wait-prov w m)) (s .wait-prov w m)))
+
+  -- ---- all items together
+  module _ (r : InRange L t) (ok : T (soundTables L t)) where
+    items : T (aidsOk L t) × T (tokensOk L t) × T (blanksOk L t) × T (entriesOk L t) × T (bitsProvided L t) × T (needsCalled L t) × T (bitsGranted L t) × T (listsOk L t) × T (rowsOk L t)
+    unfolding soundTables
+    items = nine-to (aidsOk L t) (tokensOk L t) (blanksOk L t) (entriesOk L t) (bitsProvided L t) (needsCalled L t) (bitsGranted L t) (listsOk L t) (rowsOk L t) ok
+
+    tables-formed : Formed L t
+    tables-formed =
+        let names = names-to r (items .0) (items .1) (items .2) in
+        let lists = lists-to (items .7) in
+        record
+          { names = names
+          ; calls = bits-formed (items .3) (items .4) (t .calls) (r .calls-in) (λ i j k h. or-l (t .calls i j k) (t .grants j i k) h)
+          ; grants = bits-formed (items .3) (items .4) (grantBit t) (λ i j k h. let c = r .grants-in j i k h in (c .1, c .0, c .2)) (λ i j k h. or-r (t .calls i j k) (t .grants j i k) h)
+          ; need-call = needs-to r (items .5)
+          ; unmet = unmet-to names (items .8) (lists .1)
+          ; waiting = waiting-to names (items .8) (lists .2) }
+
+    tables-lawful : Lawful t
+    tables-lawful = granted-to r (items .6)
+
+    tables-fitting : Fitting L t
+    tables-fitting = lists-to (items .7) .0
+
+  pub sound-tables : Formed L t → Lawful t → Fitting L t → T (soundTables L t)
+  unfolding soundTables
+  sound-tables f l w =
+      nine-back (aidsOk L t) (tokensOk L t) (blanksOk L t) (entriesOk L t) (bitsProvided L t) (needsCalled L t) (bitsGranted L t) (listsOk L t) (rowsOk L t)
+        (aids-back (f .names)) (tokens-back (f .names)) (blanks-back (f .names)) (entries-back f) (provided-back f) (needs-back f) (granted-back l)
+        (lists-back w (f .unmet .unmet-once) (f .waiting .wait-once)) (rows-back (f .names) (f .unmet) (f .waiting))
+
+-- ---- the whole image
+module _ (L : Layout) where
+  abbrev sized : List ℕ → Bool
+  sized img = eqb (length img) (size L)
+  abbrev headed : List ℕ → Bool
+  headed img = eqBytes (take 3 img) (L .header)
+  abbrev written : List ℕ → Tables → Bool
+  written img t = eqBytes (encode L t) img
+
+  module _ (img : List ℕ) (ok : T (sound L img)) where
+    sound-decoded : T (soundTables L (decode L img))
+    unfolding sound
+    sound-decoded = four (sized img) (headed img) (written img (decode L img)) (soundTables L (decode L img)) ok .3
+
+    pub sound-formed : Formed L (decode L img)
+    sound-formed = tables-formed L (decode L img) (decode-in L img) sound-decoded
+
+    pub sound-lawful : Lawful (decode L img)
+    sound-lawful = tables-lawful L (decode L img) (decode-in L img) sound-decoded
+
+    pub sound-fitting : Fitting L (decode L img)
+    sound-fitting = tables-fitting L (decode L img) (decode-in L img) sound-decoded
+
+  pub sound-image : (t : Tables) → length (encode L t) ≡ size L → take 3 (encode L t) ≡ L .header → decode L (encode L t) ≡ t → Formed L t → Lawful t → Fitting L t → T (sound L (encode L t))
+  unfolding sound
+  sound-image t s h d f l w =
+      let img = encode L t in
+      subst (λ (x : Tables). T ((sized img && headed img) && (written img x && soundTables L x))) (sym d)
+        (four-back (sized img) (headed img) (written img t) (soundTables L t) (eqb-of s) (eqAid-of h) (eqBytes-refl img) (sound-tables L t f l w))

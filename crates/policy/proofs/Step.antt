@@ -1,0 +1,150 @@
+-- One record: the engine's definition and the plain machine answer alike, and what they leave stands for each other.
+use Prim.Native.Nat.{ℕ, zero, suc, _≤_, _<_}
+use native.Mathlib.Omega.{arith}
+use mathlib.Core.Path.{_≡_, refl, sym, ap, _∙_, subst}
+use mathlib.Core.Logic.{_⊎_, inl, inr, _↔_}
+use mathlib.Core.Bool.{Bool, true, false, not, cond}
+use mathlib.Core.List.{List, [], _∷_, _++_, map}
+use mathlib.Core.List.{List·Memᴰ as In}
+use mathlib.Core.Option.{Option, none, some}
+use lib.Dec.{T, leb, leb→le}
+use lib.ListN.{length, take}
+use Rattle.policy.specs.Lists.{implies, every, upto, isNil, NoRepeat}
+use Rattle.policy.specs.Contract.{Aid, Contract, validAid}
+use Rattle.policy.specs.Layout.{Layout, LayoutOk, size}
+use Rattle.policy.specs.Record.{Request, Change, load, remove, addService, removeService, addCall, removeCall, addGrant, removeGrant, addNeed, removeNeed, parse, proper}
+use Rattle.policy.specs.Causes.{Cause, _when_, answer}
+use Rattle.policy.specs.Machine.{Held, held, effect, causes4to7, causes8to11, causes3to11, machine}
+use Rattle.policy.specs.Tables.{Tables, Unmet, decode, encode}
+use Rattle.policy.specs.Lookup.{contractAt}
+use Rattle.policy.specs.Sound.{everyBit, sound}
+use Rattle.policy.specs.Draft.{Draft, Look, look, draft}
+use Rattle.policy.specs.Judge.{Out, refusal, tableCauses, lookCauses, judgeCauses, judged, judgeTables, judge}
+use Rattle.policy.specs.History.{SameContract, FourSets, StandsFor}
+use Rattle.policy.proofs.Sets.{T-true, true-T, false-T, not-i, not-e, implies-e, every-in, in-upto}
+use Rattle.policy.proofs.Formed.{Formed, Lawful, Fitting, Off, HasContract, Stands, Turns, KindTurns, Valid}
+use Rattle.policy.proofs.SoundFacts.{sound-formed, sound-image}
+use Rattle.policy.proofs.RoundTrip.{round-trip, length-encode, header-encode}
+use Rattle.policy.proofs.ContractAt.{same-contract, has-contract}
+use Rattle.policy.proofs.ParseFacts.{parse-valid}
+use Rattle.policy.proofs.Tests.{tests-agree}
+use Rattle.policy.proofs.Verdict.{looks-agree}
+use Rattle.policy.proofs.AllKinds.{kinds}
+use Rattle.policy.proofs.Answers.{answer-zero, answer-append, ascends, answer-append-zero, none-of-four}
+
+-- ---- images and tables
+pub stands-of : (L : Layout) (img : List ℕ) (cs : List Contract) → StandsFor L img cs → Stands (decode L img) [] cs
+stands-of L img cs f = record
+    { these = λ c m. let p = f .these c m in (p .0, p .1, has-contract L (decode L img) (sound-formed L img (f .is-sound)) (p .0) c (p .2))
+    ; no-others = f .no-others; one-each = f .one-each; four-sets = f .four-sets }
+
+pub image-stands : (L : Layout) → LayoutOk L → (t : Tables) (cs : List Contract) → Formed L t → Lawful t → Fitting L t → Stands t [] cs → StandsFor L (encode L t) cs
+image-stands L lo t cs g w fit st =
+    let e = round-trip L lo t g fit in
+    record
+      { is-sound = sound-image L t (length-encode L lo t g fit) (header-encode L lo t) e g w fit
+      ; these = λ c m. let p = st .these c m in
+          (p .0, subst (λ (z : Tables). T (z .used (p .0))) (sym e) (p .1), subst (λ (z : Tables). SameContract c (contractAt L z (p .0))) (sym e) (same-contract L t g (p .0) c (p .2)))
+      ; no-others = λ n u. let p = st .no-others n (subst (λ (z : Tables). T (z .used n)) e u) in (p .0, p .1, p .2 ∙ ap (λ (z : Tables). z .aid n) (sym e))
+      ; one-each = st .one-each; four-sets = st .four-sets }
+
+-- ---- an accepted draft
+granted-lawful : (L : Layout) (d : Draft) → Formed L (d .tables) → T (look L d .granted) → Lawful (d .tables)
+unfolding look
+granted-lawful L d g h i j k b =
+    let t = d .tables in
+    let pj = g .calls .of-prov i j k b in
+    let row = every-in (λ i. every (λ j. every (λ k. implies (t .calls i j k) (t .grants j i k)) (upto (L .services))) (upto (L .packages))) (upto (L .packages)) h
+          (in-upto (L .packages) i (g .names .used-lt i (g .calls .by-used i j k b))) in
+    let col = every-in (λ j. every (λ k. implies (t .calls i j k) (t .grants j i k)) (upto (L .services))) (upto (L .packages)) row
+          (in-upto (L .packages) j (g .names .used-lt j (g .names .prov-used j k pj))) in
+    implies-e (t .calls i j k) (t .grants j i k)
+      (every-in (λ k. implies (t .calls i j k) (t .grants j i k)) (upto (L .services)) col (in-upto (L .services) k (g .names .prov-lt j k pj))) b
+
+no-lost : (l : List Unmet) → T (isNil l) → l ≡ []
+no-lost [] t = refl
+no-lost (u ∷ l) t = absurd t
+
+-- no cause from 8 on: the tables are lawful and fit, and no need is lost
+pub accepted : (L : Layout) (d : Draft) → Formed L (d .tables) → answer (lookCauses L (look L d)) ≡ 0 → Lawful (d .tables) × Fitting L (d .tables) × (d .lost ≡ [])
+unfolding look
+accepted L d g e =
+    let p = none-of-four (look L d .granted) (look L d .needed) (look L d .unmetFits) (look L d .waitingFits) e in
+    ( granted-lawful L d g (p .0)
+    , record
+        { unmet-fits = leb→le (length (d .tables .unmet)) (L .capacity) (p .2)
+        ; waiting-fits = leb→le (length (d .tables .waiting)) (L .capacity) (p .3) }
+    , no-lost (d .lost) (p .1) )
+
+-- ---- the two lists of causes
+module _ (L : Layout) (t : Tables) (a : Aid) where
+  judge-ascends : (b : Bool) (c : Change) → T (ascends 2 (3 when b ∷ tableCauses L t a c))
+  judge-ascends b (load p c g n) = tt
+  judge-ascends b remove = tt
+  judge-ascends b (addService s l) = tt
+  judge-ascends b (removeService s) = tt
+  judge-ascends b (addCall r) = tt
+  judge-ascends b (removeCall r) = tt
+  judge-ascends b (addGrant r) = tt
+  judge-ascends b (removeGrant r) = tt
+  judge-ascends b (addNeed r) = tt
+  judge-ascends b (removeNeed r) = tt
+
+module _ (L : Layout) (lo : LayoutOk L) (t : Tables) (cs : List Contract) (g : Formed L t) (st : Stands t [] cs)
+    (q : Request) (va : T (validAid (q .aid))) (vc : Valid L (q .change)) where
+  abbrev a : Aid
+  a = q .aid
+  abbrev c : Change
+  c = q .change
+  abbrev d : Draft
+  d = draft L t a c
+  abbrev ds : List Contract
+  ds = effect cs a c
+
+  -- the causes of the record and of its lookups, on tables and by the contracts
+  abbrev early : List Cause
+  early = 3 when not (proper a c) ∷ tableCauses L t a c
+
+  turns : answer early ≡ 0 → Turns L d ds
+  turns e = let p = answer-zero 2 (not (proper a c)) (tableCauses L t a c) e in kinds c L t cs a g st va vc (not-false (proper a c) (p .0)) (p .1)
+    where
+      not-false : (b : Bool) → not b ≡ false → T b
+      not-false true e = tt
+      not-false false e = absurd (false-T e tt)
+
+  pub answers-agree : answer (judgeCauses L t q) ≡ answer (causes3to11 L cs q)
+  answers-agree =
+      answer-append early (lookCauses L (look L d)) (causes8to11 L ds) (λ e. let h = turns e in ap answer (looks-agree L d ds (h .formed) (h .lost-off) (h .stands)))
+      ∙ ap (λ (l : List Cause). answer (3 when not (proper a c) ∷ l ++ causes8to11 L ds)) (tests-agree L t cs g st a c)
+
+  pub accepted-stands : answer (judgeCauses L t q) ≡ 0 → StandsFor L (encode L (d .tables)) ds
+  accepted-stands e =
+      let p = answer-append-zero 2 early (lookCauses L (look L d)) (judge-ascends L t a (not (proper a c)) c) e in
+      let h = turns (p .0) in
+      let w = accepted L d (h .formed) (p .1) in
+      image-stands L lo (d .tables) ds (h .formed) (w .0) (w .1) (subst (λ (l : List Unmet). Stands (d .tables) l ds) (w .2) (h .stands))
+
+-- ---- the step
+module _ (L : Layout) (lo : LayoutOk L) (img s : List ℕ) (cs : List Contract) (f : StandsFor L img cs) where
+  abbrev Steps : Out → Held L → Type 0
+  Steps o h = (o .answered ≡ h .answered) × StandsFor L (o .bytes) (h .contracts)
+
+  -- both have answered n
+  settle : (d : Draft) (ds : List Contract) (n : ℕ) → (n ≡ 0 → StandsFor L (encode L (d .tables)) ds) → Steps (judged L img d n) (held L cs ds n)
+  settle d ds zero h = (refl, h refl)
+  settle d ds (suc n) h = (refl, f)
+
+  read : (o : Option Request) → parse L s ≡ o → Steps (judgeTables L img (decode L img) o) (elim o [ none ↦ held L cs cs 2 | some q ↦ held L cs (effect cs (q .aid) (q .change)) (answer (causes3to11 L cs q)) ])
+  read none e = (refl, f)
+  read (some q) e =
+      let v = parse-valid L s q e in
+      let g = sound-formed L img (f .is-sound) in
+      let st = stands-of L img cs f in
+      let d = draft L (decode L img) (q .aid) (q .change) in
+      let same = answers-agree L lo (decode L img) cs g st q (v .0) (v .1) in
+      subst (λ (n : ℕ). Steps (judged L img d (answer (judgeCauses L (decode L img) q))) (held L cs (effect cs (q .aid) (q .change)) n)) same
+        (settle d (effect cs (q .aid) (q .change)) (answer (judgeCauses L (decode L img) q)) (accepted-stands L lo (decode L img) cs g st q (v .0) (v .1)))
+
+  pub step : (judge L img s .answered ≡ machine L cs s .answered) × StandsFor L (judge L img s .bytes) (machine L cs s .contracts)
+  unfolding judge machine
+  step = subst (λ (b : Bool). Steps (cond b (judgeTables L img (decode L img) (parse L s)) (refusal 1 255 img)) (machine L cs s)) (sym (T-true (sound L img) (f .is-sound))) (read (parse L s) refl)

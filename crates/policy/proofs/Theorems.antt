@@ -1,0 +1,260 @@
+-- The theorems of specs/Claims.antt, for every layout that is ok, and at the card of 1,094 bytes.
+use Prim.Native.Nat.{ℕ, zero, suc, _+_, _≤_, _<_, zero-le}
+use native.Mathlib.Omega.{arith}
+use mathlib.Core.Path.{_≡_, refl, sym, ap, _∙_, subst}
+use mathlib.Core.Logic.{_⊎_, inl, inr, _↔_}
+use mathlib.Core.Bool.{Bool, true, false, not, _&&_, _||_, cond}
+use mathlib.Core.List.{List, [], _∷_, _++_, map}
+use mathlib.Core.List.{List·Memᴰ as In, List·Memᴰ·head as here, List·Memᴰ·tail as there, List·Memᴰ·cases-cons as in-cons, List·Memᴰ·not-nil as in-nil}
+use mathlib.Core.List.{List·Memᴰ·append-cases as in-append, Memᴰ·cast as in-cast}
+use mathlib.Core.Option.{Option, none, some}
+use lib.Dec.{T, eqb, eqb→eq, leb, leb→le, le→leb, ltb, ltb→lt, lit≤}
+use lib.ListN.{length, drop, length-append}
+use lib.Seq.{drop-append-seam}
+use Rattle.policy.specs.Lists.{every, exists, keep, orElse, isSome}
+use Rattle.policy.specs.Contract.{Aid, eqAid, Tok, Contract, under, lawful, callsGranted, needsMet, unmetCalls, waitingGrants}
+use Rattle.policy.specs.Layout.{Layout, LayoutOk, small, size}
+use Rattle.policy.specs.Record.{Request, Change, load, remove, addService, removeService, addCall, removeCall, addGrant, removeGrant, addNeed, removeNeed, parse, proper}
+use Rattle.policy.specs.Causes.{Cause, _when_, answer}
+use Rattle.policy.specs.Machine.{Held, held, effect, alter, altered, causes4to7, causes8to11, causes3to11, machine}
+use Rattle.policy.specs.Tables.{Tables, decode, encode, emptyImage}
+use Rattle.policy.specs.Lookup.{usedNumbers, numbers, contractAt}
+use Rattle.policy.specs.Sound.{sound}
+use Rattle.policy.specs.Draft.{Draft, look, draft}
+use Rattle.policy.specs.Judge.{Out, refusal, tableCauses, lookCauses, judgeCauses, judged, judgeTables, judge, check, writeEmpty, loadRecord, wrote, readOutTables, readOut}
+use Rattle.policy.specs.History.{SameContract, StandsFor, answers, imageAfter, machineAnswers, contractsAfter}
+use Rattle.policy.specs.Marked.{Case, cases}
+use Rattle.policy.specs.Claims.{MarkedCases, Agreement, HistoryOf, History, FitsLimits, AcceptedExactly, allCauses, IsFirst, FirstCause, SoundStands, ReadsOut, ReadOutAgain, RefusesWith, AnswersAlways}
+use Rattle.policy.proofs.Sets.{T-true, T-false, true-T, false-T, and-l, and-r, and-i, not-i, not-e, test, every-in, in-from, exists-in, in-map, keep-in}
+use Rattle.policy.proofs.Equal.{eqAid→}
+use Rattle.policy.proofs.Formed.{Formed, Lawful, Fitting, Stands}
+use Rattle.policy.proofs.Answers.{ascends, ascends-lt, ascends-front, answer-append-zero, first-is, none-of-four, four-none}
+use Rattle.policy.proofs.SoundFacts.{sound-formed, sound-lawful, sound-fitting}
+use Rattle.policy.proofs.RoundTrip.{emptyTables, empty-formed, empty-fitting, empty-encode}
+use Rattle.policy.proofs.ContractAt.{same-contract, stands-self}
+use Rattle.policy.proofs.Tests.{packages-fit, services-fit}
+use Rattle.policy.proofs.LawfulCard.{calls-granted, needs-present}
+use Rattle.policy.proofs.ReadOut.{length-keep, length-from, read-out-parses, read-out-proper}
+use Rattle.policy.proofs.Step.{stands-of, image-stands, step}
+
+-- ---- 2. one record
+pub agreement : (L : Layout) → LayoutOk L → Agreement L
+agreement L lo img s cs f = step L lo img s cs f
+
+-- ---- 3. histories
+-- the empty image stands for no contracts
+pub empty-stands : (L : Layout) → LayoutOk L → StandsFor L (emptyImage L) []
+empty-stands L lo = subst (λ (z : List ℕ). StandsFor L z []) (empty-encode L lo)
+    (image-stands L lo emptyTables [] (empty-formed L) (λ i j k b. absurd b) (empty-fitting L)
+      (record { these = λ c m. absurd (in-nil m); no-others = λ n u. absurd u; one-each = tt; four-sets = λ c m. absurd (in-nil m) }))
+
+module _ (L : Layout) (lo : LayoutOk L) where
+  equal-answers : (ss : List (List ℕ)) (img : List ℕ) (cs : List Contract) → StandsFor L img cs → answers L img ss ≡ machineAnswers L cs ss
+  unfolding answers machineAnswers
+  equal-answers [] img cs f = refl
+  equal-answers (s ∷ ss) img cs f = let p = step L lo img s cs f in λ i. p .0 i ∷ equal-answers ss (judge L img s .bytes) (machine L cs s .contracts) (p .1) i
+
+  stands-after : (ss : List (List ℕ)) (img : List ℕ) (cs : List Contract) → StandsFor L img cs → StandsFor L (imageAfter L img ss) (contractsAfter L cs ss)
+  unfolding imageAfter contractsAfter
+  stands-after [] img cs f = f
+  stands-after (s ∷ ss) img cs f = stands-after ss (judge L img s .bytes) (machine L cs s .contracts) (step L lo img s cs f .1)
+
+  -- the contracts that an image stands for are lawful, as facts
+  module _ (img : List ℕ) (cs : List Contract) (f : StandsFor L img cs) where
+    pub standing-granted : Rattle.policy.specs.Claims.CallsGranted cs
+    standing-granted = calls-granted L (decode L img) cs (sound-formed L img (f .is-sound)) (sound-lawful L img (f .is-sound)) (stands-of L img cs f)
+
+    pub standing-present : Rattle.policy.specs.Claims.NeedsPresent cs
+    standing-present = needs-present L (decode L img) cs (sound-formed L img (f .is-sound)) (sound-lawful L img (f .is-sound)) (stands-of L img cs f)
+
+  pub history : History L
+  history ss =
+      let f = stands-after ss (emptyImage L) [] (empty-stands L lo) in
+      record
+        { equal-answers = equal-answers ss (emptyImage L) [] (empty-stands L lo)
+        ; stands-for = f
+        ; calls-granted = standing-granted (imageAfter L (emptyImage L) ss) (contractsAfter L [] ss) f
+        ; needs-present = standing-present (imageAfter L (emptyImage L) ss) (contractsAfter L [] ss) f }
+
+-- ---- 4. demand 2
+module _ (L : Layout) (lo : LayoutOk L) where
+  -- the machine's answer to a record that was read
+  machine-answer : (cs ds : List Contract) (n : ℕ) → held L cs ds n .answered ≡ n
+  machine-answer cs ds zero = refl
+  machine-answer cs ds (suc n) = refl
+
+  machine-read : (cs : List Contract) (s : List ℕ) (q : Request) → parse L s ≡ some q → machine L cs s ≡ held L cs (effect cs (q .aid) (q .change)) (answer (causes3to11 L cs q))
+  unfolding machine
+  machine-read cs s q e = ap (λ (o : Option Request). elim o [ none ↦ held L cs cs 2 | some q ↦ held L cs (effect cs (q .aid) (q .change)) (answer (causes3to11 L cs q)) ]) e
+
+  read-answer : (img s : List ℕ) (cs : List Contract) (q : Request) → StandsFor L img cs → parse L s ≡ some q → judge L img s .answered ≡ answer (causes3to11 L cs q)
+  read-answer img s cs q f e = step L lo img s cs f .0 ∙ ap (λ (h : Held L). h .answered) (machine-read cs s q e) ∙ machine-answer cs (effect cs (q .aid) (q .change)) (answer (causes3to11 L cs q))
+
+  -- causes go up
+  causes-ascend : (cs ds : List Contract) (a : Aid) (b : Bool) (c : Change) → T (ascends 1 (2 when false ∷ 3 when b ∷ causes4to7 L cs a c ++ causes8to11 L ds))
+  causes-ascend cs ds a b (load p c g n) = tt
+  causes-ascend cs ds a b remove = tt
+  causes-ascend cs ds a b (addService s l) = tt
+  causes-ascend cs ds a b (removeService s) = tt
+  causes-ascend cs ds a b (addCall r) = tt
+  causes-ascend cs ds a b (removeCall r) = tt
+  causes-ascend cs ds a b (addGrant r) = tt
+  causes-ascend cs ds a b (removeGrant r) = tt
+  causes-ascend cs ds a b (addNeed r) = tt
+  causes-ascend cs ds a b (removeNeed r) = tt
+
+  machine-ascends : (cs : List Contract) (a : Aid) (b : Bool) (c : Change) → T (ascends 1 (2 when false ∷ 3 when b ∷ causes4to7 L cs a c))
+  machine-ascends cs a b c = ascends-front 1 (2 when false ∷ 3 when b ∷ causes4to7 L cs a c) (causes8to11 L []) (causes-ascend cs [] a b c)
+
+  pub unsound-refused : (img s : List ℕ) → (T (sound L img) → ⊥) → judge L img s ≡ refusal 1 255 img
+  unfolding judge
+  unsound-refused img s h = ap (λ (b : Bool). cond b (judgeTables L img (decode L img) (parse L s)) (refusal 1 255 img)) (T-false (sound L img) h)
+
+  machine-malformed : (cs : List Contract) (s : List ℕ) → parse L s ≡ none → machine L cs s ≡ held L cs cs 2
+  unfolding machine
+  machine-malformed cs s e = ap (λ (o : Option Request). elim o [ none ↦ held L cs cs 2 | some q ↦ held L cs (effect cs (q .aid) (q .change)) (answer (causes3to11 L cs q)) ]) e
+
+  pub first-cause : FirstCause L
+  first-cause img s = (unsound-refused img s, λ cs f. go cs f (parse L s) refl)
+    where
+      go : (cs : List Contract) → StandsFor L img cs → (o : Option Request) → parse L s ≡ o → IsFirst (judge L img s .answered) (orElse o (2 when true ∷ []) (λ q. 2 when false ∷ causes3to11 L cs q))
+      go cs f none e = subst (λ (n : ℕ). IsFirst n (2 when true ∷ [])) (sym (step L lo img s cs f .0 ∙ ap (λ (h : Held L). h .answered) (machine-malformed cs s e))) (first-is 1 (2 when true ∷ []) tt)
+      go cs f (some q) e =
+          subst (λ (n : ℕ). IsFirst n (2 when false ∷ causes3to11 L cs q)) (sym (read-answer img s cs q f e))
+            (first-is 1 (2 when false ∷ causes3to11 L cs q) (causes-ascend cs (effect cs (q .aid) (q .change)) (q .aid) (not (proper (q .aid) (q .change))) (q .change)))
+
+  pub sound-stands : SoundStands L
+  sound-stands img ok =
+      let t = decode L img in
+      let g = sound-formed L img ok in
+      let st = stands-self L t g in
+      ( map (contractAt L t) (usedNumbers L t)
+      , record
+          { is-sound = ok
+          ; these = λ c m. let p = st .these c m in (p .0, p .1, same-contract L t g (p .0) c (p .2))
+          ; no-others = st .no-others; one-each = st .one-each; four-sets = st .four-sets } )
+
+  -- ---- accepted exactly
+  -- no cause of a list applies
+  abbrev Silent : List Cause → Type 0
+  Silent l = (k : Cause) → In k l → T (k .applies) → ⊥
+
+  silent-append : (l m : List Cause) → Silent l → answer (l ++ m) ≡ answer m
+  silent-append [] m h = refl
+  silent-append (c ∷ l) m h = ap (λ (b : Bool). cond b (c .number) (answer (l ++ m))) (T-false (c .applies) (h c (here refl))) ∙ silent-append l m (λ k n. h k (there n))
+
+  -- causes 4 to 7 that apply to a change whose contracts fit are below 7
+  early-below : (cs : List Contract) (l : List Cause) → T (every (λ k. ltb (k .number) 7) l) → (k : Cause) → In k l → k .number < 7
+  early-below cs l t k m = ltb→lt (k .number) 7 (every-in (λ k. ltb (k .number) 7) l t m)
+
+  module _ (cs : List Contract) (a : Aid) where
+    -- after the causes that are below 7, one that cannot apply
+    below-or : (l : List Cause) (c : Cause) → T (every (λ k. ltb (k .number) 7) l) → (T (c .applies) → ⊥) → (k : Cause) → In k (l ++ (c ∷ [])) → T (k .applies) → k .number < 7
+    below-or l c t h k m w = go (in-append l m)
+      where
+        last : (k ≡ c) ⊎ In k [] → k .number < 7
+        last (inl e) = absurd (h (subst (λ (z : Cause). T (z .applies)) e w))
+        last (inr n) = absurd (in-nil n)
+
+        go : In k l ⊎ In k (c ∷ []) → k .number < 7
+        go (inl n) = early-below cs l t k n
+        go (inr n) = last (in-cons n)
+
+    -- a package that kind 3 makes fit has a service number free
+    full : (s : Tok) (l : List Aid) → FitsLimits L (effect cs a (addService s l)) → T (under cs a (λ k. leb (L .services) (length (k .provides)))) → ⊥
+    full s l fit t =
+        let f : Contract → Contract = λ k. cond (eqAid (k .aid) a) (altered (addService s l) k) k in
+        let p = exists-in (λ k. eqAid (k .aid) a && leb (L .services) (length (k .provides))) cs t in
+        let x = and-l (eqAid (p .0 .aid) a) (leb (L .services) (length (p .0 .provides))) (p .2) in
+        let y = leb→le (L .services) (length (p .0 .provides)) (and-r (eqAid (p .0 .aid) a) (leb (L .services) (length (p .0 .provides))) (p .2)) in
+        let e : f (p .0) ≡ altered (addService s l) (p .0) = ap (λ (b : Bool). cond b (altered (addService s l) (p .0)) (p .0)) (T-true (eqAid (p .0 .aid) a) x) in
+        let z = fit .services-fit (altered (addService s l) (p .0)) (in-cast (sym e) (in-map (λ k. cond (eqAid (k .aid) a) (altered (addService s l) k) k) (p .1))) in
+        let n = length-append (p .0 .provides) (s ∷ []) in
+        omega arith
+
+    below : (c : Change) → FitsLimits L (effect cs a c) → (k : Cause) → In k (causes4to7 L cs a c) → T (k .applies) → k .number < 7
+    below (load p c g n) fit = below-or (4 when _ ∷ []) (7 when leb (L .packages) (length cs)) tt (λ t. let h = leb→le (L .packages) (length cs) t in let f = fit .packages-fit in omega arith)
+    below remove fit = λ k m w. early-below cs (causes4to7 L cs a remove) tt k m
+    below (addService s l) fit = below-or (5 when _ ∷ 6 when _ ∷ []) (7 when under cs a (λ k. leb (L .services) (length (k .provides)))) tt (full s l fit)
+    below (removeService s) fit = λ k m w. early-below cs (causes4to7 L cs a (removeService s)) tt k m
+    below (addCall r) fit = λ k m w. early-below cs (causes4to7 L cs a (addCall r)) tt k m
+    below (removeCall r) fit = λ k m w. early-below cs (causes4to7 L cs a (removeCall r)) tt k m
+    below (addGrant r) fit = λ k m w. early-below cs (causes4to7 L cs a (addGrant r)) tt k m
+    below (removeGrant r) fit = λ k m w. early-below cs (causes4to7 L cs a (removeGrant r)) tt k m
+    below (addNeed r) fit = λ k m w. early-below cs (causes4to7 L cs a (addNeed r)) tt k m
+    below (removeNeed r) fit = λ k m w. early-below cs (causes4to7 L cs a (removeNeed r)) tt k m
+
+  -- what the machine leaves of an accepted record
+  accepted-contracts : (img s : List ℕ) (cs : List Contract) (q : Request) → StandsFor L img cs → parse L s ≡ some q → answer (causes3to11 L cs q) ≡ 0
+    → StandsFor L (judge L img s .bytes) (effect cs (q .aid) (q .change))
+  accepted-contracts img s cs q f e z =
+      subst (λ (ds : List Contract). StandsFor L (judge L img s .bytes) ds)
+        (ap (λ (h : Held L). h .contracts) (machine-read cs s q e) ∙ ap (λ (n : ℕ). held L cs (effect cs (q .aid) (q .change)) n .contracts) z)
+        (step L lo img s cs f .1)
+
+  module _ (img s : List ℕ) (cs : List Contract) (q : Request) (f : StandsFor L img cs) (e : parse L s ≡ some q) (pr : T (proper (q .aid) (q .change)))
+      (free : (k : Cause) → In k (causes4to7 L cs (q .aid) (q .change)) → k .number < 7 → T (k .applies) → ⊥) where
+    abbrev ds : List Contract
+    ds = effect cs (q .aid) (q .change)
+
+    abbrev early : List Cause
+    early = 3 when not (proper (q .aid) (q .change)) ∷ causes4to7 L cs (q .aid) (q .change)
+
+    fits-if-accepted : judge L img s .answered ≡ 0 → T (lawful ds) × FitsLimits L ds
+    fits-if-accepted z =
+        let n : answer (causes3to11 L cs q) ≡ 0 = sym (read-answer img s cs q f e) ∙ z in
+        let p = answer-append-zero 1 (2 when false ∷ early) (causes8to11 L ds) (machine-ascends cs (q .aid) (not (proper (q .aid) (q .change))) (q .change)) n in
+        let v = none-of-four (callsGranted ds) (needsMet ds) (leb (length (unmetCalls ds)) (L .capacity)) (leb (length (waitingGrants ds)) (L .capacity)) (p .1) in
+        let st = accepted-contracts img s cs q f e n in
+        let after = stands-of L (judge L img s .bytes) ds st in
+        let names = sound-formed L (judge L img s .bytes) (st .is-sound) .names in
+        ( and-i (callsGranted ds) (needsMet ds) (v .0) (v .1)
+        , record
+            { packages-fit = packages-fit L (decode L (judge L img s .bytes)) [] ds names after
+            ; services-fit = services-fit L (decode L (judge L img s .bytes)) [] ds names after
+            ; unmet-fit = leb→le (length (unmetCalls ds)) (L .capacity) (v .2)
+            ; waiting-fit = leb→le (length (waitingGrants ds)) (L .capacity) (v .3) } )
+
+    silent : FitsLimits L ds → Silent early
+    silent fit k m w = go (in-cons m)
+      where
+        go : (k ≡ 3 when not (proper (q .aid) (q .change))) ⊎ In k (causes4to7 L cs (q .aid) (q .change)) → ⊥
+        go (inl x) = not-e (proper (q .aid) (q .change)) (subst (λ (z : Cause). T (z .applies)) x w) pr
+        go (inr n) = free k n (below cs (q .aid) (q .change) fit k n w) w
+
+    accepted-if-fits : T (lawful ds) × FitsLimits L ds → judge L img s .answered ≡ 0
+    accepted-if-fits h =
+        read-answer img s cs q f e ∙ silent-append early (causes8to11 L ds) (silent (h .1))
+        ∙ four-none (callsGranted ds) (needsMet ds) (leb (length (unmetCalls ds)) (L .capacity)) (leb (length (waitingGrants ds)) (L .capacity))
+            (and-l (callsGranted ds) (needsMet ds) (h .0)) (and-r (callsGranted ds) (needsMet ds) (h .0))
+            (le→leb (length (unmetCalls ds)) (L .capacity) (h .1 .unmet-fit)) (le→leb (length (waitingGrants ds)) (L .capacity) (h .1 .waiting-fit))
+
+  pub accepted-exactly : AcceptedExactly L
+  accepted-exactly img s cs q f e pr free = (fits-if-accepted img s cs q f e pr free, accepted-if-fits img s cs q f e pr free)
+
+-- ---- 6. reading out
+module _ (L : Layout) (lo : LayoutOk L) where
+  pub read-out-again : ReadOutAgain L
+  read-out-again img n ok un =
+      let t = decode L img in
+      let g = sound-formed L img ok in
+      let fit = sound-fitting L img ok in
+      record
+        { parses = λ c e. subst (λ (k : Contract). parse L (loadRecord L k) ≡ some (record { aid = k .aid; change = load (k .provides) (k .calls) (k .grants) (k .needs) })) (sym e) (read-out-parses L lo t g fit n un)
+        ; is-proper = λ c e. subst (λ (k : Contract). T (proper (k .aid) (load (k .provides) (k .calls) (k .grants) (k .needs)))) (sym e) (read-out-proper L lo t g fit n un)
+        ; loads-again = λ c e img₂ z. again c (subst (λ (k : Contract). parse L (loadRecord L k) ≡ some (record { aid = k .aid; change = load (k .provides) (k .calls) (k .grants) (k .needs) })) (sym e) (read-out-parses L lo t g fit n un)) img₂ z }
+    where
+      again : (c : Contract) → parse L (loadRecord L c) ≡ some (record { aid = c .aid; change = load (c .provides) (c .calls) (c .grants) (c .needs) }) → (img₂ : List ℕ) → judge L img₂ (loadRecord L c) .answered ≡ 0
+        → (m : ℕ) × T (decode L (judge L img₂ (loadRecord L c) .bytes) .used m) × SameContract c (contractAt L (decode L (judge L img₂ (loadRecord L c) .bytes)) m)
+      again c e img₂ z = go (test (sound L img₂))
+        where
+          go : T (sound L img₂) ⊎ (T (sound L img₂) → ⊥) → (m : ℕ) × T (decode L (judge L img₂ (loadRecord L c) .bytes) .used m) × SameContract c (contractAt L (decode L (judge L img₂ (loadRecord L c) .bytes)) m)
+          go (inl h) =
+              let q : Request = record { aid = c .aid; change = load (c .provides) (c .calls) (c .grants) (c .needs) } in
+              let p = sound-stands L lo img₂ h in
+              let f = accepted-contracts L lo img₂ (loadRecord L c) (p .0) q (p .1) e (sym (read-answer L lo img₂ (loadRecord L c) (p .0) q (p .1) e) ∙ z) in
+              f .these c (here refl)
+          go (inr h) = absurd (one-not-zero (sym (ap (λ (o : Out). o .answered) (first-cause L lo img₂ (loadRecord L c) .0 h)) ∙ z))
+            where
+              one-not-zero : _≡_ {A = ℕ} 1 0 → ⊥
+              one-not-zero e = omega arith

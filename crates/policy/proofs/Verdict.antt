@@ -1,0 +1,268 @@
+-- Causes 8 to 11: the full look at a draft's tables finds what the contracts that they stand for say together.
+use Prim.Native.Nat.{ℕ}
+use mathlib.Core.Path.{_≡_, refl, sym, ap, _∙_, subst}
+use mathlib.Core.Bool.{Bool, true, not, _&&_}
+use mathlib.Core.List.{List, [], _∷_, map}
+use mathlib.Core.List.{List·Memᴰ as In, List·Memᴰ·head as here, List·Memᴰ·not-nil as in-nil, List·Memᴰ·cases-cons as in-cons, Memᴰ·cast as in-cast}
+use mathlib.Core.Logic.{_⊎_, inl, inr}
+use lib.Dec.{T, leb}
+use lib.ListN.{length, length-map}
+use Rattle.policy.specs.Lists.{implies, every, keep, flat, upto, isNil, NoRepeat}
+use Rattle.policy.specs.Contract.{Aid, eqAid, Row, Contract, Link, hasTok, hasRow, under, installed, met, waits, grantedTo, callsGranted, needsMet, unmetCalls, waitingGrants}
+use Rattle.policy.specs.Layout.{Layout}
+use Rattle.policy.specs.Causes.{_when_}
+use Rattle.policy.specs.Machine.{causes8to11}
+use Rattle.policy.specs.Tables.{Tables, Unmet, Waiting}
+use Rattle.policy.specs.Lookup.{serviceAt, wanted, grantAt}
+use Rattle.policy.specs.Sound.{everyBit}
+use Rattle.policy.specs.Draft.{Draft, callRow, look}
+use Rattle.policy.specs.Judge.{lookCauses}
+use Rattle.policy.proofs.Sets.{T-eq, and-l, and-r, and-i, implies-i, implies-e, not-i, not-e, same-length, every-in, in-every, exists-in, in-exists, keep-in, in-keep, once-keep, in-map, map-in, once-map, in-flat, flat-in, once-flat, in-upto}
+use Rattle.policy.proofs.Equal.{eqAid→, eqAid-of, has-tok, tok-has, has-row, row-has}
+use Rattle.policy.proofs.Formed.{Off, Formed, ProvidesAt, RowAt, GrantAt, HasContract, Stands}
+use Rattle.policy.proofs.Found.{same-place}
+
+-- ---- a list whose elements have different values of f does not repeat, and f is injective on it
+module _ {A B : Type 0} (f : A → B) where
+  once-of-map : (l : List A) → NoRepeat (map f l) → NoRepeat l
+  once-of-map [] d = tt
+  once-of-map (x ∷ l) d = (λ m. d .0 (in-map f m), once-of-map l (d .1))
+
+  inj-of-map : (l : List A) → NoRepeat (map f l) → (x y : A) → In x l → In y l → f x ≡ f y → x ≡ y
+  inj-of-map [] d x y m n e = absurd (in-nil m)
+  inj-of-map (z ∷ l) d x y m n e = go (in-cons m) (in-cons n) (λ p q. inj-of-map l (d .1) x y p q e)
+    where
+      go : (x ≡ z) ⊎ In x l → (y ≡ z) ⊎ In y l → (In x l → In y l → x ≡ y) → x ≡ y
+      go (inl p) (inl q) ih = p ∙ sym q
+      go (inl p) (inr q) ih = absurd (d .0 (in-cast (sym (ap f p) ∙ e) (in-map f q)))
+      go (inr p) (inl q) ih = absurd (d .0 (in-cast (sym (ap f q) ∙ sym e) (in-map f p)))
+      go (inr p) (inr q) ih = ih p q
+
+-- ---- a test of every bit, as a fact about those within the sizes
+module _ (L : Layout) (f : ℕ → ℕ → ℕ → Bool) where
+  bits-i : ((i j k : ℕ) → T (f i j k)) → T (everyBit L f)
+  bits-i h =
+      in-every (λ i. every (λ j. every (f i j) (upto (L .services))) (upto (L .packages))) (upto (L .packages)) (λ i _.
+        in-every (λ j. every (f i j) (upto (L .services))) (upto (L .packages)) (λ j _. in-every (f i j) (upto (L .services)) (λ k _. h i j k)))
+
+  bits-e : T (everyBit L f) → (i j k : ℕ) → In i (upto (L .packages)) → In j (upto (L .packages)) → In k (upto (L .services)) → T (f i j k)
+  bits-e h i j k mi mj mk =
+      every-in (f i j) (upto (L .services))
+        (every-in (λ j. every (f i j) (upto (L .services))) (upto (L .packages))
+          (every-in (λ i. every (λ j. every (f i j) (upto (L .services))) (upto (L .packages))) (upto (L .packages)) h mi) mj) mk
+
+module _ (L : Layout) (t : Tables) (lost : List Unmet) (ds : List Contract) (g : Formed L t) (st : Stands t lost ds) where
+  -- the contract of a used number
+  contract-of : (n : ℕ) → T (t .used n) → (c : Contract) × In c ds × HasContract t lost n c
+  contract-of n u =
+      let p = st .no-others n u in
+      let h = st .these (p .0) (p .1) in
+      let e : h .0 ≡ n = g .names .aid-inj (h .0) n (h .1) u (sym (h .2 .aid) ∙ p .2) in
+      (p .0, p .1, subst (λ (z : ℕ). HasContract t lost z (p .0)) e (h .2))
+
+  -- a test of the contract under an AID, as a fact about the package with that AID
+  under-i : (n : ℕ) → T (t .used n) → (a : Aid) → t .aid n ≡ a → (f : Contract → Bool) → ((c : Contract) → HasContract t lost n c → T (f c)) → T (under ds a f)
+  under-i n u a e f h =
+      let p = contract-of n u in
+      in-exists (λ c. eqAid (c .aid) a && f c) (p .1) (and-i (eqAid (p .0 .aid) a) (f (p .0)) (eqAid-of (p .2 .aid ∙ e)) (h (p .0) (p .2)))
+
+  under-e : (a : Aid) (f : Contract → Bool) → T (under ds a f) → (n : ℕ) × T (t .used n) × (t .aid n ≡ a) × (c : Contract) × HasContract t lost n c × T (f c)
+  under-e a f h =
+      let p = exists-in (λ c. eqAid (c .aid) a && f c) ds h in
+      let s = st .these (p .0) (p .1) in
+      let e = eqAid→ (p .0 .aid) a (and-l (eqAid (p .0 .aid) a) (f (p .0)) (p .2)) in
+      (s .0, s .1, sym (s .2 .aid) ∙ e, p .0, s .2, and-r (eqAid (p .0 .aid) a) (f (p .0)) (p .2))
+
+  -- a call is met where its service is on the card
+  met-i : (r : Row) (j k : ℕ) → T (t .provides j k) → r ≡ serviceAt t j k → T (met ds r)
+  met-i r j k p e =
+      under-i j (g .names .prov-used j k p) (r .aid) (λ i. sym e i .aid) (λ c. hasTok (r .tok) (c .provides))
+        (λ c h. tok-has (h .provides (r .tok) .1 (ProvidesAt.at k p (λ i. e i .tok))))
+
+  met-e : (r : Row) → T (met ds r) → (j : ℕ) × (k : ℕ) × T (t .provides j k) × (t .aid j ≡ r .aid) × (t .tok j k ≡ r .tok)
+  met-e r h = let p = under-e (r .aid) (λ c. hasTok (r .tok) (c .provides)) h in go (p .0) (p .2) (p .4 .provides (r .tok) .0 (has-tok (r .tok) (p .3 .provides) (p .5)))
+    where
+      go : (j : ℕ) → t .aid j ≡ r .aid → ProvidesAt t j (r .tok) → (j : ℕ) × (k : ℕ) × T (t .provides j k) × (t .aid j ≡ r .aid) × (t .tok j k ≡ r .tok)
+      go j e (ProvidesAt.at k p f) = (j, k, p, e, sym f)
+
+  -- rows on services that are not on the card are not met
+  off-met : (l : List Unmet) → Off (t .used) (t .aid) (t .tok) (t .provides) l → (u : Unmet) → In u l → T (met ds (wanted u)) → ⊥
+  off-met l off u m h = let p = met-e (wanted u) h in off .off-card u m (p .0) (p .1) (p .2) (p .3) (p .4)
+
+  -- ---- cause 8
+  -- a call bit has its grant bit; a call that is met is granted
+  abbrev grantedAt : ℕ → ℕ → ℕ → Bool
+  grantedAt i j k = implies (t .calls i j k) (t .grants j i k)
+
+  abbrev allowed : Contract → Row → Bool
+  allowed c r = implies (met ds r) (grantedTo ds (c .aid) r)
+
+  -- the grant that a call of contract c asks for
+  abbrev asked : Contract → Row → Row
+  asked c r = record { aid = c .aid; tok = r .tok }
+
+  granted-bit : (i j k : ℕ) → T (t .used i) → T (t .provides j k) → (r : Row) → r .aid ≡ t .aid i → r .tok ≡ t .tok j k → GrantAt t j r → T (t .grants j i k)
+  granted-bit i j k u p r e f (GrantAt.bit i′ k′ b e′ f′) =
+      let ei : i′ ≡ i = g .names .aid-inj i′ i (g .grants .by-used i′ j k′ b) u (sym e′ ∙ e) in
+      let ek : k′ ≡ k = g .names .tok-inj j k′ k (g .grants .of-prov i′ j k′ b) p (sym f′ ∙ f) in
+      subst (λ (z : ℕ). T (t .grants j i z)) ek (subst (λ (z : ℕ). T (t .grants j z k′)) ei b)
+  granted-bit i j k u p r e f (GrantAt.row k′ m f′) = absurd (g .waiting .wait-off _ m i u (sym e))
+
+  granted : everyBit L grantedAt ≡ callsGranted ds
+  unfolding callsGranted
+  granted = T-eq (everyBit L grantedAt) (callsGranted ds) to fro
+    where
+      -- a met call of package n is a bit, so it has its grant bit
+      have : T (everyBit L grantedAt) → (c : Contract) (n : ℕ) → HasContract t lost n c → (r : Row) → T (met ds r)
+          → RowAt t (t .calls) (t .unmet) n r → T (grantedTo ds (c .aid) r)
+      have h c n hc r m (RowAt.bit j k b e) =
+          let p = g .calls .of-prov n j k b in
+          let uj = g .names .prov-used j k p in
+          let b′ : T (t .grants j n k) = implies-e (t .calls n j k) (t .grants j n k)
+                (bits-e L grantedAt h n j k
+                  (in-upto (L .packages) n (g .names .used-lt n (g .calls .by-used n j k b)))
+                  (in-upto (L .packages) j (g .names .used-lt j uj)) (in-upto (L .services) k (g .names .prov-lt j k p))) b in
+          under-i j uj (r .aid) (λ i. sym e i .aid) (λ d. hasRow (asked c r) (d .grants))
+            (λ d hd. row-has (hd .grants (asked c r) .1 (GrantAt.bit n k b′ (hc .aid) (λ i. e i .tok))))
+      have h c n hc r m (RowAt.row n′) = absurd (off-met (t .unmet) (g .unmet .off) (callRow n r) n′ m)
+
+      to : T (everyBit L grantedAt) → T (callsGranted ds)
+      to h = in-every (λ c. every (allowed c) (c .calls)) ds (λ c mc.
+          let p = st .these c mc in
+          in-every (allowed c) (c .calls) (λ r mr.
+            implies-i (met ds r) (grantedTo ds (c .aid) r) (λ m. have h c (p .0) (p .2) r m (p .2 .calls r .0 mr))))
+
+      fro : T (callsGranted ds) → T (everyBit L grantedAt)
+      fro h = bits-i L grantedAt (λ i j k. implies-i (t .calls i j k) (t .grants j i k) (λ b.
+          let ui = g .calls .by-used i j k b in
+          let p = g .calls .of-prov i j k b in
+          let c = contract-of i ui in
+          let r = serviceAt t j k in
+          let a = every-in (λ c. every (allowed c) (c .calls)) ds h (c .1) in
+          let q = implies-e (met ds r) (grantedTo ds (c .0 .aid) r)
+                (every-in (allowed (c .0)) (c .0 .calls) a (c .2 .calls r .1 (RowAt.bit j k b refl))) (met-i r j k p refl) in
+          let d = under-e (t .aid j) (λ d. hasRow (asked (c .0) r) (d .grants)) q in
+          let ej : d .0 ≡ j = g .names .aid-inj (d .0) j (d .1) (g .names .prov-used j k p) (d .2) in
+          granted-bit i j k ui p (asked (c .0) r) (c .2 .aid) refl
+            (subst (λ (z : ℕ). GrantAt t z (asked (c .0) r)) ej
+              (d .4 .grants (asked (c .0) r) .0 (has-row (asked (c .0) r) (d .3 .grants) (d .5))))))
+
+  -- ---- cause 9
+  needed : Off (t .used) (t .aid) (t .tok) (t .provides) lost → isNil lost ≡ needsMet ds
+  unfolding needsMet
+  needed off = T-eq (isNil lost) (needsMet ds) (to lost refl) (λ h. fro lost (λ u m. none-lost h u m))
+    where
+      ok : (n : ℕ) (r : Row) → lost ≡ [] → RowAt t (t .needs) lost n r → T (met ds r)
+      ok n r e (RowAt.bit j k b q) = met-i r j k (g .calls .of-prov n j k (g .need-call n j k b)) q
+      ok n r e (RowAt.row m) = absurd (in-nil (subst (λ (l : List Unmet). In (callRow n r) l) e m))
+
+      to : (l : List Unmet) → lost ≡ l → T (isNil l) → T (needsMet ds)
+      to [] e h = in-every (λ c. every (met ds) (c .needs)) ds (λ c mc. let p = st .these c mc in in-every (met ds) (c .needs) (λ r mr. ok (p .0) r e (p .2 .needs r .0 mr)))
+      to (u ∷ l) e h = absurd h
+
+      none-lost : T (needsMet ds) → (u : Unmet) → In u lost → ⊥
+      none-lost h u m =
+          let c = contract-of (u .caller) (off .off-used u m) in
+          off-met lost off u m (every-in (met ds) (c .0 .needs) (every-in (λ c. every (met ds) (c .needs)) ds h (c .1)) (c .2 .needs (wanted u) .1 (RowAt.row m)))
+
+      fro : (l : List Unmet) → ((u : Unmet) → In u l → ⊥) → T (isNil l)
+      fro [] h = tt
+      fro (u ∷ l) h = absurd (h u (here refl))
+
+  -- ---- causes 10 and 11
+  abbrev linkOf : Contract → Row → Link
+  linkOf c r = record { owner = c .aid; row = r }
+
+  -- a row of a used package that passes f
+  abbrev OwnRow : (Contract → List Row) → (Row → Bool) → Link → Type 0
+  OwnRow rows f x = (n : ℕ) × T (t .used n) × (x .owner ≡ t .aid n) × ((c : Contract) → HasContract t lost n c → In (x .row) (rows c)) × T (f (x .row))
+
+  -- a list of the tables has as many rows as the contracts have rows of one sort that pass f, where it has a link for each of these and for no other
+  same-count : {A : Type 0} (l : List A) (link : A → Link) (rows : Contract → List Row) (f : Row → Bool)
+    → NoRepeat l → ((x y : A) → In x l → In y l → link x ≡ link y → x ≡ y) → ((c : Contract) → In c ds → NoRepeat (rows c))
+    → ((x : A) → In x l → OwnRow rows f (link x))
+    → ((n : ℕ) (c : Contract) → HasContract t lost n c → (r : Row) → In r (rows c) → T (f r) → (x : A) × In x l × (link x ≡ record { owner = t .aid n; row = r }))
+    → length l ≡ length (flat (λ c. map (linkOf c) (keep f (rows c))) ds)
+  same-count {A} l link rows f once inj sets to fro =
+      sym (length-map l link) ∙ same-length (map link l) (flat links ds) (once-map link l inj once) once-links forth back
+    where
+      links : Contract → List Link
+      links c = map (linkOf c) (keep f (rows c))
+
+      owner-is : (c : Contract) (z : Link) → In z (links c) → z .owner ≡ c .aid
+      owner-is c z m = let p = map-in (linkOf c) (keep f (rows c)) m in λ i. p .2 i .owner
+
+      once-links : NoRepeat (flat links ds)
+      once-links = once-flat links ds (once-of-map (λ c. c .aid) ds (st .one-each))
+          (λ c m. once-map (linkOf c) (keep f (rows c)) (λ r s _ _ e. λ i. e i .row) (once-keep f (rows c) (sets c m)))
+          (λ c d z m n p q. inj-of-map (λ c. c .aid) ds (st .one-each) c d m n (sym (owner-is c z p) ∙ owner-is d z q))
+
+      forth : (z : Link) → In z (map link l) → In z (flat links ds)
+      forth z m =
+          let x = map-in link l m in
+          let h = to (x .0) (x .1) in
+          let c = contract-of (h .0) (h .1) in
+          let e : z ≡ linkOf (c .0) (link (x .0) .row) = x .2 ∙ (λ i. record { owner = (h .2 ∙ sym (c .2 .aid)) i; row = link (x .0) .row }) in
+          in-flat links (c .1) (in-cast e (in-map (linkOf (c .0)) (in-keep f (h .3 (c .0) (c .2)) (h .4))))
+
+      back : (z : Link) → In z (flat links ds) → In z (map link l)
+      back z m =
+          let c = flat-in links ds m in
+          let h = st .these (c .0) (c .1) in
+          let r = map-in (linkOf (c .0)) (keep f (rows (c .0))) (c .2) in
+          let k = keep-in f (rows (c .0)) (r .1) in
+          let x = fro (h .0) (c .0) (h .2) (r .0) (k .0) (k .1) in
+          in-cast (r .2 ∙ (λ i. record { owner = h .2 .aid i; row = r .0 }) ∙ sym (x .2)) (in-map link (x .1))
+
+  unmet-count : length (t .unmet) ≡ length (unmetCalls ds)
+  unfolding unmetCalls
+  unmet-count = same-count (t .unmet) link (λ c. c .calls) (λ r. not (met ds r)) (g .unmet .unmet-once) inj (λ c m. st .four-sets c m .calls) to
+      (λ n c h r m f. fro n r f (h .calls r .0 m))
+    where
+      link : Unmet → Link
+      link u = record { owner = t .aid (u .caller); row = wanted u }
+
+      inj : (u v : Unmet) → In u (t .unmet) → In v (t .unmet) → link u ≡ link v → u ≡ v
+      inj u v m n e =
+          let ei = g .names .aid-inj (u .caller) (v .caller) (g .unmet .off .off-used u m) (g .unmet .off .off-used v n) (λ i. e i .owner) in
+          λ i. record { callee = e i .row .aid; tok = e i .row .tok; caller = ei i }
+
+      to : (u : Unmet) → In u (t .unmet) → OwnRow (λ c. c .calls) (λ r. not (met ds r)) (link u)
+      to u m = (u .caller, g .unmet .off .off-used u m, refl, (λ c h. h .calls (wanted u) .1 (RowAt.row m)), not-i (met ds (wanted u)) (off-met (t .unmet) (g .unmet .off) u m))
+
+      fro : (n : ℕ) (r : Row) → T (not (met ds r)) → RowAt t (t .calls) (t .unmet) n r → (u : Unmet) × In u (t .unmet) × (link u ≡ record { owner = t .aid n; row = r })
+      fro n r f (RowAt.bit j k b e) = absurd (not-e (met ds r) f (met-i r j k (g .calls .of-prov n j k b) e))
+      fro n r f (RowAt.row m) = (callRow n r, m, refl)
+
+  waiting-count : length (t .waiting) ≡ length (waitingGrants ds)
+  unfolding waitingGrants
+  waiting-count = same-count (t .waiting) link (λ c. c .grants) (waits ds) (g .waiting .wait-once) inj (λ c m. st .four-sets c m .grants) to
+      (λ n c h r m f. fro n r f (h .grants r .0 m))
+    where
+      link : Waiting → Link
+      link w = record { owner = t .aid (w .callee); row = grantAt t w }
+
+      inj : (v w : Waiting) → In v (t .waiting) → In w (t .waiting) → link v ≡ link w → v ≡ w
+      inj v w m n e =
+          let q = same-place L t (g .names) (v .callee) (v .service) (w .callee) (w .service) (g .waiting .wait-prov v m) (g .waiting .wait-prov w n) (λ i. e i .owner) (λ i. e i .row .tok) in
+          λ i. record { caller = e i .row .aid; callee = q .0 i; service = q .1 i }
+
+      to : (w : Waiting) → In w (t .waiting) → OwnRow (λ c. c .grants) (waits ds) (link w)
+      to w m =
+          ( w .callee, g .names .prov-used (w .callee) (w .service) (g .waiting .wait-prov w m), refl, (λ c h. h .grants (grantAt t w) .1 (GrantAt.row (w .service) m refl))
+          , not-i (installed ds (w .caller)) (λ h. let p = under-e (w .caller) (λ c. true) h in g .waiting .wait-off w m (p .0) (p .1) (p .2)))
+
+      fro : (n : ℕ) (r : Row) → T (waits ds r) → GrantAt t n r → (w : Waiting) × In w (t .waiting) × (link w ≡ record { owner = t .aid n; row = r })
+      fro n r f (GrantAt.bit i k b e _) = absurd (not-e (installed ds (r .aid)) f (under-i i (g .grants .by-used i n k b) (r .aid) (sym e) (λ c. true) (λ c h. tt)))
+      fro n r f (GrantAt.row k m e) = (record { caller = r .aid; callee = n; service = k }, m, λ i. record { owner = t .aid n; row = record { aid = r .aid; tok = sym e i } })
+
+pub looks-agree : (L : Layout) (d : Draft) (ds : List Contract) → Formed L (d .tables)
+  → Off (d .tables .used) (d .tables .aid) (d .tables .tok) (d .tables .provides) (d .lost) → Stands (d .tables) (d .lost) ds
+  → lookCauses L (look L d) ≡ causes8to11 L ds
+unfolding look
+looks-agree L d ds g off st = λ i.
+    8 when not (granted L (d .tables) (d .lost) ds g st i)
+    ∷ 9 when not (needed L (d .tables) (d .lost) ds g st off i)
+    ∷ 10 when not (leb (unmet-count L (d .tables) (d .lost) ds g st i) (L .capacity))
+    ∷ 11 when not (leb (waiting-count L (d .tables) (d .lost) ds g st i) (L .capacity))
+    ∷ []
