@@ -321,7 +321,7 @@ module _ (L : Layout) (t : Tables) (f : Formed L t) (j k : ℕ) (uj : T (t .used
 pub kind-3 : (s : Tok) (l : List Aid) → KindTurns (addService s l)
 unfolding draft proper
 kind-3 s l L t cs a f st va vl pr e =
-    at-package L t (f .names) (λ d. Turns L d (alter a (altered (addService s l)) cs)) (λ j. orElse (freeService L t j) (kept j t) (λ k. addServiceAt L t j k s l)) a
+    at-package L t (f .names) (λ d. Turns L d (alter a (altered (addService s l)) cs)) (λ j. orElse (freeService L t j) (kept t) (λ k. addServiceAt L t j k s l)) a
       (λ o. 6 when orElse o false (λ i. hasTok s (contractAt L t i .provides)) ∷ 7 when orElse o false (λ j. not (isSome (freeService L t j))) ∷ []) e
       (λ j uj aj q.
         let p = answer-zero 5 (hasTok s (contractAt L t j .provides)) (7 when not (isSome (freeService L t j)) ∷ []) q in
@@ -331,7 +331,7 @@ kind-3 s l L t cs a f st va vl pr e =
     apart b m e = not-e (eqAid b a) (every-in (λ b. not (eqAid b a)) l (and-l (every (λ b. not (eqAid b a)) l) (distinct eqAid l) pr) m) (eqAid-of e)
 
     at-free : (j : ℕ) → T (t .used j) → t .aid j ≡ a → (ProvidesAt t j s → ⊥) → (o : Option ℕ) → FreeIs (L .services) (t .provides j) o
-      → answer (7 when not (isSome o) ∷ []) ≡ 0 → Turns L (orElse o (kept j t) (λ k. addServiceAt L t j k s l)) (alter a (altered (addService s l)) cs)
+      → answer (7 when not (isSome o) ∷ []) ≡ 0 → Turns L (orElse o (kept t) (λ k. addServiceAt L t j k s l)) (alter a (altered (addService s l)) cs)
     at-free j uj aj fresh none h q = absurd (last-no 6 true q tt)
     at-free j uj aj fresh (some k) h q =
         service-turns L t f j k uj (h .0) (h .1) s fresh l vl (λ b m e. apart b m (e ∙ aj))

@@ -16,7 +16,7 @@ use Rattle.policy.specs.Machine.{alter, altered, effect, withoutRow}
 use Rattle.policy.specs.Tables.{Tables, Unmet}
 use Rattle.policy.specs.Lookup.{Place, serverOf, contractAt}
 use Rattle.policy.specs.Sound.{eqUnmet}
-use Rattle.policy.specs.Draft.{callRow, put3, addCallAt, removeCallAt, unchanged, draft}
+use Rattle.policy.specs.Draft.{callRow, put3, addCallAt, removeCallAt, kept, draft}
 use Rattle.policy.proofs.Sets.{false-T, not-e, each-snoc, keep-in, once-snoc, once-keep}
 use Rattle.policy.proofs.Equal.{eqAid-of, row-has}
 use Rattle.policy.proofs.Formed.{Bits, UnmetRows, Formed, RowAt, row, Stands, Turns, KindTurns}
@@ -141,7 +141,7 @@ not-own r a h e = not-e (eqAid (r .aid) a) h (eqAid-of e)
 pub kind-5 : (r : Row) → KindTurns (addCall r)
 unfolding draft proper
 kind-5 r L t cs a fo st va vr own ans =
-    at-number L t (fo .names) a (λ o. Turns L (orElse o (unchanged L t) (λ i. addCallAt L t i r (serverOf L t r))) (effect cs a (addCall r)))
+    at-number L t (fo .names) a (λ o. Turns L (orElse o (kept t) (λ i. addCallAt L t i r (serverOf L t r))) (effect cs a (addCall r)))
       (λ o. 6 when orElse o false (λ i. hasRow r (contractAt L t i .calls)) ∷ []) ans
       (λ i ui ai six.
         let h = false-T (answer-zero 5 (hasRow r (contractAt L t i .calls)) [] six .0) in
@@ -150,6 +150,6 @@ kind-5 r L t cs a fo st va vr own ans =
 pub kind-6 : (r : Row) → KindTurns (removeCall r)
 unfolding draft
 kind-6 r L t cs a fo st va vr own ans =
-    at-number L t (fo .names) a (λ o. Turns L (orElse o (unchanged L t) (λ i. removeCallAt L t i r (serverOf L t r))) (effect cs a (removeCall r)))
+    at-number L t (fo .names) a (λ o. Turns L (orElse o (kept t) (λ i. removeCallAt L t i r (serverOf L t r))) (effect cs a (removeCall r)))
       (λ o. 6 when not (orElse o false (λ i. hasRow r (contractAt L t i .calls))) ∷ []) ans
       (λ i ui ai six. less-call L t cs a fo st r i ui ai (serverOf L t r) (server-is L t (fo .names) r))

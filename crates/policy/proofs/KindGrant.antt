@@ -65,7 +65,7 @@ module _ (t : Tables) (g : ℕ → ℕ → ℕ → Bool) (w : List Waiting) wher
     → ((n : ℕ) → (n ≡ j → ⊥) → (l : List Row) → ((x : Row) → In x l ↔ GrantAt t n x) → (x : Row) → In x l ↔ GrantAt (withGrants g w t) n x)
     → ((l : List Row) → ((x : Row) → In x l ↔ GrantAt t j x) → (x : Row) → In x (f l) ↔ GrantAt (withGrants g w t) j x)
     → ((l : List Row) → ((x : Row) → In x l ↔ GrantAt t j x) → NoRepeat l → NoRepeat (f l))
-    → Turns L (kept j (withGrants g w t))
+    → Turns L (kept (withGrants g w t))
         (alter a (λ c. record { aid = c .aid; provides = c .provides; calls = c .calls; grants = f (c .grants); needs = c .needs }) cs)
   turns L cs a j f h st uj aj bits rows others own once = record
       { formed = record { names = h .names; calls = h .calls; grants = bits; need-call = h .need-call; unmet = h .unmet; waiting = rows }
@@ -191,13 +191,13 @@ module _ (L : Layout) (t : Tables) (f : Formed L t) (r : Row) (j k : ℕ) (pk : 
     uj = f .names .prov-used j k pk
 
     module _ (g : ℕ → ℕ → ℕ → Bool) (w : List Waiting) (bits : Bits (t .used) (t .provides) (λ x y z. g y x z)) (rows : WaitingRows (t .used) (t .aid) (t .provides) w) where
-      turns-more : More (GrantAt t) (GrantAt (withGrants g w t)) j (r ∷ []) → (GrantAt t j r → ⊥) → Turns L (kept j (withGrants g w t)) (alter a (altered (addGrant r)) cs)
+      turns-more : More (GrantAt t) (GrantAt (withGrants g w t)) j (r ∷ []) → (GrantAt t j r → ⊥) → Turns L (kept (withGrants g w t)) (alter a (altered (addGrant r)) cs)
       turns-more m fresh = turns t g w L cs a j (λ l. l ++ (r ∷ [])) f st uj aj bits rows
           (more-others (GrantAt t) (GrantAt (withGrants g w t)) j (r ∷ []) m)
           (more-own (GrantAt t) (GrantAt (withGrants g w t)) j (r ∷ []) m)
           (λ l h d. once-snoc l r d (λ i. fresh (h r .0 i)))
 
-      turns-less : Less (withGrants g w t) → Turns L (kept j (withGrants g w t)) (alter a (altered (removeGrant r)) cs)
+      turns-less : Less (withGrants g w t) → Turns L (kept (withGrants g w t)) (alter a (altered (removeGrant r)) cs)
       turns-less m = turns t g w L cs a j (withoutRow r) f st uj aj bits rows
           (λ n ne l h x. (λ i. m n x .1 (h x .0 i, λ p. ne (p .0)), λ q. h x .1 (m n x .0 q .0)))
           (λ l h x.

@@ -15,7 +15,7 @@ use Rattle.policy.specs.Causes.{_when_}
 use Rattle.policy.specs.Machine.{alter, altered, effect, withoutRow}
 use Rattle.policy.specs.Tables.{Tables}
 use Rattle.policy.specs.Lookup.{Place, serverOf, contractAt}
-use Rattle.policy.specs.Draft.{callRow, put3, addNeedAt, removeNeedAt, unchanged, draft}
+use Rattle.policy.specs.Draft.{callRow, put3, addNeedAt, removeNeedAt, kept, draft}
 use Rattle.policy.proofs.Sets.{each-one}
 use Rattle.policy.proofs.Equal.{has-row, row-has}
 use Rattle.policy.proofs.Formed.{Off, Formed, RowAt, bit, row, Stands, Turns, KindTurns}
@@ -92,7 +92,7 @@ module _ (L : Layout) (t : Tables) (cs : List Contract) (a : Aid) (fo : Formed L
 pub kind-9 : (r : Row) → KindTurns (addNeed r)
 unfolding draft
 kind-9 r L t cs a fo st va vr own ans =
-    at-number L t (fo .names) a (λ o. Turns L (orElse o (unchanged L t) (λ i. addNeedAt L t i r (serverOf L t r))) (effect cs a (addNeed r)))
+    at-number L t (fo .names) a (λ o. Turns L (orElse o (kept t) (λ i. addNeedAt L t i r (serverOf L t r))) (effect cs a (addNeed r)))
       (λ o. 6 when (not (orElse o false (λ i. hasRow r (contractAt L t i .calls))) || orElse o false (λ i. hasRow r (contractAt L t i .needs))) ∷ []) ans
       (λ i ui ai six.
         let h = asked-and-new (hasRow r (contractAt L t i .calls)) (hasRow r (contractAt L t i .needs)) six in
@@ -102,6 +102,6 @@ kind-9 r L t cs a fo st va vr own ans =
 pub kind-10 : (r : Row) → KindTurns (removeNeed r)
 unfolding draft
 kind-10 r L t cs a fo st va vr own ans =
-    at-number L t (fo .names) a (λ o. Turns L (orElse o (unchanged L t) (λ i. removeNeedAt L t i r (serverOf L t r))) (effect cs a (removeNeed r)))
+    at-number L t (fo .names) a (λ o. Turns L (orElse o (kept t) (λ i. removeNeedAt L t i r (serverOf L t r))) (effect cs a (removeNeed r)))
       (λ o. 6 when not (orElse o false (λ i. hasRow r (contractAt L t i .needs))) ∷ []) ans
       (λ i ui ai six. less-need L t cs a fo st r i ui ai (serverOf L t r) (server-is L t (fo .names) r))

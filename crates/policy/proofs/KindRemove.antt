@@ -14,7 +14,7 @@ use Rattle.policy.specs.Record.{remove}
 use Rattle.policy.specs.Causes.{_when_, answer}
 use Rattle.policy.specs.Tables.{Tables, Unmet, Waiting, noTok}
 use Rattle.policy.specs.Lookup.{numberOf, numbers, places}
-use Rattle.policy.specs.Draft.{Draft, Look, draft, removeAt, unchanged}
+use Rattle.policy.specs.Draft.{kept, Draft, Look, draft, removeAt}
 use Rattle.policy.specs.Judge.{tableCauses}
 use Rattle.policy.specs.ShortCheck.{fine, shortRemove, shortLook}
 use Rattle.policy.proofs.Sets.{and-l, and-r, and-i, or-l, or-r, not-i, not-e, false-T, T-false, test, keep-in, in-keep, once-keep, map-in, in-map, once-append, each-append, in-upto, once-upto}
@@ -259,7 +259,7 @@ pub removed : (L : Layout) (t : Tables) → Formed L t → (a : Aid) → answer 
 unfolding draft shortLook
 removed L t fm a ans P f = go (numberOf L t a) (number-is L t (fm .names) a) ans
   where
-    go : (o : Option ℕ) → NumberIs t a o → answer (5 when not (isSome o) ∷ []) ≡ 0 → P (orElse o (unchanged L t) (removeAt L t)) (orElse o fine (shortRemove L t))
+    go : (o : Option ℕ) → NumberIs t a o → answer (5 when not (isSome o) ∷ []) ≡ 0 → P (orElse o (kept t) (removeAt L t)) (orElse o fine (shortRemove L t))
     go none h e = absurd (false-T (answer-zero 4 true [] e .0) tt)
     go (some n) h e = f n (h .0) (h .1)
 

@@ -15,7 +15,7 @@ use Rattle.policy.specs.Causes.{_when_, answer}
 use Rattle.policy.specs.Machine.{alter, altered}
 use Rattle.policy.specs.Tables.{Tables, Waiting, noTok}
 use Rattle.policy.specs.Lookup.{numberOf, serviceOf, contractAt}
-use Rattle.policy.specs.Draft.{Draft, Look, kept, draft, removeServiceAt, unchanged}
+use Rattle.policy.specs.Draft.{Draft, Look, kept, draft, removeServiceAt}
 use Rattle.policy.specs.Judge.{tableCauses}
 use Rattle.policy.specs.ShortCheck.{fine, shortRemoveService, shortLook}
 use Rattle.policy.proofs.Sets.{and-l, and-r, and-i, not-i, not-e, false-T, T-false, keep-in, in-keep, once-keep}
@@ -202,12 +202,12 @@ removed-service s L t fm a ans P f = go (numberOf L t a) (number-is L t (fm .nam
     apart : (j : ℕ) → ServiceIs t j s none → ProvidesAt t j s → ⊥
     apart j h (at k p e) = h k p (sym e)
 
-    inner : (j : ℕ) → t .aid j ≡ a → not (has j) ≡ false → (o : Option ℕ) → ServiceIs t j s o → P (orElse o (kept j t) (removeServiceAt L t j)) (orElse o fine (shortRemoveService L t j))
+    inner : (j : ℕ) → t .aid j ≡ a → not (has j) ≡ false → (o : Option ℕ) → ServiceIs t j s o → P (orElse o (kept t) (removeServiceAt L t j)) (orElse o fine (shortRemoveService L t j))
     inner j ea e none h = absurd (apart j h (provides-at L t fm j s .0 (has-tok s (contractAt L t j .provides) (provided (has j) e))))
     inner j ea e (some k) h = f j k (h .0) ea (h .1)
 
     go : (o : Option ℕ) → NumberIs t a o → answer (5 when not (isSome o) ∷ 6 when not (orElse o false has) ∷ []) ≡ 0
-        → P (orElse o (unchanged L t) (λ j. orElse (serviceOf L t j s) (kept j t) (removeServiceAt L t j))) (orElse o fine (λ j. orElse (serviceOf L t j s) fine (shortRemoveService L t j)))
+        → P (orElse o (kept t) (λ j. orElse (serviceOf L t j s) (kept t) (removeServiceAt L t j))) (orElse o fine (λ j. orElse (serviceOf L t j s) fine (shortRemoveService L t j)))
     go none h e = absurd (false-T (answer-zero 4 true (6 when true ∷ []) e .0) tt)
     go (some j) h e = inner j (h .1) (answer-zero 5 (not (has j)) [] (answer-zero 4 false (6 when not (has j) ∷ []) e .1) .0) (serviceOf L t j s) (service-is L t (fm .names) j s)
 

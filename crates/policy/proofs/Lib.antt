@@ -37,3 +37,4 @@ pub mod LawfulCard
 pub mod Written
 pub mod ReadOut
 pub mod Theorems
+pub mod Entries

@@ -17,7 +17,7 @@ use Rattle.policy.specs.Record.{load, notOwn, proper}
 use Rattle.policy.specs.Causes.{_when_, answer}
 use Rattle.policy.specs.Tables.{Tables, noTok}
 use Rattle.policy.specs.Lookup.{serviceAt, numberOf, freeNumber}
-use Rattle.policy.specs.Draft.{Draft, loadedNames, loadAt, unchanged, draft}
+use Rattle.policy.specs.Draft.{Draft, loadedNames, loadAt, kept, draft}
 use Rattle.policy.specs.Judge.{tableCauses}
 use Rattle.policy.specs.History.{FourSets}
 use Rattle.policy.proofs.Sets.{T-true, T-false, false-T, and-l, and-r, test, not-i, not-e, every-in, distinct→once}
@@ -223,6 +223,6 @@ module _ (L : Layout) (t : Tables) (a : Aid) (p : List Tok) (c g n : List Row) w
       full : not (isSome (freeNumber L t)) ≡ false
       full = answer-zero 6 (not (isSome (freeNumber L t))) [] (answer-zero 3 (isSome (numberOf L t a)) (7 when not (isSome (freeNumber L t)) ∷ []) an .1) .0
 
-      go : (o : Option ℕ) → FreeIs (L .packages) (t .used) o → not (isSome o) ≡ false → P (orElse o (unchanged L t) (λ m. loadAt L t m contract))
+      go : (o : Option ℕ) → FreeIs (L .packages) (t .used) o → not (isSome o) ≡ false → P (orElse o (kept t) (λ m. loadAt L t m contract))
       go none q e = absurd (false-T e tt)
       go (some m) q e = h m (newcomer f fit pr an m q)

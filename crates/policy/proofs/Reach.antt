@@ -11,7 +11,7 @@ use Rattle.policy.specs.Layout.{Layout}
 use Rattle.policy.specs.Causes.{Cause, _when_, answer}
 use Rattle.policy.specs.Tables.{Tables}
 use Rattle.policy.specs.Lookup.{numberOf, serviceOf}
-use Rattle.policy.specs.Draft.{Draft, kept, unchanged, atPackage, atService}
+use Rattle.policy.specs.Draft.{Draft, kept, atPackage, atService}
 use Rattle.policy.specs.Judge.{absent}
 use Rattle.policy.proofs.Sets.{false-T}
 use Rattle.policy.proofs.Answers.{answer-zero}
@@ -38,14 +38,14 @@ module _ (L : Layout) (t : Tables) (names : Names L (t .used) (t .aid) (t .tok) 
     → ((j : ℕ) → T (t .used j) → t .aid j ≡ a → answer (others (some j)) ≡ 0 → P (d j)) → P (atPackage L t a d)
   at-package d a others e f = go (numberOf L t a) (number-is L t names a) e
     where
-      go : (o : Option ℕ) → NumberIs t a o → answer (5 when not (isSome o) ∷ others o) ≡ 0 → P (orElse o (unchanged L t) d)
+      go : (o : Option ℕ) → NumberIs t a o → answer (5 when not (isSome o) ∷ others o) ≡ 0 → P (orElse o (kept t) d)
       go none h q = absurd (false-T (answer-zero 4 true (others none) q .0) tt)
       go (some j) h q = f j (h .0) (h .1) (answer-zero 4 false (others (some j)) q .1)
 
   at-service : (d : ℕ → Draft) (j : ℕ) (s : Tok) → ProvidesAt t j s → ((k : ℕ) → T (t .provides j k) → t .tok j k ≡ s → P (d k)) → P (atService L t j s d)
   at-service d j s (at z p e) f = go (serviceOf L t j s) (service-is L t names j s)
     where
-      go : (o : Option ℕ) → ServiceIs t j s o → P (orElse o (kept j t) d)
+      go : (o : Option ℕ) → ServiceIs t j s o → P (orElse o (kept t) d)
       go none h = absurd (h z p (sym e))
       go (some k) h = f k (h .0) (h .1)
 

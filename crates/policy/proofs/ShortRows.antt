@@ -17,7 +17,7 @@ use Rattle.policy.specs.Causes.{_when_, answer}
 use Rattle.policy.specs.Tables.{Tables}
 use Rattle.policy.specs.Lookup.{Place, places, numberOf, serviceOf, serverOf, contractAt}
 use Rattle.policy.specs.Sound.{eqUnmet, eqWaiting, everyBit}
-use Rattle.policy.specs.Draft.{Draft, kept, callRow, put3, addCallAt, removeCallAt, addGrantAt, removeGrantAt, addNeedAt, removeNeedAt, unchanged, draft, look}
+use Rattle.policy.specs.Draft.{Draft, kept, callRow, put3, addCallAt, removeCallAt, addGrantAt, removeGrantAt, addNeedAt, removeNeedAt, kept, draft, look}
 use Rattle.policy.specs.ShortCheck.{fine, shortAddCall, shortAddGrant, shortRemoveGrant, shortAddNeed, shortLook}
 use Rattle.policy.specs.Judge.{tableCauses}
 use Rattle.policy.proofs.Sets.{T-eq, T-true, in-every, every-in, in-upto, implies-i, implies-e, not-i, not-e, map-in, keep-in}
@@ -95,8 +95,8 @@ module _ (L : Layout) (t : Tables) where
         → look L d ≡ record { granted = true; needed = n; unmetFits = true; waitingFits = true }
     look-fine d n eg en hu hw = look-of L d true n true true eg en (fits-of L (length (d .tables .unmet)) hu) (fits-of L (length (d .tables .waiting)) hw)
 
-    look-unchanged : (n : ℕ) → look L (kept n t) ≡ fine
-    look-unchanged n = look-fine (kept n t) true still-granted refl (fit .unmet-fits) (fit .waiting-fits)
+    look-unchanged : (n : ℕ) → look L (kept t) ≡ fine
+    look-unchanged n = look-fine (kept t) true still-granted refl (fit .unmet-fits) (fit .waiting-fits)
 
     -- one call more is granted where its bit is
     one-more : (i j k : ℕ) → T (t .used i) → T (t .provides j k) → Granted L (put3 i j k true (t .calls)) (t .grants) ≡ t .grants j i k
@@ -149,7 +149,7 @@ module _ (L : Layout) (t : Tables) where
     unfolding draft shortLook
     short-5 a r ans =
         at-number L t (fo .names) a
-          (λ o. look L (orElse o (unchanged L t) (λ i. addCallAt L t i r (serverOf L t r))) ≡ orElse o fine (λ i. shortAddCall L t i (serverOf L t r)))
+          (λ o. look L (orElse o (kept t) (λ i. addCallAt L t i r (serverOf L t r))) ≡ orElse o fine (λ i. shortAddCall L t i (serverOf L t r)))
           (λ o. 6 when orElse o false (λ i. hasRow r (contractAt L t i .calls)) ∷ []) ans
           (λ i ui ai six. look-add-call r i ui (serverOf L t r) (server-is L t (fo .names) r))
 
@@ -157,7 +157,7 @@ module _ (L : Layout) (t : Tables) where
     unfolding draft shortLook
     short-6 a r ans = go (numberOf L t a)
       where
-        go : (o : Option ℕ) → look L (orElse o (unchanged L t) (λ i. removeCallAt L t i r (serverOf L t r))) ≡ fine
+        go : (o : Option ℕ) → look L (orElse o (kept t) (λ i. removeCallAt L t i r (serverOf L t r))) ≡ fine
         go none = look-unchanged 255
         go (some i) = look-remove-call r i (serverOf L t r)
 
@@ -187,14 +187,14 @@ module _ (L : Layout) (t : Tables) where
     unfolding draft shortLook
     short-7 a r ans =
         at-number L t (fo .names) a
-          (λ o. look L (orElse o (unchanged L t) (λ j. orElse (serviceOf L t j (r .tok)) (kept j t) (λ k. addGrantAt L t j (r .aid) k (numberOf L t (r .aid)))))
+          (λ o. look L (orElse o (kept t) (λ j. orElse (serviceOf L t j (r .tok)) (kept t) (λ k. addGrantAt L t j (r .aid) k (numberOf L t (r .aid)))))
             ≡ shortAddGrant L t (numberOf L t (r .aid)))
           (λ o. 6 when (not (orElse o false (λ j. hasTok (r .tok) (contractAt L t j .provides))) || orElse o false (λ j. hasRow r (contractAt L t j .grants))) ∷ []) ans
           (λ j uj aj six. go j (is-provided j (r .tok) (asked-and-new (hasTok (r .tok) (contractAt L t j .provides)) (hasRow r (contractAt L t j .grants)) six .0))
             (serviceOf L t j (r .tok)) (service-is L t (fo .names) j (r .tok)))
       where
         go : (j : ℕ) → (k : ℕ) × T (t .provides j k) × (t .tok j k ≡ r .tok) → (o : Option ℕ) → ServiceIs t j (r .tok) o
-            → look L (orElse o (kept j t) (λ k. addGrantAt L t j (r .aid) k (numberOf L t (r .aid)))) ≡ shortAddGrant L t (numberOf L t (r .aid))
+            → look L (orElse o (kept t) (λ k. addGrantAt L t j (r .aid) k (numberOf L t (r .aid)))) ≡ shortAddGrant L t (numberOf L t (r .aid))
         go j p none s = absurd (s (p .0) (p .1) (p .2))
         go j p (some k) s = look-add-grant j k (r .aid) (numberOf L t (r .aid))
 
@@ -202,12 +202,12 @@ module _ (L : Layout) (t : Tables) where
     unfolding draft shortLook
     short-8 a r ans = go (numberOf L t a)
       where
-        at-service : (j : ℕ) (o : Option ℕ) → look L (orElse o (kept j t) (λ k. removeGrantAt L t j (r .aid) k (numberOf L t (r .aid))))
+        at-service : (j : ℕ) (o : Option ℕ) → look L (orElse o (kept t) (λ k. removeGrantAt L t j (r .aid) k (numberOf L t (r .aid))))
             ≡ orElse o fine (λ k. shortRemoveGrant L t j k (numberOf L t (r .aid)))
         at-service j none = look-unchanged j
         at-service j (some k) = look-remove-grant j k (r .aid) (numberOf L t (r .aid))
 
-        go : (o : Option ℕ) → look L (orElse o (unchanged L t) (λ j. orElse (serviceOf L t j (r .tok)) (kept j t) (λ k. removeGrantAt L t j (r .aid) k (numberOf L t (r .aid)))))
+        go : (o : Option ℕ) → look L (orElse o (kept t) (λ j. orElse (serviceOf L t j (r .tok)) (kept t) (λ k. removeGrantAt L t j (r .aid) k (numberOf L t (r .aid)))))
             ≡ orElse o fine (λ j. orElse (serviceOf L t j (r .tok)) fine (λ k. shortRemoveGrant L t j k (numberOf L t (r .aid))))
         go none = look-unchanged 255
         go (some j) = at-service j (serviceOf L t j (r .tok))
@@ -225,7 +225,7 @@ module _ (L : Layout) (t : Tables) where
     unfolding draft shortLook
     short-9 a r ans =
         at-number L t (fo .names) a
-          (λ o. look L (orElse o (unchanged L t) (λ i. addNeedAt L t i r (serverOf L t r))) ≡ shortAddNeed L t (serverOf L t r))
+          (λ o. look L (orElse o (kept t) (λ i. addNeedAt L t i r (serverOf L t r))) ≡ shortAddNeed L t (serverOf L t r))
           (λ o. 6 when (not (orElse o false (λ i. hasRow r (contractAt L t i .calls))) || orElse o false (λ i. hasRow r (contractAt L t i .needs))) ∷ []) ans
           (λ i ui ai six. look-add-need r i (serverOf L t r))
 
@@ -233,6 +233,6 @@ module _ (L : Layout) (t : Tables) where
     unfolding draft shortLook
     short-10 a r ans = go (numberOf L t a)
       where
-        go : (o : Option ℕ) → look L (orElse o (unchanged L t) (λ i. removeNeedAt L t i r (serverOf L t r))) ≡ fine
+        go : (o : Option ℕ) → look L (orElse o (kept t) (λ i. removeNeedAt L t i r (serverOf L t r))) ≡ fine
         go none = look-unchanged 255
         go (some i) = look-remove-need r i (serverOf L t r)

@@ -18,7 +18,7 @@ use Rattle.policy.specs.Machine.{Held, held, effect, causes4to7, causes8
 use Rattle.policy.specs.Tables.{Tables, Unmet, decode, encode}
 use Rattle.policy.specs.Lookup.{contractAt}
 use Rattle.policy.specs.Sound.{everyBit, sound}
-use Rattle.policy.specs.Draft.{Draft, Look, look, draft}
+use Rattle.policy.specs.Draft.{Draft, look, draft, numberFor}
 use Rattle.policy.specs.Judge.{Out, refusal, tableCauses, lookCauses, judgeCauses, judged, judgeTables, judge}
 use Rattle.policy.specs.History.{SameContract, FourSets, StandsFor}
 use Rattle.policy.proofs.Sets.{T-true, true-T, false-T, not-i, not-e, implies-e, every-in, in-upto}
@@ -78,7 +78,7 @@ accepted L d g e =
 
 -- ---- the two lists of causes
 module _ (L : Layout) (t : Tables) (a : Aid) where
-  judge-ascends : (b : Bool) (c : Change) → T (ascends 2 (3 when b ∷ tableCauses L t a c))
+  pub judge-ascends : (b : Bool) (c : Change) → T (ascends 2 (3 when b ∷ tableCauses L t a c))
   judge-ascends b (load p c g n) = tt
   judge-ascends b remove = tt
   judge-ascends b (addService s l) = tt
@@ -130,9 +130,9 @@ module _ (L : Layout) (lo : LayoutOk L) (img s : List ℕ) (cs : List Contract) 
   Steps o h = (o .answered ≡ h .answered) × StandsFor L (o .bytes) (h .contracts)
 
   -- both have answered n
-  settle : (d : Draft) (ds : List Contract) (n : ℕ) → (n ≡ 0 → StandsFor L (encode L (d .tables)) ds) → Steps (judged L img d n) (held L cs ds n)
-  settle d ds zero h = (refl, h refl)
-  settle d ds (suc n) h = (refl, f)
+  settle : (m : ℕ) (t : Tables) (ds : List Contract) (n : ℕ) → (n ≡ 0 → StandsFor L (encode L t) ds) → Steps (judged L img m t n) (held L cs ds n)
+  settle m t ds zero h = (refl, h refl)
+  settle m t ds (suc n) h = (refl, f)
 
   read : (o : Option Request) → parse L s ≡ o → Steps (judgeTables L img (decode L img) o) (elim o [ none ↦ held L cs cs 2 | some q ↦ held L cs (effect cs (q .aid) (q .change)) (answer (causes3to11 L cs q)) ])
   read none e = (refl, f)
@@ -142,8 +142,8 @@ module _ (L : Layout) (lo : LayoutOk L) (img s : List ℕ) (cs : List Contract) 
       let st = stands-of L img cs f in
       let d = draft L (decode L img) (q .aid) (q .change) in
       let same = answers-agree L lo (decode L img) cs g st q (v .0) (v .1) in
-      subst (λ (n : ℕ). Steps (judged L img d (answer (judgeCauses L (decode L img) q))) (held L cs (effect cs (q .aid) (q .change)) n)) same
-        (settle d (effect cs (q .aid) (q .change)) (answer (judgeCauses L (decode L img) q)) (accepted-stands L lo (decode L img) cs g st q (v .0) (v .1)))
+      subst (λ (n : ℕ). Steps (judged L img (numberFor L (decode L img) (q .aid)) (d .tables) (answer (judgeCauses L (decode L img) q))) (held L cs (effect cs (q .aid) (q .change)) n)) same
+        (settle (numberFor L (decode L img) (q .aid)) (d .tables) (effect cs (q .aid) (q .change)) (answer (judgeCauses L (decode L img) q)) (accepted-stands L lo (decode L img) cs g st q (v .0) (v .1)))
 
   pub step : (judge L img s .answered ≡ machine L cs s .answered) × StandsFor L (judge L img s .bytes) (machine L cs s .contracts)
   unfolding judge machine

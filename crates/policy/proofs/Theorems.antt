@@ -168,7 +168,7 @@ module _ (L : Layout) (lo : LayoutOk L) where
         let x = and-l (eqAid (p .0 .aid) a) (leb (L .services) (length (p .0 .provides))) (p .2) in
         let y = leb→le (L .services) (length (p .0 .provides)) (and-r (eqAid (p .0 .aid) a) (leb (L .services) (length (p .0 .provides))) (p .2)) in
         let e : f (p .0) ≡ altered (addService s l) (p .0) = ap (λ (b : Bool). cond b (altered (addService s l) (p .0)) (p .0)) (T-true (eqAid (p .0 .aid) a) x) in
-        let z = fit .services-fit (altered (addService s l) (p .0)) (in-cast (sym e) (in-map (λ k. cond (eqAid (k .aid) a) (altered (addService s l) k) k) (p .1))) in
+        let z = fit .services-fit (altered (addService s l) (p .0)) (in-cast {l = effect cs a (addService s l)} (sym e) (in-map (λ k. cond (eqAid (k .aid) a) (altered (addService s l) k) k) (p .1))) in
         let n = length-append (p .0 .provides) (s ∷ []) in
         omega arith
 

@@ -13,15 +13,14 @@ use Rattle.policy.specs.Tables.{Tables, Unmet, Waiting, noTok}
 use Rattle.policy.specs.Lookup.{Place, serviceAt, wanted, numbers, places, numberOf, serviceOf, serverOf, freeNumber, freeService}
 use Rattle.policy.specs.Sound.{eqUnmet, eqWaiting, everyBit}
 
--- the number of the package that changes, the tables after the change, and the needs that it leaves unmet
+-- the tables after the change, and the needs that it leaves unmet
 pub record Draft : Type 0 where
-  pub number : ℕ
   pub tables : Tables
   pub lost : List Unmet
 
--- a change of package n that leaves every need met
-abbrev pub kept : ℕ → Tables → Draft
-kept n t = record { number = n; tables = t; lost = [] }
+-- a change that leaves every need met
+abbrev pub kept : Tables → Draft
+kept t = record { tables = t; lost = [] }
 
 -- the row of a call by package number i
 abbrev pub callRow : ℕ → Row → Unmet
@@ -86,38 +85,38 @@ withNeeds n t = record {
 module _ (L : Layout) (t : Tables) where
   -- ---- kinds 5, 6, 9, 10: a row of package i; it is a bit where its service is on the card
   abbrev pub addCallAt : ℕ → Row → Option Place → Draft
-  addCallAt i r none = kept i (withCalls (t .calls) (t .unmet ++ (callRow i r ∷ [])) t)
-  addCallAt i r (some p) = kept i (withCalls (put3 i (p .callee) (p .service) true (t .calls)) (t .unmet) t)
+  addCallAt i r none = kept (withCalls (t .calls) (t .unmet ++ (callRow i r ∷ [])) t)
+  addCallAt i r (some p) = kept (withCalls (put3 i (p .callee) (p .service) true (t .calls)) (t .unmet) t)
 
   -- 'a need on it goes too'
   abbrev pub removeCallAt : ℕ → Row → Option Place → Draft
-  removeCallAt i r none = kept i (withCalls (t .calls) (keep (λ u. not (eqUnmet (callRow i r) u)) (t .unmet)) t)
+  removeCallAt i r none = kept (withCalls (t .calls) (keep (λ u. not (eqUnmet (callRow i r) u)) (t .unmet)) t)
   removeCallAt i r (some p) =
-      kept i (withNeeds (put3 i (p .callee) (p .service) false (t .needs)) (withCalls (put3 i (p .callee) (p .service) false (t .calls)) (t .unmet) t))
+      kept (withNeeds (put3 i (p .callee) (p .service) false (t .needs)) (withCalls (put3 i (p .callee) (p .service) false (t .calls)) (t .unmet) t))
 
   abbrev pub addNeedAt : ℕ → Row → Option Place → Draft
-  addNeedAt i r none = record { number = i; tables = t; lost = callRow i r ∷ [] }
-  addNeedAt i r (some p) = kept i (withNeeds (put3 i (p .callee) (p .service) true (t .needs)) t)
+  addNeedAt i r none = record { tables = t; lost = callRow i r ∷ [] }
+  addNeedAt i r (some p) = kept (withNeeds (put3 i (p .callee) (p .service) true (t .needs)) t)
 
   abbrev pub removeNeedAt : ℕ → Row → Option Place → Draft
-  removeNeedAt i r none = kept i t
-  removeNeedAt i r (some p) = kept i (withNeeds (put3 i (p .callee) (p .service) false (t .needs)) t)
+  removeNeedAt i r none = kept t
+  removeNeedAt i r (some p) = kept (withNeeds (put3 i (p .callee) (p .service) false (t .needs)) t)
 
   -- ---- kinds 7, 8: a grant of service k of package j to the AID a; it is a bit where a is installed
   abbrev pub addGrantAt : ℕ → Aid → ℕ → Option ℕ → Draft
-  addGrantAt j a k none = kept j (withGrants (t .grants) (t .waiting ++ (record { caller = a; callee = j; service = k } ∷ [])) t)
-  addGrantAt j a k (some i) = kept j (withGrants (put3 j i k true (t .grants)) (t .waiting) t)
+  addGrantAt j a k none = kept (withGrants (t .grants) (t .waiting ++ (record { caller = a; callee = j; service = k } ∷ [])) t)
+  addGrantAt j a k (some i) = kept (withGrants (put3 j i k true (t .grants)) (t .waiting) t)
 
   abbrev pub removeGrantAt : ℕ → Aid → ℕ → Option ℕ → Draft
-  removeGrantAt j a k none = kept j (withGrants (t .grants) (keep (λ w. not (eqWaiting (record { caller = a; callee = j; service = k }) w)) (t .waiting)) t)
-  removeGrantAt j a k (some i) = kept j (withGrants (put3 j i k false (t .grants)) (t .waiting) t)
+  removeGrantAt j a k none = kept (withGrants (t .grants) (keep (λ w. not (eqWaiting (record { caller = a; callee = j; service = k }) w)) (t .waiting)) t)
+  removeGrantAt j a k (some i) = kept (withGrants (put3 j i k false (t .grants)) (t .waiting) t)
 
   -- ---- kind 3: service k of package j, with tokens s and grants to the AIDs of l; unmet calls on it become bits
   abbrev pub asksFor : Aid → Tok → Unmet → Bool
   asksFor a s u = eqAid (u .callee) a && eqTok (u .tok) s
 
   abbrev pub addServiceAt : ℕ → ℕ → Tok → List Aid → Draft
-  addServiceAt j k s l = kept j (record {
+  addServiceAt j k s l = kept (record {
     used = t .used;
     aid = t .aid;
     tok = put2 j k s (t .tok);
@@ -138,7 +137,6 @@ module _ (L : Layout) (t : Tables) where
   -- kind 4: service k of package j goes; 'its grants go too'
   abbrev pub removeServiceAt : ℕ → ℕ → Draft
   removeServiceAt j k = record {
-    number = j;
     tables = record {
       used = t .used;
       aid = t .aid;
@@ -156,7 +154,6 @@ module _ (L : Layout) (t : Tables) where
   -- kind 2: package n goes; calls on it are unmet, grants to it wait, 'waiting grants by callee number then service number'
   abbrev pub removeAt : ℕ → Draft
   removeAt n = record {
-    number = n;
     tables = record {
       used = put n false (t .used);
       aid = put n [] (t .aid);
@@ -207,7 +204,6 @@ module _ (L : Layout) (t : Tables) where
 
     abbrev pub loadAt : Draft
     loadAt = record {
-      number = n;
       tables = record {
         used = loadedNames .used;
         aid = loadedNames .aid;
@@ -226,21 +222,18 @@ module _ (L : Layout) (t : Tables) where
       lost = map (callRow n) (keep notServed (c .needs));
     }
 
-  -- ---- the draft of a record with first AID a; where a number is not found, a lower cause has applied
-  abbrev pub unchanged : Draft
-  unchanged = kept 255 t
-
+  -- ---- the draft of a record with first AID a; where a number is not found, nothing changes: a lower cause applies
   abbrev pub atPackage : Aid → (ℕ → Draft) → Draft
-  atPackage a f = orElse (numberOf L t a) unchanged f
+  atPackage a f = orElse (numberOf L t a) (kept t) f
 
   abbrev pub atService : ℕ → Tok → (ℕ → Draft) → Draft
-  atService j s f = orElse (serviceOf L t j s) (kept j t) f
+  atService j s f = orElse (serviceOf L t j s) (kept t) f
 
   unfoldable pub draft : Aid → Change → Draft
   unfolding numberOf serviceOf serverOf freeNumber freeService
-  draft a (load p c g n) = orElse (freeNumber L t) unchanged (λ m. loadAt m (record { aid = a; provides = p; calls = c; grants = g; needs = n }))
+  draft a (load p c g n) = orElse (freeNumber L t) (kept t) (λ m. loadAt m (record { aid = a; provides = p; calls = c; grants = g; needs = n }))
   draft a remove = atPackage a removeAt
-  draft a (addService s l) = atPackage a (λ j. orElse (freeService L t j) (kept j t) (λ k. addServiceAt j k s l))
+  draft a (addService s l) = atPackage a (λ j. orElse (freeService L t j) (kept t) (λ k. addServiceAt j k s l))
   draft a (removeService s) = atPackage a (λ j. atService j s (removeServiceAt j))
   draft a (addCall r) = atPackage a (λ i. addCallAt i r (serverOf L t r))
   draft a (removeCall r) = atPackage a (λ i. removeCallAt i r (serverOf L t r))
@@ -248,6 +241,11 @@ module _ (L : Layout) (t : Tables) where
   draft a (removeGrant r) = atPackage a (λ j. atService j (r .tok) (λ k. removeGrantAt j (r .aid) k (numberOf L t (r .aid))))
   draft a (addNeed r) = atPackage a (λ i. addNeedAt i r (serverOf L t r))
   draft a (removeNeed r) = atPackage a (λ i. removeNeedAt i r (serverOf L t r))
+
+  -- the package number of an acceptance: the package's, or the one that a load takes
+  unfoldable pub numberFor : Aid → ℕ
+  unfolding numberOf freeNumber
+  numberFor a = orElse (numberOf L t a) (orElse (freeNumber L t) 255 (λ n. n)) (λ n. n)
 
 -- ---- the full look at a draft: what causes 8 to 11 ask
 pub record Look : Type 0 where

@@ -13,7 +13,7 @@ use Rattle.policy.specs.Causes.{Cause, _when_, answer}
 use Rattle.policy.specs.Tables.{Tables, writeNumber, writeTok, decode, encode, emptyImage}
 use Rattle.policy.specs.Lookup.{usedNumbers, numberOf, freeNumber, freeService, contractAt}
 use Rattle.policy.specs.Sound.{sound}
-use Rattle.policy.specs.Draft.{Draft, Look, look, draft}
+use Rattle.policy.specs.Draft.{Look, look, draft, numberFor}
 
 -- an answer, its second number, and the lent bytes afterwards
 pub record Out : Type 0 where
@@ -74,16 +74,16 @@ module _ (L : Layout) where
       3 when not (proper (q .aid) (q .change)) ∷ tableCauses t (q .aid) (q .change) ++ lookCauses (look L (draft L t (q .aid) (q .change)))
 
   -- ---- judging a record on an image
-  abbrev pub judged : List ℕ → Draft → ℕ → Out
-  judged img d zero = record { answered = 0; second = d .number; bytes = encode L (d .tables) }
-  judged img d (suc n) = refusal (suc n) 255 img
+  abbrev pub judged : List ℕ → ℕ → Tables → ℕ → Out
+  judged img m t zero = record { answered = 0; second = m; bytes = encode L t }
+  judged img m t (suc n) = refusal (suc n) 255 img
 
   abbrev pub judgeTables : List ℕ → Tables → Option Request → Out
   judgeTables img t none = refusal 2 255 img
-  judgeTables img t (some q) = judged img (draft L t (q .aid) (q .change)) (answer (judgeCauses t q))
+  judgeTables img t (some q) = judged img (numberFor L t (q .aid)) (draft L t (q .aid) (q .change) .tables) (answer (judgeCauses t q))
 
   unfoldable pub judge : List ℕ → List ℕ → Out
-  unfolding sound parse proper decode encode numberOf freeNumber freeService contractAt draft look
+  unfolding sound parse proper decode encode numberOf freeNumber freeService contractAt draft numberFor look
   judge img s = cond (sound L img) (judgeTables img (decode L img) (parse L s)) (refusal 1 255 img)
 
   -- ---- checking an image: '0 with the count of used numbers, or 1 with 255'
