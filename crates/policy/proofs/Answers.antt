@@ -22,7 +22,7 @@ answer-append [] m m′ h = h refl
 answer-append (c ∷ l) m m′ h = go (c .applies) refl (λ g. answer-append l m m′ g)
   where
     go : (b : Bool) → c .applies ≡ b → ((answer l ≡ 0 → answer m ≡ answer m′) → answer (l ++ m) ≡ answer (l ++ m′))
-      → cond b (c .number) (answer (l ++ m)) ≡ cond b (c .number) (answer (l ++ m′))
+        → cond b (c .number) (answer (l ++ m)) ≡ cond b (c .number) (answer (l ++ m′))
     go true e ih = refl
     go false e ih = ih (λ z. h (ap (λ (x : Bool). cond x (c .number) (answer l)) e ∙ z))
 
@@ -77,7 +77,7 @@ pub ascends-front : (n : ℕ) (l m : List Cause) → T (ascends n (l ++ m)) → 
 ascends-front n [] m t = tt
 ascends-front n (c ∷ l) m t =
     and-i (ltb n (c .number)) (ascends (c .number) l) (and-l (ltb n (c .number)) (ascends (c .number) (l ++ m)) t)
-      (ascends-front (c .number) l m (and-r (ltb n (c .number)) (ascends (c .number) (l ++ m)) t))
+    (ascends-front (c .number) l m (and-r (ltb n (c .number)) (ascends (c .number) (l ++ m)) t))
 
 -- causes 8 to 11: none applies exactly where all four tests pass
 pub none-of-four : (a b c d : Bool) → answer (8 when not a ∷ 9 when not b ∷ 10 when not c ∷ 11 when not d ∷ []) ≡ 0 → T a × T b × T c × T d

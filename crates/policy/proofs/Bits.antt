@@ -86,8 +86,8 @@ module _ (L : Layout) where
   pub read-bits : (n : ℕ) (f : ℕ → Bool) → 2 ^ n ≤ 256 ^ L .width → ((k : ℕ) → T (f k) → k < n) → (k : ℕ) → bitOf L n (writeBits L n f) k ≡ f k
   read-bits n f fit lt k =
       T-eq (bitOf L n (writeBits L n f) k) (f k)
-        (λ t. subst T (at (ltb→lt k n (and-l (ltb k n) b t))) (and-r (ltb k n) b t))
-        (λ t. and-i (ltb k n) b (lt→ltb k n (lt k t)) (subst T (sym (at (lt k t))) t))
+      (λ t. subst T (at (ltb→lt k n (and-l (ltb k n) b t))) (and-r (ltb k n) b t))
+      (λ t. and-i (ltb k n) b (lt→ltb k n (lt k t)) (subst T (sym (at (lt k t))) t))
     where
       b : Bool
       b = bit (readNumber 0 (writeBits L n f)) k
@@ -109,8 +109,10 @@ module _ (L : Layout) where
   -- ---- tables of bits: a row of services for each package, and a line of such rows for each package
   abbrev n : ℕ
   n = L .packages
+
   abbrev m : ℕ
   m = L .services
+
   abbrev w : ℕ
   w = L .width
 
@@ -144,7 +146,7 @@ module _ (L : Layout) where
         go : (i < n) ⊎ (n ≤ i) → bitOf L m (getD (getD lines i []) j []) k ≡ b i j k
         go (inl p) =
             let line : getD lines i [] ≡ pieces w n (writeLine (b i)) =
-              read-at (n * w) n bs (pieces w n) [] i p ∙ ap (pieces w n) (piece-at (λ i. writeLine (b i)) (n * w) n (λ i p. length-line (b i)) bs rest e i p) in
+            read-at (n * w) n bs (pieces w n) [] i p ∙ ap (pieces w n) (piece-at (λ i. writeLine (b i)) (n * w) n (λ i p. length-line (b i)) bs rest e i p) in
             ap (λ (z : List (List ℕ)). bitOf L m (getD z j []) k) line
             ∙ read-line (b i) (λ j k t. let h = lt i j k t in (h .1, h .2)) (writeLine (b i)) [] (sym (append-nil (writeLine (b i)))) j k
         go (inr p) =

@@ -138,7 +138,7 @@ module _ (L : Layout) (t : Tables) where
             let q = keep-in ownGrant (t .waiting) (p .1) in
             let w = p .0 in
             let e : _≡_ {A = Waiting} (record { caller = r .aid; callee = n; service = w .service }) w =
-                  λ i. record { caller = p .2 i .aid; callee = sym (eqb→eq (w .callee) n (q .1)) i; service = w .service } in
+            λ i. record { caller = p .2 i .aid; callee = sym (eqb→eq (w .callee) n (q .1)) i; service = w .service } in
             GrantAt.row (w .service) (in-cast e (q .0)) (ap (λ (z : Row). z .tok) (p .2) ∙ own-tok w (q .1))
 
         of : GrantAt t n r → In r (bitRows granted (t .grants n) ++ map (grantAt t) (keep ownGrant (t .waiting)))
@@ -157,21 +157,23 @@ module _ (L : Layout) (t : Tables) where
 
     pub same-contract : (c : Contract) → HasContract t [] n c → SameContract c (contractAt L t n)
     unfolding contractAt
-    same-contract c h = record
-        { aid = h .aid
-        ; provides = λ s. Iff·trans (h .provides s) (Iff·symm (provides-at s))
-        ; calls = λ r. Iff·trans (h .calls r) (Iff·symm (calls-at r))
-        ; grants = λ r. Iff·trans (h .grants r) (Iff·symm (grants-at r))
-        ; needs = λ r. Iff·trans (h .needs r) (Iff·symm (needs-at r)) }
+    same-contract c h = record {
+      aid = h .aid;
+      provides = λ s. Iff·trans (h .provides s) (Iff·symm (provides-at s));
+      calls = λ r. Iff·trans (h .calls r) (Iff·symm (calls-at r));
+      grants = λ r. Iff·trans (h .grants r) (Iff·symm (grants-at r));
+      needs = λ r. Iff·trans (h .needs r) (Iff·symm (needs-at r));
+    }
 
     pub has-contract : (c : Contract) → SameContract c (contractAt L t n) → HasContract t [] n c
     unfolding contractAt
-    has-contract c h = record
-        { aid = h .aid
-        ; provides = λ s. Iff·trans (h .provides s) (provides-at s)
-        ; calls = λ r. Iff·trans (h .calls r) (calls-at r)
-        ; grants = λ r. Iff·trans (h .grants r) (grants-at r)
-        ; needs = λ r. Iff·trans (h .needs r) (needs-at r) }
+    has-contract c h = record {
+      aid = h .aid;
+      provides = λ s. Iff·trans (h .provides s) (provides-at s);
+      calls = λ r. Iff·trans (h .calls r) (calls-at r);
+      grants = λ r. Iff·trans (h .grants r) (grants-at r);
+      needs = λ r. Iff·trans (h .needs r) (needs-at r);
+    }
 
     -- ---- four sets
     -- bits of calls that read as one row are one
@@ -181,9 +183,10 @@ module _ (L : Layout) (t : Tables) where
 
     one-grant : (i k i′ k′ : ℕ) → T (t .grants n i k) → T (t .grants n i′ k′) → granted i k ≡ granted i′ k′ → (i ≡ i′) × (k ≡ k′)
     one-grant i k i′ k′ p q e =
-        let g = formed .grants in
-        (formed .names .aid-inj i i′ (g .by-used i n k p) (g .by-used i′ n k′ q) (ap (λ (z : Row). z .aid) e),
-          formed .names .tok-inj n k k′ (g .of-prov i n k p) (g .of-prov i′ n k′ q) (ap (λ (z : Row). z .tok) e))
+        let g = formed .grants in (
+          formed .names .aid-inj i i′ (g .by-used i n k p) (g .by-used i′ n k′ q) (ap (λ (z : Row). z .aid) e),
+          formed .names .tok-inj n k k′ (g .of-prov i n k p) (g .of-prov i′ n k′ q) (ap (λ (z : Row). z .tok) e),
+        )
 
     once-calls : NoRepeat (contractAt L t n .calls)
     unfolding contractAt
@@ -201,7 +204,7 @@ module _ (L : Layout) (t : Tables) where
             let q = map-in wanted (keep own (t .unmet)) l in
             let e : serviceAt t (p .0) (p .1) ≡ wanted (q .0) = sym (p .3) ∙ q .2 in
             formed .unmet .off .off-card (q .0) (keep-in own (t .unmet) (q .1) .0) (p .0) (p .1) (formed .calls .of-prov n (p .0) (p .1) (p .2))
-              (ap (λ (z : Row). z .aid) e) (ap (λ (z : Row). z .tok) e)
+            (ap (λ (z : Row). z .aid) e) (ap (λ (z : Row). z .tok) e)
 
     once-grants : NoRepeat (contractAt L t n .grants)
     unfolding contractAt
@@ -221,7 +224,7 @@ module _ (L : Layout) (t : Tables) where
             let x = own-service v p in
             let y = own-service w q in
             let s : t .tok n (v .service) ≡ t .tok n (w .service) =
-                  sym (own-tok v (keep-in ownGrant (t .waiting) p .1)) ∙ ap (λ (z : Row). z .tok) e ∙ own-tok w (keep-in ownGrant (t .waiting) q .1) in
+            sym (own-tok v (keep-in ownGrant (t .waiting) p .1)) ∙ ap (λ (z : Row). z .tok) e ∙ own-tok w (keep-in ownGrant (t .waiting) q .1) in
             λ i. record { caller = e i .aid; callee = (x .0 ∙ sym (y .0)) i; service = formed .names .tok-inj n (v .service) (w .service) (x .1) (y .1) s i }
 
         apart : (r : Row) → In r (bitRows granted (t .grants n)) → In r (map (grantAt t) (keep ownGrant (t .waiting))) → ⊥
@@ -229,27 +232,29 @@ module _ (L : Layout) (t : Tables) where
             let p = bits-in granted (t .grants n) m in
             let q = map-in (grantAt t) (keep ownGrant (t .waiting)) l in
             formed .waiting .wait-off (q .0) (keep-in ownGrant (t .waiting) (q .1) .0) (p .0) (formed .grants .by-used (p .0) n (p .1) (p .2))
-              (ap (λ (z : Row). z .aid) (sym (p .3) ∙ q .2))
+            (ap (λ (z : Row). z .aid) (sym (p .3) ∙ q .2))
 
     pub four-sets-at : T (t .used n) → FourSets (contractAt L t n)
     unfolding contractAt
-    four-sets-at u = record
-        { provides = once-provided (formed .names) n
-        ; calls = once-calls
-        ; grants = once-grants
-        ; needs = once-bits (serviceAt t) (t .needs n) (λ j k j′ k′ p q e. one-call j k j′ k′ (formed .need-call n j k p) (formed .need-call n j′ k′ q) e) }
+    four-sets-at u = record {
+      provides = once-provided (formed .names) n;
+      calls = once-calls;
+      grants = once-grants;
+      needs = once-bits (serviceAt t) (t .needs n) (λ j k j′ k′ p q e. one-call j k j′ k′ (formed .need-call n j k p) (formed .need-call n j′ k′ q) e);
+    }
 
   -- ---- formed tables stand for the contracts of their used numbers
   pub stands-self : Formed L t → Stands t [] (map (contractAt L t) (usedNumbers L t))
   unfolding contractAt
-  stands-self formed = record
-      { these = λ c m. let p = number m in (p .0, p .1, subst (HasContract t [] (p .0)) (sym (p .2)) (has-own formed (p .0)))
-      ; no-others = λ n u. (contractAt L t n, in-map (contractAt L t) (in-keep (t .used) (in-upto (L .packages) n (formed .names .used-lt n u)) u), refl)
-      ; one-each = once-map (λ c. c .aid) (map (contractAt L t) (usedNumbers L t)) one
-          (once-map (contractAt L t) (usedNumbers L t)
-            (λ i j p q e. formed .names .aid-inj i j (keep-in (t .used) (numbers L t) p .1) (keep-in (t .used) (numbers L t) q .1) (ap (λ (z : Contract). z .aid) e))
-            (once-keep (t .used) (numbers L t) (once-upto (L .packages))))
-      ; four-sets = λ c m. let p = number m in subst FourSets (sym (p .2)) (four-sets-at formed (p .0) (p .1)) }
+  stands-self formed = record {
+    these = λ c m. let p = number m in (p .0, p .1, subst (HasContract t [] (p .0)) (sym (p .2)) (has-own formed (p .0)));
+    no-others = λ n u. (contractAt L t n, in-map (contractAt L t) (in-keep (t .used) (in-upto (L .packages) n (formed .names .used-lt n u)) u), refl);
+    one-each = once-map (λ c. c .aid) (map (contractAt L t) (usedNumbers L t)) one
+        (once-map (contractAt L t) (usedNumbers L t)
+        (λ i j p q e. formed .names .aid-inj i j (keep-in (t .used) (numbers L t) p .1) (keep-in (t .used) (numbers L t) q .1) (ap (λ (z : Contract). z .aid) e))
+        (once-keep (t .used) (numbers L t) (once-upto (L .packages))));
+    four-sets = λ c m. let p = number m in subst FourSets (sym (p .2)) (four-sets-at formed (p .0) (p .1));
+  }
     where
       number : {c : Contract} → In c (map (contractAt L t) (usedNumbers L t)) → (n : ℕ) × T (t .used n) × (c ≡ contractAt L t n)
       number m = let p = map-in (contractAt L t) (usedNumbers L t) m in (p .0, keep-in (t .used) (numbers L t) (p .1) .1, p .2)

@@ -33,9 +33,9 @@ module _ {B : Type 0} (g : ℕ → ℕ → B) (f : ℕ → ℕ → Bool) (l m : 
   once-pairs dl dm inj = once-flat (λ i. map (g i) (keep (f i) l)) m dm
       (λ i _. once-map (g i) (keep (f i) l) (λ k k′ a b e. inj i k i k′ (keep-in (f i) l a .1) (keep-in (f i) l b .1) e .1) (once-keep (f i) l dl))
       (λ i i′ x _ _ a b.
-        let p = map-in (g i) (keep (f i) l) a in
-        let q = map-in (g i′) (keep (f i′) l) b in
-        inj i (p .0) i′ (q .0) (keep-in (f i) l (p .1) .1) (keep-in (f i′) l (q .1) .1) (sym (p .2) ∙ q .2) .0)
+      let p = map-in (g i) (keep (f i) l) a in
+      let q = map-in (g i′) (keep (f i′) l) b in
+      inj i (p .0) i′ (q .0) (keep-in (f i) l (p .1) .1) (keep-in (f i′) l (q .1) .1) (sym (p .2) ∙ q .2) .0)
 
 -- ---- what the bits of b on the services d of package j leave
 module _ (L : Layout) (t : Tables) (names : Names L (t .used) (t .aid) (t .tok) (t .provides)) (j : ℕ) (d : ℕ → Bool)
@@ -48,14 +48,16 @@ module _ (L : Layout) (t : Tables) (names : Names L (t .used) (t .aid) (t .tok) 
   pub in-left-by : (i k : ℕ) → T (b i j k) → T (d k) → In (callRow i (serviceAt t j k)) (leftBy L t b j d)
   in-left-by i k h g =
       in-pairs (λ i k. callRow i (serviceAt t j k)) (λ i k. b i j k && d k) (places L t) (numbers L t) i k
-        (in-upto (L .packages) i (names .used-lt i (bits .by-used i j k h))) (in-upto (L .services) k (names .prov-lt j k (bits .of-prov i j k h)))
-        (and-i (b i j k) (d k) h g)
+      (in-upto (L .packages) i (names .used-lt i (bits .by-used i j k h))) (in-upto (L .services) k (names .prov-lt j k (bits .of-prov i j k h)))
+      (and-i (b i j k) (d k) h g)
 
   pub once-left : NoRepeat (leftBy L t b j d)
   once-left =
       once-pairs (λ i k. callRow i (serviceAt t j k)) (λ i k. b i j k && d k) (places L t) (numbers L t) (once-upto (L .services)) (once-upto (L .packages))
-        (λ i k i′ k′ h g e. (ap (λ (u : Unmet). u .caller) e,
-          names .tok-inj j k k′ (bits .of-prov i j k (and-l (b i j k) (d k) h)) (bits .of-prov i′ j k′ (and-l (b i′ j k′) (d k′) g)) (ap (λ (u : Unmet). u .tok) e)))
+      (λ i k i′ k′ h g e. (
+        ap (λ (u : Unmet). u .caller) e,
+        names .tok-inj j k k′ (bits .of-prov i j k (and-l (b i j k) (d k) h)) (bits .of-prov i′ j k′ (and-l (b i′ j k′) (d k′) g)) (ap (λ (u : Unmet). u .tok) e),
+      ))
 
 -- ---- t′ is t without the services d of package j: no other service goes, and no package but j
 pub record Without (t t′ : Tables) (j : ℕ) (d : ℕ → Bool) : Type 0 where
@@ -98,22 +100,24 @@ none-stay : (t′ : Tables) → RowsStay t′ [] []
 none-stay t′ = record { old = λ u m. m; used = λ u m. absurd (in-nil m); stays = λ u m _. m; once = tt }
 
 pub need-bits : {L : Layout} {t : Tables} → Formed L t → Bits (t .used) (t .provides) (t .needs)
-need-bits fm = record
-    { by-used = λ x y z h. fm .calls .by-used x y z (fm .need-call x y z h)
-    ; of-prov = λ x y z h. fm .calls .of-prov x y z (fm .need-call x y z h)
-    ; other = λ x y z h. fm .calls .other x y z (fm .need-call x y z h) }
+need-bits fm = record {
+  by-used = λ x y z h. fm .calls .by-used x y z (fm .need-call x y z h);
+  of-prov = λ x y z h. fm .calls .of-prov x y z (fm .need-call x y z h);
+  other = λ x y z h. fm .calls .other x y z (fm .need-call x y z h);
+}
 
 module _ (L : Layout) (t t′ : Tables) (names : Names L (t .used) (t .aid) (t .tok) (t .provides)) (j : ℕ) (d : ℕ → Bool) (w : Without t t′ j d) where
   names-without : Names L (t′ .used) (t′ .aid) (t′ .tok) (t′ .provides)
-  names-without = record
-      { used-lt = λ n u. names .used-lt n (w .used-old n u)
-      ; prov-lt = λ y z p. names .prov-lt y z (w .prov-old y z p)
-      ; prov-used = w .prov-used
-      ; aid-valid = λ n u. rw (w .aid-same n u) (names .aid-valid n (w .used-old n u))
-      ; aid-blank = w .aid-blank
-      ; tok-blank = w .tok-blank
-      ; aid-inj = λ i n u v e. names .aid-inj i n (w .used-old i u) (w .used-old n v) (sym (w .aid-same i u) ∙ e ∙ w .aid-same n v)
-      ; tok-inj = λ y z z′ p q e. names .tok-inj y z z′ (w .prov-old y z p) (w .prov-old y z′ q) (sym (w .tok-same y z p) ∙ e ∙ w .tok-same y z′ q) }
+  names-without = record {
+    used-lt = λ n u. names .used-lt n (w .used-old n u);
+    prov-lt = λ y z p. names .prov-lt y z (w .prov-old y z p);
+    prov-used = w .prov-used;
+    aid-valid = λ n u. rw (w .aid-same n u) (names .aid-valid n (w .used-old n u));
+    aid-blank = w .aid-blank;
+    tok-blank = w .tok-blank;
+    aid-inj = λ i n u v e. names .aid-inj i n (w .used-old i u) (w .used-old n v) (sym (w .aid-same i u) ∙ e ∙ w .aid-same n v);
+    tok-inj = λ y z z′ p q e. names .tok-inj y z z′ (w .prov-old y z p) (w .prov-old y z′ q) (sym (w .tok-same y z p) ∙ e ∙ w .tok-same y z′ q);
+  }
 
   service-same : (y z : ℕ) → T (t′ .provides y z) → serviceAt t′ y z ≡ serviceAt t y z
   service-same y z p = λ i. record { aid = w .aid-same y (w .prov-used y z p) i; tok = w .tok-same y z p i }
@@ -127,10 +131,11 @@ module _ (L : Layout) (t t′ : Tables) (names : Names L (t .used) (t .aid) (t .
       bit-prov x y z h = w .prov-stays y z (bits .of-prov x y z (bs .old x y z h)) (bs .gone x y z h)
 
       bits-without : Bits (t′ .used) (t′ .provides) b′
-      bits-without = record
-          { by-used = bs .used
-          ; of-prov = bit-prov
-          ; other = λ x y z h. bits .other x y z (bs .old x y z h) }
+      bits-without = record {
+        by-used = bs .used;
+        of-prov = bit-prov;
+        other = λ x y z h. bits .other x y z (bs .old x y z h);
+      }
 
     -- ---- the rows after the change: old ones by packages that stay, and what the dropped bits leave
     module _ (l m : List Unmet) (rs : RowsStay t′ l m) where
@@ -141,26 +146,28 @@ module _ (L : Layout) (t t′ : Tables) (names : Names L (t .used) (t .aid) (t .
       each-row {P} f g = each-append {P = P} m (leftBy L t b j d) f (λ u h. let p = left-in L t names j d b bits h in subst P (sym (p .4)) (g (p .0) (p .1) (p .2) (p .3)))
 
       off-without : Off (t .used) (t .aid) (t .tok) (t .provides) l → Off (t′ .used) (t′ .aid) (t′ .tok) (t′ .provides) rows′
-      off-without off = record
-          { off-used = each-row {P = λ u. T (t′ .used (u .caller))} (rs .used) (λ i k h _. caller-stays i k h)
-          ; off-card = each-row {P = λ u. (y z : ℕ) → T (t′ .provides y z) → t′ .aid y ≡ u .callee → t′ .tok y z ≡ u .tok → ⊥}
-              (λ u h y z p e f. off .off-card u (rs .old u h) y z (w .prov-old y z p) (sym (w .aid-same y (w .prov-used y z p)) ∙ e) (sym (w .tok-same y z p) ∙ f))
-              (λ i k h g y z p e f.
-                let q = same-place L t names y z j k (w .prov-old y z p) (bits .of-prov i j k h) (sym (w .aid-same y (w .prov-used y z p)) ∙ e) (sym (w .tok-same y z p) ∙ f) in
-                w .prov-gone y z p (q .0) (subst (λ (x : ℕ). T (d x)) (sym (q .1)) g)) }
+      off-without off = record {
+        off-used = each-row {P = λ u. T (t′ .used (u .caller))} (rs .used) (λ i k h _. caller-stays i k h);
+        off-card = each-row {P = λ u. (y z : ℕ) → T (t′ .provides y z) → t′ .aid y ≡ u .callee → t′ .tok y z ≡ u .tok → ⊥}
+            (λ u h y z p e f. off .off-card u (rs .old u h) y z (w .prov-old y z p) (sym (w .aid-same y (w .prov-used y z p)) ∙ e) (sym (w .tok-same y z p) ∙ f))
+            (λ i k h g y z p e f.
+            let q = same-place L t names y z j k (w .prov-old y z p) (bits .of-prov i j k h) (sym (w .aid-same y (w .prov-used y z p)) ∙ e) (sym (w .tok-same y z p) ∙ f) in
+            w .prov-gone y z p (q .0) (subst (λ (x : ℕ). T (d x)) (sym (q .1)) g));
+      }
 
       unmet-without : UnmetRows (t .used) (t .aid) (t .tok) (t .provides) l → UnmetRows (t′ .used) (t′ .aid) (t′ .tok) (t′ .provides) rows′
-      unmet-without old = record
-          { off = off-without (old .off)
-          ; unmet-valid = each-row {P = λ u. T (validAid (u .callee))} (λ u h. old .unmet-valid u (rs .old u h))
-              (λ i k h _. names .aid-valid j (names .prov-used j k (bits .of-prov i j k h)))
-          ; unmet-other = each-row {P = λ u. u .callee ≡ t′ .aid (u .caller) → ⊥}
-              (λ u h e. old .unmet-other u (rs .old u h) (e ∙ w .aid-same (u .caller) (rs .used u h)))
-              (λ i k h _ e. bits .other i j k h
-                (names .aid-inj i j (bits .by-used i j k h) (names .prov-used j k (bits .of-prov i j k h)) (sym (e ∙ w .aid-same i (caller-stays i k h)))))
-          ; unmet-once = once-append m (leftBy L t b j d) (rs .once) (once-left L t names j d b bits) (λ u h g.
-              let p = left-in L t names j d b bits g in
-              old .off .off-card u (rs .old u h) j (p .1) (bits .of-prov (p .0) j (p .1) (p .2)) (sym (ap (λ (v : Unmet). v .callee) (p .4))) (sym (ap (λ (v : Unmet). v .tok) (p .4)))) }
+      unmet-without old = record {
+        off = off-without (old .off);
+        unmet-valid = each-row {P = λ u. T (validAid (u .callee))} (λ u h. old .unmet-valid u (rs .old u h))
+            (λ i k h _. names .aid-valid j (names .prov-used j k (bits .of-prov i j k h)));
+        unmet-other = each-row {P = λ u. u .callee ≡ t′ .aid (u .caller) → ⊥}
+            (λ u h e. old .unmet-other u (rs .old u h) (e ∙ w .aid-same (u .caller) (rs .used u h)))
+            (λ i k h _ e. bits .other i j k h
+            (names .aid-inj i j (bits .by-used i j k h) (names .prov-used j k (bits .of-prov i j k h)) (sym (e ∙ w .aid-same i (caller-stays i k h)))));
+        unmet-once = once-append m (leftBy L t b j d) (rs .once) (once-left L t names j d b bits) (λ u h g.
+            let p = left-in L t names j d b bits g in
+            old .off .off-card u (rs .old u h) j (p .1) (bits .of-prov (p .0) j (p .1) (p .2)) (sym (ap (λ (v : Unmet). v .callee) (p .4))) (sym (ap (λ (v : Unmet). v .tok) (p .4))));
+      }
 
       -- calls or needs of a package that stays: a bit on a dropped service is a row
       module _ (b′ : ℕ → ℕ → ℕ → Bool) (bs : BitsStay t′ j d b b′) (n : ℕ) (un : T (t′ .used n)) (r : Row) where
@@ -171,7 +178,7 @@ module _ (L : Layout) (t t′ : Tables) (names : Names L (t .used) (t .aid) (t .
             go (inl g) =
                 let ey = eqb→eq y j (and-l (eqb y j) (d z) g) in
                 row (in-right m (in-cast (λ i. callRow n ((e ∙ ap (λ (x : ℕ). serviceAt t x z) ey) i))
-                  (in-left-by L t names j d b bits n z (subst (λ (x : ℕ). T (b n x z)) ey h) (and-r (eqb y j) (d z) g))))
+                (in-left-by L t names j d b bits n z (subst (λ (x : ℕ). T (b n x z)) ey h) (and-r (eqb y j) (d z) g))))
             go (inr g) =
                 let h′ = bs .stays n y z h un (λ f k. g (and-i (eqb y j) (d z) (eqb-of f) k)) in
                 bit y z h′ (e ∙ sym (service-same y z (bit-prov b′ bs n y z h′)))
@@ -192,15 +199,16 @@ module _ (L : Layout) (t t′ : Tables) (names : Names L (t .used) (t .aid) (t .
 
 module _ (L : Layout) (t t′ : Tables) (j : ℕ) (d : ℕ → Bool) (m : List Unmet) (fm : Formed L t) (dr : Dropping L t t′ j d m) where
   pub formed-dropped : Formed L t′
-  formed-dropped = record
-      { names = names-without L t t′ (fm .names) j d (dr .without)
-      ; calls = bits-without L t t′ (fm .names) j d (dr .without) (t .calls) (fm .calls) (t′ .calls) (dr .calls-stay)
-      ; grants = bits-without L t t′ (fm .names) j d (dr .without) (grantBit t) (fm .grants) (grantBit t′) (dr .grants-stay)
-      ; need-call = λ x y z h.
-          dr .calls-stay .stays x y z (fm .need-call x y z (dr .needs-stay .old x y z h)) (dr .needs-stay .used x y z h) (dr .needs-stay .gone x y z h)
-      ; unmet = subst (UnmetRows (t′ .used) (t′ .aid) (t′ .tok) (t′ .provides)) (sym (dr .unmet-is))
-          (unmet-without L t t′ (fm .names) j d (dr .without) (t .calls) (fm .calls) (t .unmet) m (dr .unmet-stay) (fm .unmet))
-      ; waiting = dr .waiting }
+  formed-dropped = record {
+    names = names-without L t t′ (fm .names) j d (dr .without);
+    calls = bits-without L t t′ (fm .names) j d (dr .without) (t .calls) (fm .calls) (t′ .calls) (dr .calls-stay);
+    grants = bits-without L t t′ (fm .names) j d (dr .without) (grantBit t) (fm .grants) (grantBit t′) (dr .grants-stay);
+    need-call = λ x y z h.
+        dr .calls-stay .stays x y z (fm .need-call x y z (dr .needs-stay .old x y z h)) (dr .needs-stay .used x y z h) (dr .needs-stay .gone x y z h);
+    unmet = subst (UnmetRows (t′ .used) (t′ .aid) (t′ .tok) (t′ .provides)) (sym (dr .unmet-is))
+        (unmet-without L t t′ (fm .names) j d (dr .without) (t .calls) (fm .calls) (t .unmet) m (dr .unmet-stay) (fm .unmet));
+    waiting = dr .waiting;
+  }
 
   pub lost-dropped : Off (t′ .used) (t′ .aid) (t′ .tok) (t′ .provides) (leftBy L t (t .needs) j d)
   lost-dropped = off-without L t t′ (fm .names) j d (dr .without) (t .needs) (need-bits fm) [] [] (none-stay t′)

@@ -109,7 +109,7 @@ module _ (L : Layout) where
       t = decode L img
 
       settled : T (sound L img) → (q : Request) (n : ℕ) → answer (judgeCauses L (decode L img) q) ≡ n
-        → Judged img (judged L img (numberFor L (decode L img) (q .aid)) (draft L (decode L img) (q .aid) (q .change) .tables) n)
+          → Judged img (judged L img (numberFor L (decode L img) (q .aid)) (draft L (decode L img) (q .aid) (q .change) .tables) n)
       settled ok q zero e =
           let p = answer-append-zero 2 (3 when not (proper (q .aid) (q .change)) ∷ tableCauses L (decode L img) (q .aid) (q .change)) _ (judge-ascends L (decode L img) (q .aid) (not (proper (q .aid) (q .change))) (q .change)) e in
           let k = known (decode L img) (q .aid) (q .change) (answer-zero 2 (not (proper (q .aid) (q .change))) (tableCauses L (decode L img) (q .aid) (q .change)) (p .0) .1) in
@@ -141,12 +141,12 @@ module _ (L : Layout) where
   unfolding readOut
   reading img n out =
       by-test (ReadOutInto out) _ _ (sound L img)
-        (λ _. by-test (ReadOutInto out) _ _ (ltb n (L .packages) && decode L img .used n)
-          (λ _. by-test (ReadOutInto out) _ _ (leb (length r) (length out))
-            (λ t. let h = leb→le (length r) (length out) t in inl (refl, length-append r (drop (length r) out) ∙ rw (length-drop (length r) out) (omega arith), drop-append-seam r (drop (length r) out)))
-            (λ _. inr (12, there (there (here refl)), refl)))
-          (λ _. inr (5, there (here refl), refl)))
-        (λ _. inr (1, here refl, refl))
+      (λ _. by-test (ReadOutInto out) _ _ (ltb n (L .packages) && decode L img .used n)
+      (λ _. by-test (ReadOutInto out) _ _ (leb (length r) (length out))
+      (λ t. let h = leb→le (length r) (length out) t in inl (refl, length-append r (drop (length r) out) ∙ rw (length-drop (length r) out) (omega arith), drop-append-seam r (drop (length r) out)))
+      (λ _. inr (12, there (there (here refl)), refl)))
+      (λ _. inr (5, there (here refl), refl)))
+      (λ _. inr (1, here refl, refl))
     where
       r : List ℕ
       r = loadRecord L (contractAt L (decode L img) n)

@@ -38,15 +38,16 @@ module _ (L : Layout) (t : Tables) (f : Formed L t) (j k : ℕ) (uj : T (t .used
   place = new-place (t .tok) (t .provides) j k s free
 
   names : Names L (t .used) (t .aid) (after .tok) (after .provides)
-  names = record
-      { used-lt = f .names .used-lt
-      ; prov-lt = λ x y p. lt (place .prov-cases x y p)
-      ; prov-used = λ x y p. used (place .prov-cases x y p)
-      ; aid-valid = f .names .aid-valid
-      ; aid-blank = f .names .aid-blank
-      ; tok-blank = λ x y np. place .none-tok x y np ∙ f .names .tok-blank x y (λ p. np (place .old-prov x y p))
-      ; aid-inj = f .names .aid-inj
-      ; tok-inj = λ x y z p q e. inj x y z e (place .prov-cases x y p) (place .prov-cases x z q) }
+  names = record {
+    used-lt = f .names .used-lt;
+    prov-lt = λ x y p. lt (place .prov-cases x y p);
+    prov-used = λ x y p. used (place .prov-cases x y p);
+    aid-valid = f .names .aid-valid;
+    aid-blank = f .names .aid-blank;
+    tok-blank = λ x y np. place .none-tok x y np ∙ f .names .tok-blank x y (λ p. np (place .old-prov x y p));
+    aid-inj = f .names .aid-inj;
+    tok-inj = λ x y z p q e. inj x y z e (place .prov-cases x y p) (place .prov-cases x z q);
+  }
     where
       lt : {x y : ℕ} → ((x ≡ j) × (y ≡ k)) ⊎ T (t .provides x y) → y < L .services
       lt (inl e) = rw (e .1) k<
@@ -89,10 +90,11 @@ module _ (L : Layout) (t : Tables) (f : Formed L t) (j k : ℕ) (uj : T (t .used
         into (inr h) = or-r (b x y z) (eqb y j && eqb z k && c x) (and-i (eqb y j && eqb z k) (c x) (and-i (eqb y j) (eqb z k) (eqb-of (h .0)) (eqb-of (h .1))) (h .2))
 
     bits : Bits (t .used) (t .provides) b → ((x : ℕ) → T (c x) → T (t .used x)) → ((x : ℕ) → T (c x) → x ≡ j → ⊥) → Bits (t .used) (after .provides) (orNew b c)
-    bits old u ne = record
-        { by-used = λ x y z h. used x y z (bit-is x y z .0 h)
-        ; of-prov = λ x y z h. prov x y z (bit-is x y z .0 h)
-        ; other = λ x y z h. apart x y z (bit-is x y z .0 h) }
+    bits old u ne = record {
+      by-used = λ x y z h. used x y z (bit-is x y z .0 h);
+      of-prov = λ x y z h. prov x y z (bit-is x y z .0 h);
+      other = λ x y z h. apart x y z (bit-is x y z .0 h);
+    }
       where
         used : (x y z : ℕ) → OldOrNew x y z → T (t .used x)
         used x y z (inl h) = old .by-used x y z h
@@ -149,36 +151,40 @@ module _ (L : Layout) (t : Tables) (f : Formed L t) (j k : ℕ) (uj : T (t .used
   was-unmet u m = let p = keep-in (λ v. not (asksFor L t (t .aid j) s v)) (t .unmet) m in (p .0, not-e (asksFor L t (t .aid j) s u) (p .1))
 
   formed : Formed L after
-  formed = record
-      { names = names
-      ; calls = bits (t .calls) asked (f .calls) (λ x h. f .unmet .off .off-used (asks x) (was-asked x h))
-          (λ x h e. f .unmet .unmet-other (asks x) (was-asked x h) (ap (t .aid) (sym e)))
-      ; grants = bits (grantBit t) granted (f .grants) (λ x h. and-l (t .used x) (exists (eqAid (t .aid x)) l) h)
-          (λ x h e. others (t .aid x) (in-l x h) (ap (t .aid) e))
-      ; need-call = λ x y z h. bit-is (t .calls) asked x y z .1 (inl (f .need-call x y z h))
-      ; unmet = record
-          { off = record
-              { off-used = λ u m. f .unmet .off .off-used u (was-unmet u m .0)
-              ; off-card = λ u m y z p ea et. off u y z (was-unmet u m .0) (was-unmet u m .1) ea et (place .prov-cases y z p) }
-          ; unmet-valid = λ u m. f .unmet .unmet-valid u (was-unmet u m .0)
-          ; unmet-other = λ u m. f .unmet .unmet-other u (was-unmet u m .0)
-          ; unmet-once = once-keep (λ v. not (asksFor L t (t .aid j) s v)) (t .unmet) (f .unmet .unmet-once) }
-      ; waiting = record
-          { wait-valid = each-append (t .waiting) (map waits (keep lone l)) (f .waiting .wait-valid)
-              (λ w m. let p = new-row w m in rw (p .3) (valid (p .0) (p .1)))
-          ; wait-off = each-append (t .waiting) (map waits (keep lone l)) (f .waiting .wait-off)
-              (λ w m n u e. let p = new-row w m in lone-off (p .0) (p .2) n u (e ∙ ap (λ (v : Waiting). v .caller) (p .3)))
-          ; wait-prov = each-append (t .waiting) (map waits (keep lone l)) (λ w m. place .old-prov (w .callee) (w .service) (f .waiting .wait-prov w m))
-              (λ w m. let p = new-row w m in rw (p .3) (place .new-prov))
-          ; wait-once = once-append (t .waiting) (map waits (keep lone l)) (f .waiting .wait-once)
-              (once-map waits (keep lone l) (λ b c m n e. ap (λ (v : Waiting). v .caller) e) (once-keep lone l once))
-              (λ w m n. let p = new-row w n in free (rw (p .3) at (f .waiting .wait-prov w m))) } }
+  formed = record {
+    names = names;
+    calls = bits (t .calls) asked (f .calls) (λ x h. f .unmet .off .off-used (asks x) (was-asked x h))
+        (λ x h e. f .unmet .unmet-other (asks x) (was-asked x h) (ap (t .aid) (sym e)));
+    grants = bits (grantBit t) granted (f .grants) (λ x h. and-l (t .used x) (exists (eqAid (t .aid x)) l) h)
+        (λ x h e. others (t .aid x) (in-l x h) (ap (t .aid) e));
+    need-call = λ x y z h. bit-is (t .calls) asked x y z .1 (inl (f .need-call x y z h));
+    unmet = record {
+      off = record {
+        off-used = λ u m. f .unmet .off .off-used u (was-unmet u m .0);
+        off-card = λ u m y z p ea et. off u y z (was-unmet u m .0) (was-unmet u m .1) ea et (place .prov-cases y z p);
+      };
+      unmet-valid = λ u m. f .unmet .unmet-valid u (was-unmet u m .0);
+      unmet-other = λ u m. f .unmet .unmet-other u (was-unmet u m .0);
+      unmet-once = once-keep (λ v. not (asksFor L t (t .aid j) s v)) (t .unmet) (f .unmet .unmet-once);
+    };
+    waiting = record {
+      wait-valid = each-append (t .waiting) (map waits (keep lone l)) (f .waiting .wait-valid)
+          (λ w m. let p = new-row w m in rw (p .3) (valid (p .0) (p .1)));
+      wait-off = each-append (t .waiting) (map waits (keep lone l)) (f .waiting .wait-off)
+          (λ w m n u e. let p = new-row w m in lone-off (p .0) (p .2) n u (e ∙ ap (λ (v : Waiting). v .caller) (p .3)));
+      wait-prov = each-append (t .waiting) (map waits (keep lone l)) (λ w m. place .old-prov (w .callee) (w .service) (f .waiting .wait-prov w m))
+          (λ w m. let p = new-row w m in rw (p .3) (place .new-prov));
+      wait-once = once-append (t .waiting) (map waits (keep lone l)) (f .waiting .wait-once)
+          (once-map waits (keep lone l) (λ b c m n e. ap (λ (v : Waiting). v .caller) e) (once-keep lone l once))
+          (λ w m n. let p = new-row w n in free (rw (p .3) at (f .waiting .wait-prov w m)));
+    };
+  }
     where
       off : (u : Unmet) (y z : ℕ) → In u (t .unmet) → (T (asksFor L t (t .aid j) s u) → ⊥) → t .aid y ≡ u .callee → after .tok y z ≡ u .tok
-        → ((y ≡ j) × (z ≡ k)) ⊎ T (t .provides y z) → ⊥
+          → ((y ≡ j) × (z ≡ k)) ⊎ T (t .provides y z) → ⊥
       off u y z m no-ask ea et (inl e) =
           no-ask (and-i (eqAid (u .callee) (t .aid j)) (eqTok (u .tok) s) (eqAid-of (sym ea ∙ ap (t .aid) (e .0)))
-            (eqTok-of (sym et ∙ (λ i. after .tok (e .0 i) (e .1 i)) ∙ place .new-tok)))
+          (eqTok-of (sym et ∙ (λ i. after .tok (e .0 i) (e .1 i)) ∙ place .new-tok)))
       off u y z m no-ask ea et (inr p) = f .unmet .off .off-card u m y z p ea (sym (place .old-tok y z p) ∙ et)
 
   -- ---- what the packages provide, call, grant and need
@@ -225,7 +231,7 @@ module _ (L : Layout) (t : Tables) (f : Formed L t) (j k : ℕ) (uj : T (t .used
       by-bit i z e q (inr h) = inr (is-new z (h .0) (h .1) q (in-cast e (in-l i (h .2))))
 
       by-row : (z : ℕ) → x .tok ≡ after .tok n z → In (wait n z (x .aid)) (t .waiting) ⊎ In (wait n z (x .aid)) (map waits (keep lone l))
-        → GrantAt t n x ⊎ ((n ≡ j) × In x (map grantTo l))
+          → GrantAt t n x ⊎ ((n ≡ j) × In x (map grantTo l))
       by-row z q (inl m) = inl (row z m (q ∙ place .old-tok n z (f .waiting .wait-prov (wait n z (x .aid)) m)))
       by-row z q (inr m) =
           let p = new-row (wait n z (x .aid)) m in
@@ -296,43 +302,45 @@ module _ (L : Layout) (t : Tables) (f : Formed L t) (j k : ℕ) (uj : T (t .used
 
   -- ---- the package's contract gets the service and its grants, every other one stays
   has : (n : ℕ) (c : Contract) (p : List Tok) (g : List Row) → HasContract t [] n c → ((x : Tok) → In x p ↔ ProvidesAt after n x) → ((x : Row) → In x g ↔ GrantAt after n x)
-    → HasContract after [] n (record { aid = c .aid; provides = p; calls = c .calls; grants = g; needs = c .needs })
+      → HasContract after [] n (record { aid = c .aid; provides = p; calls = c .calls; grants = g; needs = c .needs })
   has n c p g h e q = record
       { aid = h .aid; provides = e; calls = λ r. Iff·trans (h .calls r) (calls-as n r); grants = q; needs = λ r. Iff·trans (h .needs r) (needs-as n r) }
 
   service-turns : (cs : List Contract) (a : Aid) → Stands t [] cs → t .aid j ≡ a → Turns L (addServiceAt L t j k s l) (alter a (altered (addService s l)) cs)
-  service-turns cs a st aj = record
-      { formed = formed
-      ; lost-off = record { off-used = λ u m. absurd (in-nil m); off-card = λ u m. absurd (in-nil m) }
-      ; stands = stands-alter L t after [] cs a (altered (addService s l)) j (f .names) st uj aj refl refl (λ c. refl)
-          (λ n c u ne h. has n c (c .provides) (c .grants) h
-            (more-others (ProvidesAt t) (ProvidesAt after) j (s ∷ []) more-provided n ne (c .provides) (h .provides))
-            (more-others (GrantAt t) (GrantAt after) j (map grantTo l) more-granted n ne (c .grants) (h .grants)))
-          (λ c h. has j c (c .provides ++ (s ∷ [])) (c .grants ++ map grantTo l) h
-            (more-own (ProvidesAt t) (ProvidesAt after) j (s ∷ []) more-provided (c .provides) (h .provides))
-            (more-own (GrantAt t) (GrantAt after) j (map grantTo l) more-granted (c .grants) (h .grants)))
-          (λ c h d. record
-            { provides = once-snoc (c .provides) s (d .provides) (λ m. fresh (h .provides s .0 m))
-            ; calls = d .calls
-            ; grants = once-append (c .grants) (map grantTo l) (d .grants) (once-map grantTo l (λ x y m n e. ap (λ (v : Row). v .aid) e) once)
-                (λ x m n. fresh (subst (ProvidesAt t j) (ap (λ (v : Row). v .tok) (map-in grantTo l n .2)) (granted-provided L t f j x (h .grants x .0 m))))
-            ; needs = d .needs }) }
+  service-turns cs a st aj = record {
+    formed = formed;
+    lost-off = record { off-used = λ u m. absurd (in-nil m); off-card = λ u m. absurd (in-nil m) };
+    stands = stands-alter L t after [] cs a (altered (addService s l)) j (f .names) st uj aj refl refl (λ c. refl)
+        (λ n c u ne h. has n c (c .provides) (c .grants) h
+        (more-others (ProvidesAt t) (ProvidesAt after) j (s ∷ []) more-provided n ne (c .provides) (h .provides))
+        (more-others (GrantAt t) (GrantAt after) j (map grantTo l) more-granted n ne (c .grants) (h .grants)))
+        (λ c h. has j c (c .provides ++ (s ∷ [])) (c .grants ++ map grantTo l) h
+        (more-own (ProvidesAt t) (ProvidesAt after) j (s ∷ []) more-provided (c .provides) (h .provides))
+        (more-own (GrantAt t) (GrantAt after) j (map grantTo l) more-granted (c .grants) (h .grants)))
+        (λ c h d. record {
+          provides = once-snoc (c .provides) s (d .provides) (λ m. fresh (h .provides s .0 m));
+          calls = d .calls;
+          grants = once-append (c .grants) (map grantTo l) (d .grants) (once-map grantTo l (λ x y m n e. ap (λ (v : Row). v .aid) e) once)
+              (λ x m n. fresh (subst (ProvidesAt t j) (ap (λ (v : Row). v .tok) (map-in grantTo l n .2)) (granted-provided L t f j x (h .grants x .0 m))));
+          needs = d .needs;
+        });
+  }
 
 pub kind-3 : (s : Tok) (l : List Aid) → KindTurns (addService s l)
 unfolding draft proper
 kind-3 s l L t cs a f st va vl pr e =
     at-package L t (f .names) (λ d. Turns L d (alter a (altered (addService s l)) cs)) (λ j. orElse (freeService L t j) (kept t) (λ k. addServiceAt L t j k s l)) a
-      (λ o. 6 when orElse o false (λ i. hasTok s (contractAt L t i .provides)) ∷ 7 when orElse o false (λ j. not (isSome (freeService L t j))) ∷ []) e
-      (λ j uj aj q.
-        let p = answer-zero 5 (hasTok s (contractAt L t j .provides)) (7 when not (isSome (freeService L t j)) ∷ []) q in
-        at-free j uj aj (λ h. false-T (p .0) (tok-has (provides-at L t f j s .1 h))) (freeService L t j) (free-service-is L t j) (p .1))
+    (λ o. 6 when orElse o false (λ i. hasTok s (contractAt L t i .provides)) ∷ 7 when orElse o false (λ j. not (isSome (freeService L t j))) ∷ []) e
+    (λ j uj aj q.
+    let p = answer-zero 5 (hasTok s (contractAt L t j .provides)) (7 when not (isSome (freeService L t j)) ∷ []) q in
+    at-free j uj aj (λ h. false-T (p .0) (tok-has (provides-at L t f j s .1 h))) (freeService L t j) (free-service-is L t j) (p .1))
   where
     apart : (b : Aid) → In b l → b ≡ a → ⊥
     apart b m e = not-e (eqAid b a) (every-in (λ b. not (eqAid b a)) l (and-l (every (λ b. not (eqAid b a)) l) (distinct eqAid l) pr) m) (eqAid-of e)
 
     at-free : (j : ℕ) → T (t .used j) → t .aid j ≡ a → (ProvidesAt t j s → ⊥) → (o : Option ℕ) → FreeIs (L .services) (t .provides j) o
-      → answer (7 when not (isSome o) ∷ []) ≡ 0 → Turns L (orElse o (kept t) (λ k. addServiceAt L t j k s l)) (alter a (altered (addService s l)) cs)
+        → answer (7 when not (isSome o) ∷ []) ≡ 0 → Turns L (orElse o (kept t) (λ k. addServiceAt L t j k s l)) (alter a (altered (addService s l)) cs)
     at-free j uj aj fresh none h q = absurd (last-no 6 true q tt)
     at-free j uj aj fresh (some k) h q =
         service-turns L t f j k uj (h .0) (h .1) s fresh l vl (λ b m e. apart b m (e ∙ aj))
-          (distinct→once eqAid eqAid→ eqAid-refl l (and-r (every (λ b. not (eqAid b a)) l) (distinct eqAid l) pr)) cs a st aj
+        (distinct→once eqAid eqAid→ eqAid-refl l (and-r (every (λ b. not (eqAid b a)) l) (distinct eqAid l) pr)) cs a st aj

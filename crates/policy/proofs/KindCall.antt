@@ -30,10 +30,11 @@ use Rattle.policy.proofs.Rows.{row-same, row-more, row-less, bit-more, 
 -- ---- bits with one more or one less
 module _ {used : ℕ → Bool} {provides : ℕ → ℕ → Bool} {b : ℕ → ℕ → ℕ → Bool} (i j k : ℕ) (h : Bits used provides b) where
   bits-more : T (used i) → T (provides j k) → (i ≡ j → ⊥) → Bits used provides (put3 i j k true b)
-  bits-more ui p ne = record
-      { by-used = λ x y z m. by x y z (put3-cases i j k b x y z m)
-      ; of-prov = λ x y z m. prov x y z (put3-cases i j k b x y z m)
-      ; other = λ x y z m. differ x y z (put3-cases i j k b x y z m) }
+  bits-more ui p ne = record {
+    by-used = λ x y z m. by x y z (put3-cases i j k b x y z m);
+    of-prov = λ x y z m. prov x y z (put3-cases i j k b x y z m);
+    other = λ x y z m. differ x y z (put3-cases i j k b x y z m);
+  }
     where
       by : (x y z : ℕ) → At i j k x y z ⊎ T (b x y z) → T (used x)
       by x y z (inl e) = subst (λ (w : ℕ). T (used w)) (sym (e .0)) ui
@@ -48,60 +49,71 @@ module _ {used : ℕ → Bool} {provides : ℕ → ℕ → Bool} {b : ℕ → �
       differ x y z (inr m) q = h .other x y z m q
 
   bits-less : Bits used provides (put3 i j k false b)
-  bits-less = record
-      { by-used = λ x y z m. h .by-used x y z (put3-less i j k b x y z .0 m .0)
-      ; of-prov = λ x y z m. h .of-prov x y z (put3-less i j k b x y z .0 m .0)
-      ; other = λ x y z m. h .other x y z (put3-less i j k b x y z .0 m .0) }
+  bits-less = record {
+    by-used = λ x y z m. h .by-used x y z (put3-less i j k b x y z .0 m .0);
+    of-prov = λ x y z m. h .of-prov x y z (put3-less i j k b x y z .0 m .0);
+    other = λ x y z m. h .other x y z (put3-less i j k b x y z .0 m .0);
+  }
 
 module _ (L : Layout) (t : Tables) (cs : List Contract) (a : Aid) (fo : Formed L t) (st : Stands t [] cs) (r : Row)
     (i : ℕ) (ui : T (t .used i)) (ai : t .aid i ≡ a) where
-
   -- ---- kind 5
   module _ (valid : T (validAid (r .aid))) (other : r .aid ≡ a → ⊥) (new : RowAt t (t .calls) (t .unmet) i r → ⊥) where
     unmet-more : ServerIs t r none → UnmetRows (t .used) (t .aid) (t .tok) (t .provides) (t .unmet ++ (callRow i r ∷ []))
     unmet-more none-at =
         let u = callRow i r in
-        record
-          { off = record
-              { off-used = each-snoc {P = λ v. T (t .used (v .caller))} (t .unmet) u (fo .unmet .off .off-used) ui
-              ; off-card = each-snoc {P = λ v. (j k : ℕ) → T (t .provides j k) → t .aid j ≡ v .callee → t .tok j k ≡ v .tok → ⊥} (t .unmet) u (fo .unmet .off .off-card) none-at }
-          ; unmet-valid = each-snoc {P = λ v. T (validAid (v .callee))} (t .unmet) u (fo .unmet .unmet-valid) valid
-          ; unmet-other = each-snoc {P = λ v. v .callee ≡ t .aid (v .caller) → ⊥} (t .unmet) u (fo .unmet .unmet-other) (λ e. other (e ∙ ai))
-          ; unmet-once = once-snoc (t .unmet) u (fo .unmet .unmet-once) (λ m. new (row m)) }
+        record {
+          off = record {
+            off-used = each-snoc {P = λ v. T (t .used (v .caller))} (t .unmet) u (fo .unmet .off .off-used) ui;
+            off-card = each-snoc {P = λ v. (j k : ℕ) → T (t .provides j k) → t .aid j ≡ v .callee → t .tok j k ≡ v .tok → ⊥} (t .unmet) u (fo .unmet .off .off-card) none-at;
+          };
+          unmet-valid = each-snoc {P = λ v. T (validAid (v .callee))} (t .unmet) u (fo .unmet .unmet-valid) valid;
+          unmet-other = each-snoc {P = λ v. v .callee ≡ t .aid (v .caller) → ⊥} (t .unmet) u (fo .unmet .unmet-other) (λ e. other (e ∙ ai));
+          unmet-once = once-snoc (t .unmet) u (fo .unmet .unmet-once) (λ m. new (row m));
+        }
 
     more-call : (o : Option Place) → ServerIs t r o → Turns L (addCallAt L t i r o) (alter a (altered (addCall r)) cs)
     more-call none s =
         let u = t .unmet ++ (callRow i r ∷ []) in
         let t′ = after L t (t .calls) (t .needs) u [] in
-        record
-          { formed = record { names = fo .names; calls = fo .calls; grants = fo .grants; need-call = fo .need-call; unmet = unmet-more s; waiting = fo .waiting }
-          ; lost-off = no-lost t
-          ; stands = stands-rows L t (t .calls) (t .needs) u [] cs a i (λ l. l ++ (r ∷ [])) (λ l. l) fo st ui ai
+        record {
+          formed = record { names = fo .names; calls = fo .calls; grants = fo .grants; need-call = fo .need-call; unmet = unmet-more s; waiting = fo .waiting };
+          lost-off = no-lost t;
+          stands = stands-rows L t (t .calls) (t .needs) u [] cs a i (λ l. l ++ (r ∷ [])) (λ l. l) fo st ui ai
               (turned-more i r (row-more t t′ (λ j k. refl) (t .calls) (t .unmet) i r) new)
-              (turned-same i (row-same t t′ (λ j k. refl) (t .needs) [])) }
+              (turned-same i (row-same t t′ (λ j k. refl) (t .needs) []));
+        }
     more-call (some p) s =
         let j = p .callee in
         let k = p .service in
         let c = put3 i j k true (t .calls) in
         let t′ = after L t c (t .needs) (t .unmet) [] in
-        record
-          { formed = record
-              { names = fo .names; calls = bits-more i j k (fo .calls) ui (s .0) (λ e. other (sym (s .1) ∙ ap (t .aid) (sym e) ∙ ai)); grants = fo .grants
-              ; need-call = λ x y z h. put3-keep i j k (t .calls) x y z (fo .need-call x y z h); unmet = fo .unmet; waiting = fo .waiting }
-          ; lost-off = no-lost t
-          ; stands = stands-rows L t c (t .needs) (t .unmet) [] cs a i (λ l. l ++ (r ∷ [])) (λ l. l) fo st ui ai
+        record {
+          formed = record {
+            names = fo .names;
+            calls = bits-more i j k (fo .calls) ui (s .0) (λ e. other (sym (s .1) ∙ ap (t .aid) (sym e) ∙ ai));
+            grants = fo .grants;
+            need-call = λ x y z h. put3-keep i j k (t .calls) x y z (fo .need-call x y z h);
+            unmet = fo .unmet;
+            waiting = fo .waiting;
+          };
+          lost-off = no-lost t;
+          stands = stands-rows L t c (t .needs) (t .unmet) [] cs a i (λ l. l ++ (r ∷ [])) (λ l. l) fo st ui ai
               (turned-more i r (bit-more t t′ (λ y z. refl) (t .calls) (t .unmet) i r j k (is-service t r p s)) new)
-              (turned-same i (row-same t t′ (λ y z. refl) (t .needs) [])) }
+              (turned-same i (row-same t t′ (λ y z. refl) (t .needs) []));
+        }
 
   -- ---- kind 6
   unmet-less : UnmetRows (t .used) (t .aid) (t .tok) (t .provides) (keep (λ u. not (eqUnmet (callRow i r) u)) (t .unmet))
-  unmet-less = record
-      { off = record
-          { off-used = λ u m. fo .unmet .off .off-used u (was m)
-          ; off-card = λ u m. fo .unmet .off .off-card u (was m) }
-      ; unmet-valid = λ u m. fo .unmet .unmet-valid u (was m)
-      ; unmet-other = λ u m. fo .unmet .unmet-other u (was m)
-      ; unmet-once = once-keep out (t .unmet) (fo .unmet .unmet-once) }
+  unmet-less = record {
+    off = record {
+      off-used = λ u m. fo .unmet .off .off-used u (was m);
+      off-card = λ u m. fo .unmet .off .off-card u (was m);
+    };
+    unmet-valid = λ u m. fo .unmet .unmet-valid u (was m);
+    unmet-other = λ u m. fo .unmet .unmet-other u (was m);
+    unmet-once = once-keep out (t .unmet) (fo .unmet .unmet-once);
+  }
     where
       out : Unmet → Bool
       out u = not (eqUnmet (callRow i r) u)
@@ -113,27 +125,33 @@ module _ (L : Layout) (t : Tables) (cs : List Contract) (a : Aid) (fo : Formed L
   less-call none s =
       let u = keep (λ v. not (eqUnmet (callRow i r) v)) (t .unmet) in
       let t′ = after L t (t .calls) (t .needs) u [] in
-      record
-        { formed = record { names = fo .names; calls = fo .calls; grants = fo .grants; need-call = fo .need-call; unmet = unmet-less; waiting = fo .waiting }
-        ; lost-off = no-lost t
-        ; stands = stands-rows L t (t .calls) (t .needs) u [] cs a i (withoutRow r) (withoutRow r) fo st ui ai
+      record {
+        formed = record { names = fo .names; calls = fo .calls; grants = fo .grants; need-call = fo .need-call; unmet = unmet-less; waiting = fo .waiting };
+        lost-off = no-lost t;
+        stands = stands-rows L t (t .calls) (t .needs) u [] cs a i (withoutRow r) (withoutRow r) fo st ui ai
             (turned-less i r (row-less t t′ (λ j k. refl) (t .calls) (t .unmet) i r (no-bit L t fo (t .calls) (λ x y z h. h) r s i)))
-            (turned-less i r (row-less t t′ (λ j k. refl) (t .needs) [] i r (no-bit L t fo (t .needs) (fo .need-call) r s i))) }
+            (turned-less i r (row-less t t′ (λ j k. refl) (t .needs) [] i r (no-bit L t fo (t .needs) (fo .need-call) r s i)));
+      }
   less-call (some p) s =
       let j = p .callee in
       let k = p .service in
       let c = put3 i j k false (t .calls) in
       let d = put3 i j k false (t .needs) in
       let t′ = after L t c d (t .unmet) [] in
-      record
-        { formed = record
-            { names = fo .names; calls = bits-less i j k (fo .calls); grants = fo .grants
-            ; need-call = λ x y z h. let q = put3-less i j k (t .needs) x y z .0 h in put3-less i j k (t .calls) x y z .1 (fo .need-call x y z (q .0), q .1)
-            ; unmet = fo .unmet; waiting = fo .waiting }
-        ; lost-off = no-lost t
-        ; stands = stands-rows L t c d (t .unmet) [] cs a i (withoutRow r) (withoutRow r) fo st ui ai
+      record {
+        formed = record {
+          names = fo .names;
+          calls = bits-less i j k (fo .calls);
+          grants = fo .grants;
+          need-call = λ x y z h. let q = put3-less i j k (t .needs) x y z .0 h in put3-less i j k (t .calls) x y z .1 (fo .need-call x y z (q .0), q .1);
+          unmet = fo .unmet;
+          waiting = fo .waiting;
+        };
+        lost-off = no-lost t;
+        stands = stands-rows L t c d (t .unmet) [] cs a i (withoutRow r) (withoutRow r) fo st ui ai
             (turned-less i r (bit-less t t′ (λ y z. refl) (t .calls) (t .unmet) i r j k (is-service t r p s) (one-bit L t fo (t .calls) (λ x y z h. h) j k (s .0) i) (no-row L t fo r p s i)))
-            (turned-less i r (bit-less t t′ (λ y z. refl) (t .needs) [] i r j k (is-service t r p s) (one-bit L t fo (t .needs) (fo .need-call) j k (s .0) i) in-nil)) }
+            (turned-less i r (bit-less t t′ (λ y z. refl) (t .needs) [] i r j k (is-service t r p s) (one-bit L t fo (t .needs) (fo .need-call) j k (s .0) i) in-nil));
+      }
 
 not-own : (r : Row) (a : Aid) → T (not (eqAid (r .aid) a)) → r .aid ≡ a → ⊥
 not-own r a h e = not-e (eqAid (r .aid) a) h (eqAid-of e)
@@ -142,14 +160,14 @@ pub kind-5 : (r : Row) → KindTurns (addCall r)
 unfolding draft proper
 kind-5 r L t cs a fo st va vr own ans =
     at-number L t (fo .names) a (λ o. Turns L (orElse o (kept t) (λ i. addCallAt L t i r (serverOf L t r))) (effect cs a (addCall r)))
-      (λ o. 6 when orElse o false (λ i. hasRow r (contractAt L t i .calls)) ∷ []) ans
-      (λ i ui ai six.
-        let h = false-T (answer-zero 5 (hasRow r (contractAt L t i .calls)) [] six .0) in
-        more-call L t cs a fo st r i ui ai vr (not-own r a own) (λ m. h (row-has (calls-at L t fo i r .1 m))) (serverOf L t r) (server-is L t (fo .names) r))
+    (λ o. 6 when orElse o false (λ i. hasRow r (contractAt L t i .calls)) ∷ []) ans
+    (λ i ui ai six.
+    let h = false-T (answer-zero 5 (hasRow r (contractAt L t i .calls)) [] six .0) in
+    more-call L t cs a fo st r i ui ai vr (not-own r a own) (λ m. h (row-has (calls-at L t fo i r .1 m))) (serverOf L t r) (server-is L t (fo .names) r))
 
 pub kind-6 : (r : Row) → KindTurns (removeCall r)
 unfolding draft
 kind-6 r L t cs a fo st va vr own ans =
     at-number L t (fo .names) a (λ o. Turns L (orElse o (kept t) (λ i. removeCallAt L t i r (serverOf L t r))) (effect cs a (removeCall r)))
-      (λ o. 6 when not (orElse o false (λ i. hasRow r (contractAt L t i .calls))) ∷ []) ans
-      (λ i ui ai six. less-call L t cs a fo st r i ui ai (serverOf L t r) (server-is L t (fo .names) r))
+    (λ o. 6 when not (orElse o false (λ i. hasRow r (contractAt L t i .calls))) ∷ []) ans
+    (λ i ui ai six. less-call L t cs a fo st r i ui ai (serverOf L t r) (server-is L t (fo .names) r))

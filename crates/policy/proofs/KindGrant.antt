@@ -51,30 +51,32 @@ module _ (t : Tables) (g : ℕ → ℕ → ℕ → Bool) (w : List Waiting) wher
       back (row m) = row m
 
   regranted : (n : ℕ) (c : Contract) (l : List Row) → HasContract t [] n c → ((x : Row) → In x l ↔ GrantAt (withGrants g w t) n x)
-    → HasContract (withGrants g w t) [] n (record { aid = c .aid; provides = c .provides; calls = c .calls; grants = l; needs = c .needs })
-  regranted n c l h e = record
-      { aid = h .aid
-      ; provides = λ s. Iff·trans (h .provides s) (provides-as n s)
-      ; calls = λ r. Iff·trans (h .calls r) (row-as (t .calls) (t .unmet) n r)
-      ; grants = e
-      ; needs = λ r. Iff·trans (h .needs r) (row-as (t .needs) [] n r) }
+      → HasContract (withGrants g w t) [] n (record { aid = c .aid; provides = c .provides; calls = c .calls; grants = l; needs = c .needs })
+  regranted n c l h e = record {
+    aid = h .aid;
+    provides = λ s. Iff·trans (h .provides s) (provides-as n s);
+    calls = λ r. Iff·trans (h .calls r) (row-as (t .calls) (t .unmet) n r);
+    grants = e;
+    needs = λ r. Iff·trans (h .needs r) (row-as (t .needs) [] n r);
+  }
 
   -- what the grants have to satisfy: f makes the list of package j's grants
   turns : (L : Layout) (cs : List Contract) (a : Aid) (j : ℕ) (f : List Row → List Row) → Formed L t → Stands t [] cs → T (t .used j) → t .aid j ≡ a
-    → Bits (t .used) (t .provides) (λ x y z. g y x z) → WaitingRows (t .used) (t .aid) (t .provides) w
-    → ((n : ℕ) → (n ≡ j → ⊥) → (l : List Row) → ((x : Row) → In x l ↔ GrantAt t n x) → (x : Row) → In x l ↔ GrantAt (withGrants g w t) n x)
-    → ((l : List Row) → ((x : Row) → In x l ↔ GrantAt t j x) → (x : Row) → In x (f l) ↔ GrantAt (withGrants g w t) j x)
-    → ((l : List Row) → ((x : Row) → In x l ↔ GrantAt t j x) → NoRepeat l → NoRepeat (f l))
-    → Turns L (kept (withGrants g w t))
-        (alter a (λ c. record { aid = c .aid; provides = c .provides; calls = c .calls; grants = f (c .grants); needs = c .needs }) cs)
-  turns L cs a j f h st uj aj bits rows others own once = record
-      { formed = record { names = h .names; calls = h .calls; grants = bits; need-call = h .need-call; unmet = h .unmet; waiting = rows }
-      ; lost-off = record { off-used = λ u m. absurd (in-nil m); off-card = λ u m. absurd (in-nil m) }
-      ; stands = stands-alter L t (withGrants g w t) [] cs a (λ c. record { aid = c .aid; provides = c .provides; calls = c .calls; grants = f (c .grants); needs = c .needs }) j
-          (h .names) st uj aj refl refl (λ c. refl)
-          (λ n c u ne k. regranted n c (c .grants) k (others n ne (c .grants) (k .grants)))
-          (λ c k. regranted j c (f (c .grants)) k (own (c .grants) (k .grants)))
-          (λ c k s. record { provides = s .provides; calls = s .calls; grants = once (c .grants) (k .grants) (s .grants); needs = s .needs }) }
+      → Bits (t .used) (t .provides) (λ x y z. g y x z) → WaitingRows (t .used) (t .aid) (t .provides) w
+      → ((n : ℕ) → (n ≡ j → ⊥) → (l : List Row) → ((x : Row) → In x l ↔ GrantAt t n x) → (x : Row) → In x l ↔ GrantAt (withGrants g w t) n x)
+      → ((l : List Row) → ((x : Row) → In x l ↔ GrantAt t j x) → (x : Row) → In x (f l) ↔ GrantAt (withGrants g w t) j x)
+      → ((l : List Row) → ((x : Row) → In x l ↔ GrantAt t j x) → NoRepeat l → NoRepeat (f l))
+      → Turns L (kept (withGrants g w t))
+      (alter a (λ c. record { aid = c .aid; provides = c .provides; calls = c .calls; grants = f (c .grants); needs = c .needs }) cs)
+  turns L cs a j f h st uj aj bits rows others own once = record {
+    formed = record { names = h .names; calls = h .calls; grants = bits; need-call = h .need-call; unmet = h .unmet; waiting = rows };
+    lost-off = record { off-used = λ u m. absurd (in-nil m); off-card = λ u m. absurd (in-nil m) };
+    stands = stands-alter L t (withGrants g w t) [] cs a (λ c. record { aid = c .aid; provides = c .provides; calls = c .calls; grants = f (c .grants); needs = c .needs }) j
+        (h .names) st uj aj refl refl (λ c. refl)
+        (λ n c u ne k. regranted n c (c .grants) k (others n ne (c .grants) (k .grants)))
+        (λ c k. regranted j c (f (c .grants)) k (own (c .grants) (k .grants)))
+        (λ c k s. record { provides = s .provides; calls = s .calls; grants = once (c .grants) (k .grants) (s .grants); needs = s .needs });
+  }
 
 -- ---- the grant r of service k of package j
 module _ (L : Layout) (t : Tables) (f : Formed L t) (r : Row) (j k : ℕ) (pk : T (t .provides j k)) (ek : t .tok j k ≡ r .tok) where
@@ -164,9 +166,11 @@ module _ (L : Layout) (t : Tables) (f : Formed L t) (r : Row) (j k : ℕ) (pk : 
 
       place : n ≡ j → x ≡ r → At j i k n y z
       place en ex =
-          let pz : T (t .provides j z) = subst (λ (v : ℕ). T (t .provides v z)) en (f .grants .of-prov y n z (both .0)) in
-          (en, f .names .aid-inj y i (f .grants .by-used y n z (both .0)) (h .0) (sym e ∙ ap (λ (v : Row). v .aid) ex ∙ sym (h .1)),
-            is-k z pz (sym (ap (λ (v : Row). v .tok) ex) ∙ q ∙ ap (λ (v : ℕ). t .tok v z) en))
+          let pz : T (t .provides j z) = subst (λ (v : ℕ). T (t .provides v z)) en (f .grants .of-prov y n z (both .0)) in (
+            en,
+            f .names .aid-inj y i (f .grants .by-used y n z (both .0)) (h .0) (sym e ∙ ap (λ (v : Row). v .aid) ex ∙ sym (h .1)),
+            is-k z pz (sym (ap (λ (v : Row). v .tok) ex) ∙ q ∙ ap (λ (v : ℕ). t .tok v z) en),
+          )
   left (some i) h n x (row z m q) = (row z m q, λ p. f .waiting .wait-off (wait (x .aid) n z) m i (h .0) (h .1 ∙ sym (ap (λ (y : Row). y .aid) (p .1))))
 
   stays : (o : Option ℕ) → NumberIs t (r .aid) o → (n : ℕ) (x : Row) → ((n ≡ j) × (x ≡ r) → ⊥) → GrantAt t n x → GrantAt (removed o) n x
@@ -200,25 +204,28 @@ module _ (L : Layout) (t : Tables) (f : Formed L t) (r : Row) (j k : ℕ) (pk : 
       turns-less : Less (withGrants g w t) → Turns L (kept (withGrants g w t)) (alter a (altered (removeGrant r)) cs)
       turns-less m = turns t g w L cs a j (withoutRow r) f st uj aj bits rows
           (λ n ne l h x. (λ i. m n x .1 (h x .0 i, λ p. ne (p .0)), λ q. h x .1 (m n x .0 q .0)))
-          (λ l h x.
-            ( λ i. let p = keep-in (λ y. not (eqRow r y)) l i in m j x .1 (h x .0 (p .0), λ e. not-e (eqRow r x) (p .1) (rw (e .1) (eqRow-refl r)))
-            , λ q. in-keep (λ y. not (eqRow r y)) (h x .1 (m j x .0 q .0)) (not-i (eqRow r x) (λ e. m j x .0 q .1 (refl, sym (eqRow→ r x e)))) ))
+          (λ l h x. (
+            λ i. let p = keep-in (λ y. not (eqRow r y)) l i in m j x .1 (h x .0 (p .0), λ e. not-e (eqRow r x) (p .1) (rw (e .1) (eqRow-refl r))),
+            λ q. in-keep (λ y. not (eqRow r y)) (h x .1 (m j x .0 q .0)) (not-i (eqRow r x) (λ e. m j x .0 q .1 (refl, sym (eqRow→ r x e)))),
+          ))
           (λ l h d. once-keep (λ y. not (eqRow r y)) l d)
 
     add-turns : T (validAid (r .aid)) → (r .aid ≡ a → ⊥) → (GrantAt t j r → ⊥) → (o : Option ℕ) → NumberIs t (r .aid) o
-      → Turns L (addGrantAt L t j (r .aid) k o) (alter a (altered (addGrant r)) cs)
+        → Turns L (addGrantAt L t j (r .aid) k o) (alter a (altered (addGrant r)) cs)
     add-turns valid other fresh none h = turns-more (t .grants) (t .waiting ++ (asked ∷ [])) (f .grants)
-        (record
-          { wait-valid = each-snoc (t .waiting) asked (f .waiting .wait-valid) valid
-          ; wait-off = each-snoc (t .waiting) asked (f .waiting .wait-off) h
-          ; wait-prov = each-snoc (t .waiting) asked (f .waiting .wait-prov) pk
-          ; wait-once = once-snoc (t .waiting) asked (f .waiting .wait-once) (λ m. fresh (row k m (sym ek))) })
+        (record {
+          wait-valid = each-snoc (t .waiting) asked (f .waiting .wait-valid) valid;
+          wait-off = each-snoc (t .waiting) asked (f .waiting .wait-off) h;
+          wait-prov = each-snoc (t .waiting) asked (f .waiting .wait-prov) pk;
+          wait-once = once-snoc (t .waiting) asked (f .waiting .wait-once) (λ m. fresh (row k m (sym ek)));
+        })
         (more none h) fresh
     add-turns valid other fresh (some i) h = turns-more (put3 j i k true (t .grants)) (t .waiting)
-        (record
-          { by-used = λ x y z b. used x y z (put3-cases j i k (t .grants) y x z b)
-          ; of-prov = λ x y z b. prov x y z (put3-cases j i k (t .grants) y x z b)
-          ; other = λ x y z b. apart x y z (put3-cases j i k (t .grants) y x z b) })
+        (record {
+          by-used = λ x y z b. used x y z (put3-cases j i k (t .grants) y x z b);
+          of-prov = λ x y z b. prov x y z (put3-cases j i k (t .grants) y x z b);
+          other = λ x y z b. apart x y z (put3-cases j i k (t .grants) y x z b);
+        })
         (f .waiting) (more (some i) h) fresh
       where
         used : (x y z : ℕ) → At j i k y x z ⊎ T (t .grants y x z) → T (t .used x)
@@ -235,20 +242,22 @@ module _ (L : Layout) (t : Tables) (f : Formed L t) (r : Row) (j k : ℕ) (pk : 
 
     remove-turns : (o : Option ℕ) → NumberIs t (r .aid) o → Turns L (removeGrantAt L t j (r .aid) k o) (alter a (altered (removeGrant r)) cs)
     remove-turns none h = turns-less (t .grants) (keep (λ w. not (eqWaiting asked w)) (t .waiting)) (f .grants)
-        (record
-          { wait-valid = λ w m. f .waiting .wait-valid w (was m)
-          ; wait-off = λ w m. f .waiting .wait-off w (was m)
-          ; wait-prov = λ w m. f .waiting .wait-prov w (was m)
-          ; wait-once = once-keep (λ w. not (eqWaiting asked w)) (t .waiting) (f .waiting .wait-once) })
+        (record {
+          wait-valid = λ w m. f .waiting .wait-valid w (was m);
+          wait-off = λ w m. f .waiting .wait-off w (was m);
+          wait-prov = λ w m. f .waiting .wait-prov w (was m);
+          wait-once = once-keep (λ w. not (eqWaiting asked w)) (t .waiting) (f .waiting .wait-once);
+        })
         (less none h)
       where
         was : {w : Waiting} → In w (keep (λ w. not (eqWaiting asked w)) (t .waiting)) → In w (t .waiting)
         was m = keep-in (λ w. not (eqWaiting asked w)) (t .waiting) m .0
     remove-turns (some i) h = turns-less (put3 j i k false (t .grants)) (t .waiting)
-        (record
-          { by-used = λ x y z b. f .grants .by-used x y z (was x y z b)
-          ; of-prov = λ x y z b. f .grants .of-prov x y z (was x y z b)
-          ; other = λ x y z b. f .grants .other x y z (was x y z b) })
+        (record {
+          by-used = λ x y z b. f .grants .by-used x y z (was x y z b);
+          of-prov = λ x y z b. f .grants .of-prov x y z (was x y z b);
+          other = λ x y z b. f .grants .other x y z (was x y z b);
+        })
         (f .waiting) (less (some i) h)
       where
         was : (x y z : ℕ) → T (put3 j i k false (t .grants) y x z) → T (t .grants y x z)
@@ -259,12 +268,12 @@ pub kind-7 : (r : Row) → KindTurns (addGrant r)
 unfolding draft proper
 kind-7 r L t cs a f st va vr pr e =
     at-place L t (f .names) (λ d. Turns L d (alter a (altered (addGrant r)) cs)) (λ j k. addGrantAt L t j (r .aid) k (numberOf L t (r .aid))) a (r .tok)
-      (λ o. 6 when (not (orElse o false (λ i. hasTok (r .tok) (contractAt L t i .provides))) || orElse o false (λ i. hasRow r (contractAt L t i .grants))) ∷ []) e
-      (λ j q. provides-at L t f j (r .tok) .0 (has-tok (r .tok) (contractAt L t j .provides)
-        (not-no (has j) (λ h. last-no 5 (not (has j) || had j) q (or-l (not (has j)) (had j) h)))))
-      (λ j k aj q pk ek. add-turns L t f r j k pk ek cs st a aj vr (λ o. not-e (eqAid (r .aid) a) pr (eqAid-of o))
-        (λ g. last-no 5 (not (has j) || had j) q (or-r (not (has j)) (had j) (row-has (grants-at L t f j r .1 g))))
-        (numberOf L t (r .aid)) (number-is L t (f .names) (r .aid)))
+    (λ o. 6 when (not (orElse o false (λ i. hasTok (r .tok) (contractAt L t i .provides))) || orElse o false (λ i. hasRow r (contractAt L t i .grants))) ∷ []) e
+    (λ j q. provides-at L t f j (r .tok) .0 (has-tok (r .tok) (contractAt L t j .provides)
+    (not-no (has j) (λ h. last-no 5 (not (has j) || had j) q (or-l (not (has j)) (had j) h)))))
+    (λ j k aj q pk ek. add-turns L t f r j k pk ek cs st a aj vr (λ o. not-e (eqAid (r .aid) a) pr (eqAid-of o))
+    (λ g. last-no 5 (not (has j) || had j) q (or-r (not (has j)) (had j) (row-has (grants-at L t f j r .1 g))))
+    (numberOf L t (r .aid)) (number-is L t (f .names) (r .aid)))
   where
     has : ℕ → Bool
     has j = hasTok (r .tok) (contractAt L t j .provides)
@@ -276,7 +285,7 @@ pub kind-8 : (r : Row) → KindTurns (removeGrant r)
 unfolding draft
 kind-8 r L t cs a f st va vr pr e =
     at-place L t (f .names) (λ d. Turns L d (alter a (altered (removeGrant r)) cs)) (λ j k. removeGrantAt L t j (r .aid) k (numberOf L t (r .aid))) a (r .tok)
-      (λ o. 6 when not (orElse o false (λ i. hasRow r (contractAt L t i .grants))) ∷ []) e
-      (λ j q. let had = hasRow r (contractAt L t j .grants) in
-        granted-provided L t f j r (grants-at L t f j r .0 (has-row r (contractAt L t j .grants) (not-no had (last-no 5 (not had) q)))))
-      (λ j k aj q pk ek. remove-turns L t f r j k pk ek cs st a aj (numberOf L t (r .aid)) (number-is L t (f .names) (r .aid)))
+    (λ o. 6 when not (orElse o false (λ i. hasRow r (contractAt L t i .grants))) ∷ []) e
+    (λ j q. let had = hasRow r (contractAt L t j .grants) in
+    granted-provided L t f j r (grants-at L t f j r .0 (has-row r (contractAt L t j .grants) (not-no had (last-no 5 (not had) q)))))
+    (λ j k aj q pk ek. remove-turns L t f r j k pk ek cs st a aj (numberOf L t (r .aid)) (number-is L t (f .names) (r .aid)))

@@ -55,9 +55,11 @@ module _ (L : Layout) (t : Tables) (m : ℕ) (k : Contract) (new : Newcomer L t 
           (λ s j n e. in-cast (row-path (ap (λ (u : Unmet). u .callee) e) (ap (λ (u : Unmet). u .tok) e)) j) (callRow m r) (rows r .0 i) refl
 
   grants-new : (r : Row) → In r (k .grants) ↔ GrantAt after m r
-  grants-new r =
-      ((λ i. to i (numberOf L t (r .aid)) (number-is L t (new .formed .names) (r .aid))
-        (λ s. in-right (keep (waitsStill L t m k) (t .waiting)) (in-map (waitingFor L t m k) (in-keep (uninstalled L t m k) i s)))), back)
+  grants-new r = (
+    (λ i. to i (numberOf L t (r .aid)) (number-is L t (new .formed .names) (r .aid))
+        (λ s. in-right (keep (waitsStill L t m k) (t .waiting)) (in-map (waitingFor L t m k) (in-keep (uninstalled L t m k) i s)))),
+    back,
+  )
     where
       to : In r (k .grants) → (o : Option ℕ) → NumberIs t (r .aid) o → (T (not (isSome o)) → In (waitingFor L t m k r) (after .waiting)) → GrantAt after m r
       to i none h f = GrantAt.row (loadedService L t m k (r .tok)) (f tt) (sym (service-loaded L t m k new valid (new .grants-provided r i) .1))
@@ -65,7 +67,7 @@ module _ (L : Layout) (t : Tables) (m : ℕ) (k : Contract) (new : Newcomer L t 
           let q = service-loaded L t m k new valid (new .grants-provided r i) in
           let z = loadedService L t m k (r .tok) in
           GrantAt.bit x z (grant-is L t m k new m x z .1 (GrantIs.own refl (q .0) (h .0) (in-cast (row-path (h .1) (q .1)) i)))
-            (sym (h .1) ∙ sym (l .aid-old x (l .old-ne x (h .0)))) (sym (q .1))
+          (sym (h .1) ∙ sym (l .aid-old x (l .old-ne x (h .0)))) (sym (q .1))
 
       bits : (x z : ℕ) → r .aid ≡ on .aid x → r .tok ≡ on .tok m z → GrantIs L t m k m x z → In r (k .grants)
       bits x z e f (GrantIs.own q p u i) = in-cast (row-path (e ∙ l .aid-old x (l .old-ne x u)) f) i
@@ -77,17 +79,18 @@ module _ (L : Layout) (t : Tables) (m : ℕ) (k : Contract) (new : Newcomer L t 
       back (GrantAt.row z i f) =
           let w : Waiting = record { caller = r .aid; callee = m; service = z } in
           each-waiting L t m k new valid (λ (v : Waiting). w ≡ v → In r (k .grants))
-            (λ v j s e. absurd (l .prov-ne (v .callee) (v .service) (new .formed .waiting .wait-prov v j) (sym (ap (λ (x : Waiting). x .callee) e))))
-            (λ s j n e. in-cast (row-path (ap (λ (x : Waiting). x .caller) e)
-              (f ∙ ap (λ (x : Waiting). on .tok m (x .service)) e ∙ service-loaded L t m k new valid (new .grants-provided s j) .1)) j) w i refl
+          (λ v j s e. absurd (l .prov-ne (v .callee) (v .service) (new .formed .waiting .wait-prov v j) (sym (ap (λ (x : Waiting). x .callee) e))))
+          (λ s j n e. in-cast (row-path (ap (λ (x : Waiting). x .caller) e)
+          (f ∙ ap (λ (x : Waiting). on .tok m (x .service)) e ∙ service-loaded L t m k new valid (new .grants-provided s j) .1)) j) w i refl
 
   has-new : HasContract after lost m k
-  has-new = record
-      { aid = sym (l .aid-new)
-      ; provides = λ s. ((λ i. let q = in-tok L t m k new i in at (q .0) (q .1) (sym (q .2))), back)
-      ; calls = rows-new (k .calls) (after .calls) (after .unmet) calls-named calls-left
-      ; grants = grants-new
-      ; needs = rows-new (k .needs) (after .needs) lost (need-new L t m k new) (λ r. ((λ i. i), (λ i. i))) }
+  has-new = record {
+    aid = sym (l .aid-new);
+    provides = λ s. ((λ i. let q = in-tok L t m k new i in at (q .0) (q .1) (sym (q .2))), back);
+    calls = rows-new (k .calls) (after .calls) (after .unmet) calls-named calls-left;
+    grants = grants-new;
+    needs = rows-new (k .needs) (after .needs) lost (need-new L t m k new) (λ r. ((λ i. i), (λ i. i)));
+  }
     where
       back : {s : Tok} → ProvidesAt after m s → In s (k .provides)
       back (at y p e) = in-cast e (tok-in L t m k new y p)
@@ -174,7 +177,7 @@ module _ (L : Layout) (t : Tables) (m : ℕ) (k : Contract) (new : Newcomer L t 
         back (GrantAt.bit x z h e f) = bits x z e (f ∙ l .tok-old n z n-ne) (grant-is L t m k new n x z .0 h)
         back (GrantAt.row z i f) = GrantAt.row z
             (each-waiting L t m k new valid (λ (w : Waiting). (w .callee ≡ m → ⊥) → In w (t .waiting)) (λ w j s h. j) (λ s j q h. absurd (h refl))
-              (record { caller = r .aid; callee = n; service = z }) i n-ne)
+            (record { caller = r .aid; callee = n; service = z }) i n-ne)
             (f ∙ l .tok-old n z n-ne)
 
     needs-old : (r : Row) → RowAt t (t .needs) [] n r ↔ RowAt after (after .needs) lost n r
@@ -192,24 +195,26 @@ module _ (L : Layout) (t : Tables) (m : ℕ) (k : Contract) (new : Newcomer L t 
         back (RowAt.row i) = absurd (each-left L t m k (λ (v : Unmet). (v .caller ≡ m → ⊥) → ⊥) (k .needs) (λ s j q h. h refl) (callRow n r) i n-ne)
 
     has-old : (c : Contract) → HasContract t [] n c → HasContract after lost n c
-    has-old c h = record
-        { aid = h .aid ∙ sym (l .aid-old n n-ne)
-        ; provides = λ s. through (h .provides s) (provides-old s)
-        ; calls = λ r. through (h .calls r) (calls-old r)
-        ; grants = λ r. through (h .grants r) (grants-old r)
-        ; needs = λ r. through (h .needs r) (needs-old r) }
+    has-old c h = record {
+      aid = h .aid ∙ sym (l .aid-old n n-ne);
+      provides = λ s. through (h .provides s) (provides-old s);
+      calls = λ r. through (h .calls r) (calls-old r);
+      grants = λ r. through (h .grants r) (grants-old r);
+      needs = λ r. through (h .needs r) (needs-old r);
+    }
       where
         through : {A B C : Type 0} → A ↔ B → B ↔ C → A ↔ C
         through f g = ((λ x. g .0 (f .0 x)), (λ x. f .1 (g .1 x)))
 
   load-stands : (cs : List Contract) → Stands t [] cs → Stands after lost (k ∷ cs)
-  load-stands cs st = record
-      { these = λ c i. these c (in-cons i)
-      ; no-others = λ n. by-number m (λ (x : ℕ). T (on .used x) → (c : Contract) × In c (k ∷ cs) × (c .aid ≡ on .aid x)) n
-          (λ u. (k, here refl, sym (l .aid-new)))
-          (λ h u. let q = st .no-others n (l .used-back n h u) in (q .0, there (q .1), q .2 ∙ sym (l .aid-old n h)))
-      ; one-each = ((λ i. let q = map-in (λ c. c .aid) cs i in let h = st .these (q .0) (q .1) in new .absent (h .0) (h .1) (sym (h .2 .aid) ∙ sym (q .2))), st .one-each)
-      ; four-sets = λ c i. four c (in-cons i) }
+  load-stands cs st = record {
+    these = λ c i. these c (in-cons i);
+    no-others = λ n. by-number m (λ (x : ℕ). T (on .used x) → (c : Contract) × In c (k ∷ cs) × (c .aid ≡ on .aid x)) n
+        (λ u. (k, here refl, sym (l .aid-new)))
+        (λ h u. let q = st .no-others n (l .used-back n h u) in (q .0, there (q .1), q .2 ∙ sym (l .aid-old n h)));
+    one-each = ((λ i. let q = map-in (λ c. c .aid) cs i in let h = st .these (q .0) (q .1) in new .absent (h .0) (h .1) (sym (h .2 .aid) ∙ sym (q .2))), st .one-each);
+    four-sets = λ c i. four c (in-cons i);
+  }
     where
       these : (c : Contract) → (c ≡ k) ⊎ In c cs → (n : ℕ) × T (on .used n) × HasContract after lost n c
       these c (inl e) = (m, l .used-new, subst (λ (x : Contract). HasContract after lost m x) (sym e) has-new)
@@ -223,7 +228,8 @@ pub kind-1 : (p : List Tok) (c g n : List Row) → KindTurns (load p c g n)
 kind-1 p c g n L t cs a f st va v pr an =
     let k : Contract = record { aid = a; provides = p; calls = c; grants = g; needs = n } in
     load-draft L t a p c g n (λ (d : Draft). Turns L d (k ∷ cs)) f (v .0) pr an
-      (λ m new. record
-        { formed = load-formed L t m k new va (v .1) (v .2)
-        ; lost-off = left-off L t m k new va n
-        ; stands = load-stands L t m k new va cs st })
+    (λ m new. record {
+      formed = load-formed L t m k new va (v .1) (v .2);
+      lost-off = left-off L t m k new va n;
+      stands = load-stands L t m k new va cs st;
+    })

@@ -27,13 +27,13 @@ use Rattle.policy.proofs.Rows.{row-same, row-more, row-less, bit-more, 
 
 module _ (L : Layout) (t : Tables) (cs : List Contract) (a : Aid) (fo : Formed L t) (st : Stands t [] cs) (r : Row)
     (i : ℕ) (ui : T (t .used i)) (ai : t .aid i ≡ a) where
-
   -- ---- kind 9: the row is a call of package i, and no need yet
   module _ (called : RowAt t (t .calls) (t .unmet) i r) (new : RowAt t (t .needs) [] i r → ⊥) where
     lost-one : ServerIs t r none → Off (t .used) (t .aid) (t .tok) (t .provides) (callRow i r ∷ [])
-    lost-one s = record
-        { off-used = each-one (λ v. T (t .used (v .caller))) (callRow i r) ui
-        ; off-card = each-one (λ v. (j k : ℕ) → T (t .provides j k) → t .aid j ≡ v .callee → t .tok j k ≡ v .tok → ⊥) (callRow i r) s }
+    lost-one s = record {
+      off-used = each-one (λ v. T (t .used (v .caller))) (callRow i r) ui;
+      off-card = each-one (λ v. (j k : ℕ) → T (t .provides j k) → t .aid j ≡ v .callee → t .tok j k ≡ v .tok → ⊥) (callRow i r) s;
+    }
 
     -- the call is the bit of the service that was found
     call-bit : (p : Place) → ServerIs t r (some p) → RowAt t (t .calls) (t .unmet) i r → T (t .calls i (p .callee) (p .service))
@@ -47,61 +47,75 @@ module _ (L : Layout) (t : Tables) (cs : List Contract) (a : Aid) (fo : Formed L
     still-called p s x y z (inr h) = fo .need-call x y z h
 
     more-need : (o : Option Place) → ServerIs t r o → Turns L (addNeedAt L t i r o) (alter a (altered (addNeed r)) cs)
-    more-need none s = record
-        { formed = fo
-        ; lost-off = lost-one s
-        ; stands = stands-rows L t (t .calls) (t .needs) (t .unmet) (callRow i r ∷ []) cs a i (λ l. l) (λ l. l ++ (r ∷ [])) fo st ui ai
-            (turned-same i (row-same t t (λ j k. refl) (t .calls) (t .unmet)))
-            (turned-more i r (row-more t t (λ j k. refl) (t .needs) [] i r) new) }
+    more-need none s = record {
+      formed = fo;
+      lost-off = lost-one s;
+      stands = stands-rows L t (t .calls) (t .needs) (t .unmet) (callRow i r ∷ []) cs a i (λ l. l) (λ l. l ++ (r ∷ [])) fo st ui ai
+          (turned-same i (row-same t t (λ j k. refl) (t .calls) (t .unmet)))
+          (turned-more i r (row-more t t (λ j k. refl) (t .needs) [] i r) new);
+    }
     more-need (some p) s =
         let j = p .callee in
         let k = p .service in
         let d = put3 i j k true (t .needs) in
         let t′ = after L t (t .calls) d (t .unmet) [] in
-        record
-          { formed = record
-              { names = fo .names; calls = fo .calls; grants = fo .grants
-              ; need-call = λ x y z h. still-called p s x y z (put3-cases i j k (t .needs) x y z h); unmet = fo .unmet; waiting = fo .waiting }
-          ; lost-off = no-lost t
-          ; stands = stands-rows L t (t .calls) d (t .unmet) [] cs a i (λ l. l) (λ l. l ++ (r ∷ [])) fo st ui ai
+        record {
+          formed = record {
+            names = fo .names;
+            calls = fo .calls;
+            grants = fo .grants;
+            need-call = λ x y z h. still-called p s x y z (put3-cases i j k (t .needs) x y z h);
+            unmet = fo .unmet;
+            waiting = fo .waiting;
+          };
+          lost-off = no-lost t;
+          stands = stands-rows L t (t .calls) d (t .unmet) [] cs a i (λ l. l) (λ l. l ++ (r ∷ [])) fo st ui ai
               (turned-same i (row-same t t′ (λ y z. refl) (t .calls) (t .unmet)))
-              (turned-more i r (bit-more t t′ (λ y z. refl) (t .needs) [] i r j k (is-service t r p s)) new) }
+              (turned-more i r (bit-more t t′ (λ y z. refl) (t .needs) [] i r j k (is-service t r p s)) new);
+        }
 
   -- ---- kind 10
   less-need : (o : Option Place) → ServerIs t r o → Turns L (removeNeedAt L t i r o) (alter a (altered (removeNeed r)) cs)
-  less-need none s = record
-      { formed = fo
-      ; lost-off = no-lost t
-      ; stands = stands-rows L t (t .calls) (t .needs) (t .unmet) [] cs a i (λ l. l) (withoutRow r) fo st ui ai
-          (turned-same i (row-same t t (λ j k. refl) (t .calls) (t .unmet)))
-          (turned-less i r (row-less t t (λ j k. refl) (t .needs) [] i r (no-bit L t fo (t .needs) (fo .need-call) r s i))) }
+  less-need none s = record {
+    formed = fo;
+    lost-off = no-lost t;
+    stands = stands-rows L t (t .calls) (t .needs) (t .unmet) [] cs a i (λ l. l) (withoutRow r) fo st ui ai
+        (turned-same i (row-same t t (λ j k. refl) (t .calls) (t .unmet)))
+        (turned-less i r (row-less t t (λ j k. refl) (t .needs) [] i r (no-bit L t fo (t .needs) (fo .need-call) r s i)));
+  }
   less-need (some p) s =
       let j = p .callee in
       let k = p .service in
       let d = put3 i j k false (t .needs) in
       let t′ = after L t (t .calls) d (t .unmet) [] in
-      record
-        { formed = record
-            { names = fo .names; calls = fo .calls; grants = fo .grants
-            ; need-call = λ x y z h. fo .need-call x y z (put3-less i j k (t .needs) x y z .0 h .0); unmet = fo .unmet; waiting = fo .waiting }
-        ; lost-off = no-lost t
-        ; stands = stands-rows L t (t .calls) d (t .unmet) [] cs a i (λ l. l) (withoutRow r) fo st ui ai
+      record {
+        formed = record {
+          names = fo .names;
+          calls = fo .calls;
+          grants = fo .grants;
+          need-call = λ x y z h. fo .need-call x y z (put3-less i j k (t .needs) x y z .0 h .0);
+          unmet = fo .unmet;
+          waiting = fo .waiting;
+        };
+        lost-off = no-lost t;
+        stands = stands-rows L t (t .calls) d (t .unmet) [] cs a i (λ l. l) (withoutRow r) fo st ui ai
             (turned-same i (row-same t t′ (λ y z. refl) (t .calls) (t .unmet)))
-            (turned-less i r (bit-less t t′ (λ y z. refl) (t .needs) [] i r j k (is-service t r p s) (one-bit L t fo (t .needs) (fo .need-call) j k (s .0) i) in-nil)) }
+            (turned-less i r (bit-less t t′ (λ y z. refl) (t .needs) [] i r j k (is-service t r p s) (one-bit L t fo (t .needs) (fo .need-call) j k (s .0) i) in-nil));
+      }
 
 pub kind-9 : (r : Row) → KindTurns (addNeed r)
 unfolding draft
 kind-9 r L t cs a fo st va vr own ans =
     at-number L t (fo .names) a (λ o. Turns L (orElse o (kept t) (λ i. addNeedAt L t i r (serverOf L t r))) (effect cs a (addNeed r)))
-      (λ o. 6 when (not (orElse o false (λ i. hasRow r (contractAt L t i .calls))) || orElse o false (λ i. hasRow r (contractAt L t i .needs))) ∷ []) ans
-      (λ i ui ai six.
-        let h = asked-and-new (hasRow r (contractAt L t i .calls)) (hasRow r (contractAt L t i .needs)) six in
-        more-need L t cs a fo st r i ui ai (calls-at L t fo i r .0 (has-row r (contractAt L t i .calls) (h .0))) (λ m. h .1 (row-has (needs-at L t fo i r .1 m)))
-          (serverOf L t r) (server-is L t (fo .names) r))
+    (λ o. 6 when (not (orElse o false (λ i. hasRow r (contractAt L t i .calls))) || orElse o false (λ i. hasRow r (contractAt L t i .needs))) ∷ []) ans
+    (λ i ui ai six.
+    let h = asked-and-new (hasRow r (contractAt L t i .calls)) (hasRow r (contractAt L t i .needs)) six in
+    more-need L t cs a fo st r i ui ai (calls-at L t fo i r .0 (has-row r (contractAt L t i .calls) (h .0))) (λ m. h .1 (row-has (needs-at L t fo i r .1 m)))
+    (serverOf L t r) (server-is L t (fo .names) r))
 
 pub kind-10 : (r : Row) → KindTurns (removeNeed r)
 unfolding draft
 kind-10 r L t cs a fo st va vr own ans =
     at-number L t (fo .names) a (λ o. Turns L (orElse o (kept t) (λ i. removeNeedAt L t i r (serverOf L t r))) (effect cs a (removeNeed r)))
-      (λ o. 6 when not (orElse o false (λ i. hasRow r (contractAt L t i .needs))) ∷ []) ans
-      (λ i ui ai six. less-need L t cs a fo st r i ui ai (serverOf L t r) (server-is L t (fo .names) r))
+    (λ o. 6 when not (orElse o false (λ i. hasRow r (contractAt L t i .needs))) ∷ []) ans
+    (λ i ui ai six. less-need L t cs a fo st r i ui ai (serverOf L t r) (server-is L t (fo .names) r))

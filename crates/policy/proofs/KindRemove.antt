@@ -83,27 +83,29 @@ module _ (L : Layout) (t : Tables) (fm : Formed L t) (n : ℕ) (un : T (t .used 
       go false e = h (λ f. false-T e (eqb-of f))
 
   without : Without t t′ n (λ z. true)
-  without = record
-      { used-old = λ x u. used-e x u .1
-      ; used-stays = used-i
-      ; prov-old = λ y z p. prov-e y z p .0
-      ; prov-gone = λ y z p e _. prov-e y z p .1 e
-      ; prov-stays = λ y z p ne. prov-i y z p (λ e. ne e tt)
-      ; prov-used = λ y z p. let q = prov-e y z p in used-i y (fm .names .prov-used y z (q .0)) (q .1)
-      ; aid-same = λ x u. aid-same x (used-e x u .0)
-      ; tok-same = λ y z p. tok-same y z (prov-e y z p .1)
-      ; aid-blank = λ x h. blank x [] (t .aid x) (λ ne. fm .names .aid-blank x (λ u. h (used-i x u ne)))
-      ; tok-blank = λ y z h. blank y noTok (t .tok y z) (λ ne. fm .names .tok-blank y z (λ p. h (prov-i y z p ne))) }
+  without = record {
+    used-old = λ x u. used-e x u .1;
+    used-stays = used-i;
+    prov-old = λ y z p. prov-e y z p .0;
+    prov-gone = λ y z p e _. prov-e y z p .1 e;
+    prov-stays = λ y z p ne. prov-i y z p (λ e. ne e tt);
+    prov-used = λ y z p. let q = prov-e y z p in used-i y (fm .names .prov-used y z (q .0)) (q .1);
+    aid-same = λ x u. aid-same x (used-e x u .0);
+    tok-same = λ y z p. tok-same y z (prov-e y z p .1);
+    aid-blank = λ x h. blank x [] (t .aid x) (λ ne. fm .names .aid-blank x (λ u. h (used-i x u ne)));
+    tok-blank = λ y z h. blank y noTok (t .tok y z) (λ ne. fm .names .tok-blank y z (λ p. h (prov-i y z p ne)));
+  }
 
   -- ---- bits with n at one end go
   module _ (b : ℕ → ℕ → ℕ → Bool) (bits : Bits (t .used) (t .provides) b) (s : ℕ → ℕ → Bool)
       (away : (x y : ℕ) → T (s x y) → (x ≡ n → ⊥) × (y ≡ n → ⊥)) (away-i : (x y : ℕ) → (x ≡ n → ⊥) → (y ≡ n → ⊥) → T (s x y)) where
     bits-stay : BitsStay t′ n (λ z. true) b (λ x y z. b x y z && s x y)
-    bits-stay = record
-        { old = λ x y z h. and-l (b x y z) (s x y) h
-        ; used = λ x y z h. used-i x (bits .by-used x y z (and-l (b x y z) (s x y) h)) (away x y (and-r (b x y z) (s x y) h) .0)
-        ; gone = λ x y z h e _. away x y (and-r (b x y z) (s x y) h) .1 e
-        ; stays = λ x y z h u ne. and-i (b x y z) (s x y) h (away-i x y (used-e x u .0) (λ e. ne e tt)) }
+    bits-stay = record {
+      old = λ x y z h. and-l (b x y z) (s x y) h;
+      used = λ x y z h. used-i x (bits .by-used x y z (and-l (b x y z) (s x y) h)) (away x y (and-r (b x y z) (s x y) h) .0);
+      gone = λ x y z h e _. away x y (and-r (b x y z) (s x y) h) .1 e;
+      stays = λ x y z h u ne. and-i (b x y z) (s x y) h (away-i x y (used-e x u .0) (λ e. ne e tt));
+    }
 
   away : (x y : ℕ) → T (not (eqb x n || eqb y n)) → (x ≡ n → ⊥) × (y ≡ n → ⊥)
   away x y h = let p = neither (eqb x n) (eqb y n) h in (λ e. p .0 (eqb-of e), λ e. p .1 (eqb-of e))
@@ -125,13 +127,14 @@ module _ (L : Layout) (t : Tables) (fm : Formed L t) (n : ℕ) (un : T (t .used 
   stayU = keep (λ u. not (eqb (u .caller) n)) (t .unmet)
 
   unmet-stay : RowsStay t′ (t .unmet) stayU
-  unmet-stay = record
-      { old = λ u m. keep-in (λ v. not (eqb (v .caller) n)) (t .unmet) m .0
-      ; used = λ u m.
-          let p = keep-in (λ v. not (eqb (v .caller) n)) (t .unmet) m in
-          used-i (u .caller) (fm .unmet .off .off-used u (p .0)) (λ e. not-e (eqb (u .caller) n) (p .1) (eqb-of e))
-      ; stays = λ u m h. in-keep (λ v. not (eqb (v .caller) n)) m (not-i (eqb (u .caller) n) (λ e. used-e (u .caller) h .0 (eqb→eq (u .caller) n e)))
-      ; once = once-keep (λ v. not (eqb (v .caller) n)) (t .unmet) (fm .unmet .unmet-once) }
+  unmet-stay = record {
+    old = λ u m. keep-in (λ v. not (eqb (v .caller) n)) (t .unmet) m .0;
+    used = λ u m.
+        let p = keep-in (λ v. not (eqb (v .caller) n)) (t .unmet) m in
+        used-i (u .caller) (fm .unmet .off .off-used u (p .0)) (λ e. not-e (eqb (u .caller) n) (p .1) (eqb-of e));
+    stays = λ u m h. in-keep (λ v. not (eqb (v .caller) n)) m (not-i (eqb (u .caller) n) (λ e. used-e (u .caller) h .0 (eqb→eq (u .caller) n e)));
+    once = once-keep (λ v. not (eqb (v .caller) n)) (t .unmet) (fm .unmet .unmet-once);
+  }
 
   abbrev stayW : List Waiting
   stayW = keep (λ w. not (eqb (w .callee) n)) (t .waiting)
@@ -160,18 +163,19 @@ module _ (L : Layout) (t : Tables) (fm : Formed L t) (n : ℕ) (un : T (t .used 
   each-wait {P} f g = each-append {P = P} stayW nowWait (λ w m. let p = wait-old m in f w (p .0) (p .1)) (λ w m. let p = wait-new m in subst P (sym (p .3)) (g (p .0) (p .1) (p .2)))
 
   waiting′ : WaitingRows (t′ .used) (t′ .aid) (t′ .provides) (t′ .waiting)
-  waiting′ = record
-      { wait-valid = each-wait {P = λ w. T (validAid (w .caller))} (λ w m _. fm .waiting .wait-valid w m) (λ j k h. fm .names .aid-valid n un)
-      ; wait-off = each-wait {P = λ w. (x : ℕ) → T (t′ .used x) → t′ .aid x ≡ w .caller → ⊥}
-          (λ w m _ x u e. let p = used-e x u in fm .waiting .wait-off w m x (p .1) (sym (aid-same x (p .0)) ∙ e))
-          (λ j k h x u e. let p = used-e x u in p .0 (fm .names .aid-inj x n (p .1) un (sym (aid-same x (p .0)) ∙ e)))
-      ; wait-prov = each-wait {P = λ w. T (t′ .provides (w .callee) (w .service))}
-          (λ w m ne. prov-i (w .callee) (w .service) (fm .waiting .wait-prov w m) ne)
-          (λ j k h. prov-i j k (fm .grants .of-prov n j k h) (grantor j k h))
-      ; wait-once = once-append stayW nowWait (once-keep (λ v. not (eqb (v .callee) n)) (t .waiting) (fm .waiting .wait-once))
-          (once-pairs waitFor (λ j. t .grants j n) (places L t) (numbers L t) (once-upto (L .services)) (once-upto (L .packages))
-            (λ j k j′ k′ _ _ e. (ap (λ (w : Waiting). w .callee) e, ap (λ (w : Waiting). w .service) e)))
-          (λ w m o. fm .waiting .wait-off w (wait-old m .0) n un (sym (ap (λ (v : Waiting). v .caller) (wait-new o .3)))) }
+  waiting′ = record {
+    wait-valid = each-wait {P = λ w. T (validAid (w .caller))} (λ w m _. fm .waiting .wait-valid w m) (λ j k h. fm .names .aid-valid n un);
+    wait-off = each-wait {P = λ w. (x : ℕ) → T (t′ .used x) → t′ .aid x ≡ w .caller → ⊥}
+        (λ w m _ x u e. let p = used-e x u in fm .waiting .wait-off w m x (p .1) (sym (aid-same x (p .0)) ∙ e))
+        (λ j k h x u e. let p = used-e x u in p .0 (fm .names .aid-inj x n (p .1) un (sym (aid-same x (p .0)) ∙ e)));
+    wait-prov = each-wait {P = λ w. T (t′ .provides (w .callee) (w .service))}
+        (λ w m ne. prov-i (w .callee) (w .service) (fm .waiting .wait-prov w m) ne)
+        (λ j k h. prov-i j k (fm .grants .of-prov n j k h) (grantor j k h));
+    wait-once = once-append stayW nowWait (once-keep (λ v. not (eqb (v .callee) n)) (t .waiting) (fm .waiting .wait-once))
+        (once-pairs waitFor (λ j. t .grants j n) (places L t) (numbers L t) (once-upto (L .services)) (once-upto (L .packages))
+        (λ j k j′ k′ _ _ e. (ap (λ (w : Waiting). w .callee) e, ap (λ (w : Waiting). w .service) e)))
+        (λ w m o. fm .waiting .wait-off w (wait-old m .0) n un (sym (ap (λ (v : Waiting). v .caller) (wait-new o .3))));
+  }
 
   pub dropping : Dropping L t t′ n (λ z. true) stayU
   dropping = record
@@ -195,9 +199,9 @@ module _ (L : Layout) (t : Tables) (fm : Formed L t) (n : ℕ) (un : T (t .used 
             let g : T (t .grants m n k) = subst (λ (x : ℕ). T (t .grants m x k)) ei h in
             let p : T (t .provides m k) = fm .grants .of-prov n m k g in
             row k (in-right stayW (in-cast (λ z. record { caller = (e ∙ ap (t .aid) ei) z; callee = m; service = k })
-              (in-pairs waitFor (λ j. t .grants j n) (places L t) (numbers L t) m k
-                (in-upto (L .packages) m (fm .names .used-lt m (fm .names .prov-used m k p))) (in-upto (L .services) k (fm .names .prov-lt m k p)) g)))
-              (f ∙ sym (tok-same m k ne))
+            (in-pairs waitFor (λ j. t .grants j n) (places L t) (numbers L t) m k
+            (in-upto (L .packages) m (fm .names .used-lt m (fm .names .prov-used m k p))) (in-upto (L .services) k (fm .names .prov-lt m k p)) g)))
+            (f ∙ sym (tok-same m k ne))
         go (inr q) =
             let ni : i ≡ n → ⊥ = λ x. q (eqb-of x) in
             bit i k (grants-stay .stays i m k h (used-i i (fm .grants .by-used i m k h) ni) (λ x _. ne x)) (e ∙ sym (aid-same i ni)) (f ∙ sym (tok-same m k ne))
@@ -221,37 +225,42 @@ module _ (L : Layout) (t : Tables) (fm : Formed L t) (n : ℕ) (un : T (t .used 
   has′ : (m : ℕ) (c : Contract) → T (t′ .used m) → HasContract t [] m c → HasContract t′ lost′ m c
   has′ m c u h =
       let ne : m ≡ n → ⊥ = used-e m u .0 in
-      record
-      { aid = h .aid ∙ sym (aid-same m ne)
-      ; provides = λ s. (λ x. provides-stays m ne s (h .provides s .0 x), λ x. h .provides s .1 (provides-old m ne s x))
-      ; calls = λ r. calls-dropped L t t′ n (λ z. true) stayU fm dropping m u r (h .calls r)
-      ; grants = λ r. (λ x. grant-stays m ne r (h .grants r .0 x), λ x. h .grants r .1 (grant-old m ne r x))
-      ; needs = λ r. needs-dropped L t t′ n (λ z. true) stayU fm dropping m u r (h .needs r) }
+      record {
+        aid = h .aid ∙ sym (aid-same m ne);
+        provides = λ s. (λ x. provides-stays m ne s (h .provides s .0 x), λ x. h .provides s .1 (provides-old m ne s x));
+        calls = λ r. calls-dropped L t t′ n (λ z. true) stayU fm dropping m u r (h .calls r);
+        grants = λ r. (λ x. grant-stays m ne r (h .grants r .0 x), λ x. h .grants r .1 (grant-old m ne r x));
+        needs = λ r. needs-dropped L t t′ n (λ z. true) stayU fm dropping m u r (h .needs r);
+      }
 
   module _ (cs : List Contract) (a : Aid) (ea : t .aid n ≡ a) (st : Stands t [] cs) where
     abbrev stays : Contract → Bool
     stays c = not (eqAid (c .aid) a)
 
     stands′ : Stands t′ lost′ (keep stays cs)
-    stands′ = record
-        { these = λ c m.
-            let p = keep-in stays cs m in
-            let h = st .these c (p .0) in
-            let u = used-i (h .0) (h .1) (λ e. not-e (eqAid (c .aid) a) (p .1) (eqAid-of (h .2 .aid ∙ ap (t .aid) e ∙ ea))) in
-            (h .0, u, has′ (h .0) c u (h .2))
-        ; no-others = λ m u.
-            let p = used-e m u in
-            let h = st .no-others m (p .1) in
-            (h .0, in-keep stays (h .1) (not-i (eqAid (h .0 .aid) a) (λ e. p .0 (fm .names .aid-inj m n (p .1) un (sym (h .2) ∙ eqAid→ (h .0 .aid) a e ∙ sym ea)))),
-              h .2 ∙ sym (aid-same m (p .0)))
-        ; one-each = once-map-keep (λ c. c .aid) stays cs (st .one-each)
-        ; four-sets = λ c m. st .four-sets c (keep-in stays cs m .0) }
+    stands′ = record {
+      these = λ c m.
+          let p = keep-in stays cs m in
+          let h = st .these c (p .0) in
+          let u = used-i (h .0) (h .1) (λ e. not-e (eqAid (c .aid) a) (p .1) (eqAid-of (h .2 .aid ∙ ap (t .aid) e ∙ ea))) in
+          (h .0, u, has′ (h .0) c u (h .2));
+      no-others = λ m u.
+          let p = used-e m u in
+          let h = st .no-others m (p .1) in (
+            h .0,
+            in-keep stays (h .1) (not-i (eqAid (h .0 .aid) a) (λ e. p .0 (fm .names .aid-inj m n (p .1) un (sym (h .2) ∙ eqAid→ (h .0 .aid) a e ∙ sym ea)))),
+            h .2 ∙ sym (aid-same m (p .0)),
+          );
+      one-each = once-map-keep (λ c. c .aid) stays cs (st .one-each);
+      four-sets = λ c m. st .four-sets c (keep-in stays cs m .0);
+    }
 
     turns : Turns L (removeAt L t n) (keep stays cs)
-    turns = record
-        { formed = formed-dropped L t t′ n (λ z. true) stayU fm dropping
-        ; lost-off = lost-dropped L t t′ n (λ z. true) stayU fm dropping
-        ; stands = stands′ }
+    turns = record {
+      formed = formed-dropped L t t′ n (λ z. true) stayU fm dropping;
+      lost-off = lost-dropped L t t′ n (λ z. true) stayU fm dropping;
+      stands = stands′;
+    }
 
 -- where cause 5 does not apply, the package is found
 pub removed : (L : Layout) (t : Tables) → Formed L t → (a : Aid) → answer (tableCauses L t a remove) ≡ 0 → (P : Draft → Look → Type 0)

@@ -68,25 +68,27 @@ module _ (L : Layout) (t : Tables) (fm : Formed L t) (j k : ℕ) (pk : T (t .pro
       go false e = fm .names .tok-blank y z (λ p. h (prov-i y z p (away y z (false-T e))))
 
   without : Without t t′ j d
-  without = record
-      { used-old = λ x u. u
-      ; used-stays = λ x u _. u
-      ; prov-old = λ y z p. prov-e y z p .0
-      ; prov-gone = λ y z p. prov-e y z p .1
-      ; prov-stays = prov-i
-      ; prov-used = λ y z p. fm .names .prov-used y z (prov-e y z p .0)
-      ; aid-same = λ x _. refl
-      ; tok-same = λ y z p. tok-same y z (prov-e y z p .1)
-      ; aid-blank = fm .names .aid-blank
-      ; tok-blank = tok-blank }
+  without = record {
+    used-old = λ x u. u;
+    used-stays = λ x u _. u;
+    prov-old = λ y z p. prov-e y z p .0;
+    prov-gone = λ y z p. prov-e y z p .1;
+    prov-stays = prov-i;
+    prov-used = λ y z p. fm .names .prov-used y z (prov-e y z p .0);
+    aid-same = λ x _. refl;
+    tok-same = λ y z p. tok-same y z (prov-e y z p .1);
+    aid-blank = fm .names .aid-blank;
+    tok-blank = tok-blank;
+  }
 
   -- ---- bits on the service go, and its waiting grants
   bits-stay : (b : ℕ → ℕ → ℕ → Bool) → Bits (t .used) (t .provides) b → BitsStay t′ j d b (λ x y z. b x y z && not (eqb y j && eqb z k))
-  bits-stay b bits = record
-      { old = λ x y z h. and-l (b x y z) (not (eqb y j && eqb z k)) h
-      ; used = λ x y z h. bits .by-used x y z (and-l (b x y z) (not (eqb y j && eqb z k)) h)
-      ; gone = λ x y z h. away y z (not-e (eqb y j && eqb z k) (and-r (b x y z) (not (eqb y j && eqb z k)) h))
-      ; stays = λ x y z h _ ne. and-i (b x y z) (not (eqb y j && eqb z k)) h (not-i (eqb y j && eqb z k) (away-i y z ne)) }
+  bits-stay b bits = record {
+    old = λ x y z h. and-l (b x y z) (not (eqb y j && eqb z k)) h;
+    used = λ x y z h. bits .by-used x y z (and-l (b x y z) (not (eqb y j && eqb z k)) h);
+    gone = λ x y z h. away y z (not-e (eqb y j && eqb z k) (and-r (b x y z) (not (eqb y j && eqb z k)) h));
+    stays = λ x y z h _ ne. and-i (b x y z) (not (eqb y j && eqb z k)) h (not-i (eqb y j && eqb z k) (away-i y z ne));
+  }
 
   abbrev stayW : Waiting → Bool
   stayW w = not (eqb (w .callee) j && eqb (w .service) k)
@@ -97,18 +99,20 @@ module _ (L : Layout) (t : Tables) (fm : Formed L t) (j k : ℕ) (pk : T (t .pro
       (p .0, away (w .callee) (w .service) (not-e (eqb (w .callee) j && eqb (w .service) k) (p .1)))
 
   pub dropping : Dropping L t t′ j d (t .unmet)
-  dropping = record
-      { without = without
-      ; calls-stay = bits-stay (t .calls) (fm .calls)
-      ; grants-stay = bits-stay (grantBit t) (fm .grants)
-      ; needs-stay = bits-stay (t .needs) (need-bits fm)
-      ; unmet-stay = record { old = λ u m. m; used = fm .unmet .off .off-used; stays = λ u m _. m; once = fm .unmet .unmet-once }
-      ; unmet-is = refl
-      ; waiting = record
-          { wait-valid = λ w m. fm .waiting .wait-valid w (wait-old m .0)
-          ; wait-off = λ w m. fm .waiting .wait-off w (wait-old m .0)
-          ; wait-prov = λ w m. let p = wait-old m in prov-i (w .callee) (w .service) (fm .waiting .wait-prov w (p .0)) (p .1)
-          ; wait-once = once-keep stayW (t .waiting) (fm .waiting .wait-once) } }
+  dropping = record {
+    without = without;
+    calls-stay = bits-stay (t .calls) (fm .calls);
+    grants-stay = bits-stay (grantBit t) (fm .grants);
+    needs-stay = bits-stay (t .needs) (need-bits fm);
+    unmet-stay = record { old = λ u m. m; used = fm .unmet .off .off-used; stays = λ u m _. m; once = fm .unmet .unmet-once };
+    unmet-is = refl;
+    waiting = record {
+      wait-valid = λ w m. fm .waiting .wait-valid w (wait-old m .0);
+      wait-off = λ w m. fm .waiting .wait-off w (wait-old m .0);
+      wait-prov = λ w m. let p = wait-old m in prov-i (w .callee) (w .service) (fm .waiting .wait-prov w (p .0)) (p .1);
+      wait-once = once-keep stayW (t .waiting) (fm .waiting .wait-once);
+    };
+  }
 
   -- ---- what package n provides and grants: all but the service of package j with tokens s
   module _ (s : Tok) (es : t .tok j k ≡ s) (n : ℕ) where
@@ -151,12 +155,13 @@ module _ (L : Layout) (t : Tables) (fm : Formed L t) (j k : ℕ) (pk : T (t .pro
     has′ : (c : Contract) (p : List Tok) (g : List Row) → T (t .used n) → HasContract t [] n c
         → ((x : Tok) → In x p ↔ (In x (c .provides) × Stay x)) → ((r : Row) → In r g ↔ (In r (c .grants) × Stay (r .tok)))
         → HasContract t′ (removeServiceAt L t j k .lost) n (record { aid = c .aid; provides = p; calls = c .calls; grants = g; needs = c .needs })
-    has′ c p g u h ps gs = record
-        { aid = h .aid
-        ; provides = λ x. (λ m. let q = ps x .0 m in provides-stays x (h .provides x .0 (q .0)) (q .1), λ y. let q = provides-old x y in ps x .1 (h .provides x .1 (q .0), q .1))
-        ; calls = λ r. calls-dropped L t t′ j d (t .unmet) fm dropping n u r (h .calls r)
-        ; grants = λ r. (λ m. let q = gs r .0 m in grant-stays r (h .grants r .0 (q .0)) (q .1), λ y. let q = grant-old r y in gs r .1 (h .grants r .1 (q .0), q .1))
-        ; needs = λ r. needs-dropped L t t′ j d (t .unmet) fm dropping n u r (h .needs r) }
+    has′ c p g u h ps gs = record {
+      aid = h .aid;
+      provides = λ x. (λ m. let q = ps x .0 m in provides-stays x (h .provides x .0 (q .0)) (q .1), λ y. let q = provides-old x y in ps x .1 (h .provides x .1 (q .0), q .1));
+      calls = λ r. calls-dropped L t t′ j d (t .unmet) fm dropping n u r (h .calls r);
+      grants = λ r. (λ m. let q = gs r .0 m in grant-stays r (h .grants r .0 (q .0)) (q .1), λ y. let q = grant-old r y in gs r .1 (h .grants r .1 (q .0), q .1));
+      needs = λ r. needs-dropped L t t′ j d (t .unmet) fm dropping n u r (h .needs r);
+    }
 
   module _ (s : Tok) (es : t .tok j k ≡ s) (cs : List Contract) (a : Aid) (ea : t .aid j ≡ a) (st : Stands t [] cs) where
     uj : T (t .used j)
@@ -167,23 +172,26 @@ module _ (L : Layout) (t : Tables) (fm : Formed L t) (j k : ℕ) (pk : T (t .pro
 
     -- the members of the package's own lists that stay
     own-in : {A : Type 0} (tok : A → Tok) (l : List A) (x : A) → In x (keep (λ y. not (eqTok s (tok y))) l) ↔ (In x l × (j ≡ j → tok x ≡ s → ⊥))
-    own-in {A} tok l x =
-        (λ m. let p = keep-in (λ y. not (eqTok s (tok y))) l m in (p .0, λ _ e. not-e (eqTok s (tok x)) (p .1) (eqTok-of (sym e))),
-          λ q. in-keep (λ y. not (eqTok s (tok y))) (q .0) (not-i (eqTok s (tok x)) (λ e. q .1 refl (sym (eqTok→ s (tok x) e)))))
+    own-in {A} tok l x = (
+      λ m. let p = keep-in (λ y. not (eqTok s (tok y))) l m in (p .0, λ _ e. not-e (eqTok s (tok x)) (p .1) (eqTok-of (sym e))),
+      λ q. in-keep (λ y. not (eqTok s (tok y))) (q .0) (not-i (eqTok s (tok x)) (λ e. q .1 refl (sym (eqTok→ s (tok x) e)))),
+    )
 
     own : (c : Contract) → HasContract t [] j c → HasContract t′ (removeServiceAt L t j k .lost) j (altered (removeService s) c)
     own c h = has′ s es j c _ _ uj h (own-in (λ x. x) (c .provides)) (own-in (λ r. r .tok) (c .grants))
 
     turns : Turns L (removeServiceAt L t j k) (alter a (altered (removeService s)) cs)
-    turns = record
-        { formed = formed-dropped L t t′ j d (t .unmet) fm dropping
-        ; lost-off = lost-dropped L t t′ j d (t .unmet) fm dropping
-        ; stands = stands-alter L t t′ (removeServiceAt L t j k .lost) cs a (altered (removeService s)) j (fm .names) st uj ea refl refl (λ c. refl) others own
-            (λ c _ f. record
-              { provides = once-keep (λ x. not (eqTok s x)) (c .provides) (f .provides)
-              ; calls = f .calls
-              ; grants = once-keep (λ x. not (eqTok s (x .tok))) (c .grants) (f .grants)
-              ; needs = f .needs }) }
+    turns = record {
+      formed = formed-dropped L t t′ j d (t .unmet) fm dropping;
+      lost-off = lost-dropped L t t′ j d (t .unmet) fm dropping;
+      stands = stands-alter L t t′ (removeServiceAt L t j k .lost) cs a (altered (removeService s)) j (fm .names) st uj ea refl refl (λ c. refl) others own
+          (λ c _ f. record {
+            provides = once-keep (λ x. not (eqTok s x)) (c .provides) (f .provides);
+            calls = f .calls;
+            grants = once-keep (λ x. not (eqTok s (x .tok))) (c .grants) (f .grants);
+            needs = f .needs;
+          });
+    }
 
 -- where causes 5 and 6 do not apply, the package and its service are found
 pub removed-service : (s : Tok) (L : Layout) (t : Tables) → Formed L t → (a : Aid) → answer (tableCauses L t a (removeService s)) ≡ 0 → (P : Draft → Look → Type 0)

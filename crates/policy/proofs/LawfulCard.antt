@@ -22,7 +22,7 @@ module _ (L : Layout) (t : Tables) (cs : List Contract) (g : Formed L t) (w : La
       go (p .0) (p .2) (q .0) (q .1) (q .2) (p .2 .calls r .0 mr) (q .2 .provides (r .tok) .0 mt)
     where
       go : (i : ℕ) → HasContract t [] i c → (m : ℕ) → T (t .used m) → HasContract t [] m d → RowAt t (t .calls) (t .unmet) i r → ProvidesAt t m (r .tok)
-        → In (record { aid = c .aid; tok = r .tok }) (d .grants)
+          → In (record { aid = c .aid; tok = r .tok }) (d .grants)
       go i hc m um hd (RowAt.bit j k b f) v =
           let pj = g .calls .of-prov i j k b in
           let hj = at-number d m j um hd (g .names .prov-used j k pj) (e ∙ ap (λ (z : Row). z .aid) f) in

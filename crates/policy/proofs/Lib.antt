@@ -31,6 +31,7 @@ pub mod LoadNames
 pub mod LoadBits
 pub mod LoadFormed
 pub mod KindLoad
+pub mod ShortLoad
 pub mod AllKinds
 pub mod Step
 pub mod LawfulCard

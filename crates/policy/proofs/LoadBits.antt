@@ -48,7 +48,7 @@ module _ (L : Layout) (t : Tables) (m : ℕ) (k : Contract) where
   abbrev pub Named : List Row → ℕ → ℕ → Type 0
   Named l y z = T (on .provides y z) × In (serviceAt on y z) l
 
-  pub named-is : (l : List Row) (y z : ℕ) → T (namedIn L t m k l y z) ↔ Named l y z
+  named-is : (l : List Row) (y z : ℕ) → T (namedIn L t m k l y z) ↔ Named l y z
   named-is l y z =
       let p = on .provides y z in
       let q = hasRow (serviceAt on y z) l in
@@ -79,12 +79,13 @@ module _ (L : Layout) (t : Tables) (m : ℕ) (k : Contract) where
 
     -- what each bit is chosen from
     pub call-is : (x y z : ℕ) → T (after .calls x y z) ↔ CallIs x y z
-    call-is x y z =
-        (chosen (eqb x m) (eqb y m) v w o
+    call-is x y z = (
+      chosen (eqb x m) (eqb y m) v w o
           (λ e h. CallIs.own (eqb→eq x m e) (named-is (k .calls) y z .0 h))
           (λ e h. CallIs.met (eqb→eq y m e) (and-l p u h) (has-unmet (callRow x (serviceAt on m z)) (t .unmet) (and-r p u h)))
-          CallIs.old
-        , back)
+          CallIs.old,
+      back,
+    )
       where
         v : Bool
         v = namedIn L t m k (k .calls) y z
@@ -108,12 +109,13 @@ module _ (L : Layout) (t : Tables) (m : ℕ) (k : Contract) where
             (ne x (l .old-ne x (new .formed .calls .by-used x y z h))) (ne y (l .prov-ne y z (new .formed .calls .of-prov x y z h))) h
 
     pub grant-is : (x y z : ℕ) → T (after .grants x y z) ↔ GrantIs x y z
-    grant-is x y z =
-        (chosen (eqb x m) (eqb y m) v w o
+    grant-is x y z = (
+      chosen (eqb x m) (eqb y m) v w o
           (λ e h. GrantIs.own (eqb→eq x m e) (and-l p (u && q) h) (and-l u q (and-r p (u && q) h)) (has-row r (k .grants) (and-r u q (and-r p (u && q) h))))
           (λ e h. GrantIs.waited (eqb→eq y m e) (has-waiting f (t .waiting) h))
-          GrantIs.old
-        , back)
+          GrantIs.old,
+      back,
+    )
       where
         r : Row
         r = record { aid = t .aid y; tok = on .tok m z }

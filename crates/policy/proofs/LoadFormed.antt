@@ -51,7 +51,7 @@ module _ (L : Layout) (t : Tables) (m : ℕ) (k : Contract) where
       let q = keep-in (notServed L t m k) l (p .1) in
       subst P (sym (p .2)) (f (p .0) (q .0) (q .1))
 
-  pub each-waits : (P : Waiting → Type 0) → ((r : Row) → In r (k .grants) → T (uninstalled r) → P (waitingFor r))
+  each-waits : (P : Waiting → Type 0) → ((r : Row) → In r (k .grants) → T (uninstalled r) → P (waitingFor r))
       → (w : Waiting) → In w (map waitingFor (keep uninstalled (k .grants))) → P w
   each-waits P f w i =
       let p = map-in waitingFor (keep uninstalled (k .grants)) i in
@@ -92,10 +92,11 @@ module _ (L : Layout) (t : Tables) (m : ℕ) (k : Contract) where
     used-m e = subst (λ (z : ℕ). T (on .used z)) (sym e) (l .used-new)
 
     calls-bits : Bits (on .used) (on .provides) (after .calls)
-    calls-bits = record
-        { by-used = λ x y z h. by x y z (call-is L t m k new x y z .0 h)
-        ; of-prov = λ x y z h. of x y z (call-is L t m k new x y z .0 h)
-        ; other = λ x y z h. other x y z (call-is L t m k new x y z .0 h) }
+    calls-bits = record {
+      by-used = λ x y z h. by x y z (call-is L t m k new x y z .0 h);
+      of-prov = λ x y z h. of x y z (call-is L t m k new x y z .0 h);
+      other = λ x y z h. other x y z (call-is L t m k new x y z .0 h);
+    }
       where
         by : (x y z : ℕ) → CallIs L t m k x y z → T (on .used x)
         by x y z (CallIs.own e h) = used-m e
@@ -113,10 +114,11 @@ module _ (L : Layout) (t : Tables) (m : ℕ) (k : Contract) where
         other x y z (CallIs.old h) q = new .formed .calls .other x y z h q
 
     grants-bits : Bits (on .used) (on .provides) (grantBit after)
-    grants-bits = record
-        { by-used = λ x y z h. by x y z (grant-is L t m k new y x z .0 h)
-        ; of-prov = λ x y z h. of x y z (grant-is L t m k new y x z .0 h)
-        ; other = λ x y z h. other x y z (grant-is L t m k new y x z .0 h) }
+    grants-bits = record {
+      by-used = λ x y z h. by x y z (grant-is L t m k new y x z .0 h);
+      of-prov = λ x y z h. of x y z (grant-is L t m k new y x z .0 h);
+      other = λ x y z h. other x y z (grant-is L t m k new y x z .0 h);
+    }
       where
         waits-at : {y z : ℕ} → In (record { caller = k .aid; callee = y; service = z }) (t .waiting) → T (t .provides y z)
         waits-at {y} {z} i = new .formed .waiting .wait-prov (record { caller = k .aid; callee = y; service = z }) i
@@ -143,9 +145,10 @@ module _ (L : Layout) (t : Tables) (m : ℕ) (k : Contract) where
 
     -- ---- rows
     pub left-off : (rs : List Row) → Off (on .used) (on .aid) (on .tok) (on .provides) (leftOff rs)
-    left-off rs = record
-        { off-used = each-left (λ (u : Unmet). T (on .used (u .caller))) rs (λ r i s. l .used-new)
-        ; off-card = each-left (λ (u : Unmet). (j y : ℕ) → T (on .provides j y) → on .aid j ≡ u .callee → on .tok j y ≡ u .tok → ⊥) rs (λ r i s. not-served r s) }
+    left-off rs = record {
+      off-used = each-left (λ (u : Unmet). T (on .used (u .caller))) rs (λ r i s. l .used-new);
+      off-card = each-left (λ (u : Unmet). (j y : ℕ) → T (on .provides j y) → on .aid j ≡ u .callee → on .tok j y ≡ u .tok → ⊥) rs (λ r i s. not-served r s);
+    }
 
     -- a property of every row of a list: of the old rows that stay, and of the newcomer's
     pub each-unmet : (P : Unmet → Type 0) → ((u : Unmet) → In u (t .unmet) → T (unmetStill u) → P u)
@@ -161,23 +164,25 @@ module _ (L : Layout) (t : Tables) (m : ℕ) (k : Contract) where
     unmet-rows : ValidRows (k .calls) → UnmetRows (on .used) (on .aid) (on .tok) (on .provides) (after .unmet)
     unmet-rows v =
         let old = new .formed .unmet in
-        record
-          { off = record
-              { off-used = each-unmet (λ (u : Unmet). T (on .used (u .caller))) (λ u i s. l .used-old (u .caller) (old .off .off-used u i)) (λ r i s. l .used-new)
-              ; off-card = each-unmet (λ (u : Unmet). (j y : ℕ) → T (on .provides j y) → on .aid j ≡ u .callee → on .tok j y ≡ u .tok → ⊥)
-                  (λ u i s j y. by-number m (λ (x : ℕ). T (on .provides x y) → on .aid x ≡ u .callee → on .tok x y ≡ u .tok → ⊥) j
-                    (λ p e f. not-e (eqAid (u .callee) (k .aid) && hasTok (u .tok) (k .provides)) s
-                      (and-i (eqAid (u .callee) (k .aid)) (hasTok (u .tok) (k .provides)) (eqAid-of (sym e ∙ l .aid-new)) (tok-has (in-cast (sym f) (tok-in L t m k new y p)))))
-                    (λ h p e f. old .off .off-card u i j y (l .prov-back j y h p) (sym (l .aid-old j h) ∙ e) (sym (l .tok-old j y h) ∙ f)))
-                  (λ r i s. not-served r s) }
-          ; unmet-valid = each-unmet (λ (u : Unmet). T (validAid (u .callee))) (λ u i s. old .unmet-valid u i) (λ r i s. v r i)
-          ; unmet-other = each-unmet (λ (u : Unmet). u .callee ≡ on .aid (u .caller) → ⊥)
+        record {
+          off = record {
+            off-used = each-unmet (λ (u : Unmet). T (on .used (u .caller))) (λ u i s. l .used-old (u .caller) (old .off .off-used u i)) (λ r i s. l .used-new);
+            off-card = each-unmet (λ (u : Unmet). (j y : ℕ) → T (on .provides j y) → on .aid j ≡ u .callee → on .tok j y ≡ u .tok → ⊥)
+                (λ u i s j y. by-number m (λ (x : ℕ). T (on .provides x y) → on .aid x ≡ u .callee → on .tok x y ≡ u .tok → ⊥) j
+                (λ p e f. not-e (eqAid (u .callee) (k .aid) && hasTok (u .tok) (k .provides)) s
+                (and-i (eqAid (u .callee) (k .aid)) (hasTok (u .tok) (k .provides)) (eqAid-of (sym e ∙ l .aid-new)) (tok-has (in-cast (sym f) (tok-in L t m k new y p)))))
+                (λ h p e f. old .off .off-card u i j y (l .prov-back j y h p) (sym (l .aid-old j h) ∙ e) (sym (l .tok-old j y h) ∙ f)))
+                (λ r i s. not-served r s);
+          };
+          unmet-valid = each-unmet (λ (u : Unmet). T (validAid (u .callee))) (λ u i s. old .unmet-valid u i) (λ r i s. v r i);
+          unmet-other = each-unmet (λ (u : Unmet). u .callee ≡ on .aid (u .caller) → ⊥)
               (λ u i s e. old .unmet-other u i (e ∙ l .aid-old (u .caller) (l .old-ne (u .caller) (old .off .off-used u i))))
-              (λ r i s e. new .calls-other r i (e ∙ l .aid-new))
-          ; unmet-once = once-append (keep unmetStill (t .unmet)) (leftOff (k .calls))
+              (λ r i s e. new .calls-other r i (e ∙ l .aid-new));
+          unmet-once = once-append (keep unmetStill (t .unmet)) (leftOff (k .calls))
               (once-keep unmetStill (t .unmet) (old .unmet-once))
               (once-map (callRow m) (keep (notServed L t m k) (k .calls)) (λ r r′ i j e. row-of e) (once-keep (notServed L t m k) (k .calls) (new .sets .calls)))
-              (λ u i j. l .old-ne (u .caller) (old .off .off-used u (keep-in unmetStill (t .unmet) i .0)) (each-left (λ (u : Unmet). u .caller ≡ m) (k .calls) (λ r i s. refl) u j)) }
+              (λ u i j. l .old-ne (u .caller) (old .off .off-used u (keep-in unmetStill (t .unmet) i .0)) (each-left (λ (u : Unmet). u .caller ≡ m) (k .calls) (λ r i s. refl) u j));
+        }
       where
         row-of : {r r′ : Row} → callRow m r ≡ callRow m r′ → r ≡ r′
         row-of e = λ i. record { aid = e i .callee; tok = e i .tok }
@@ -185,22 +190,23 @@ module _ (L : Layout) (t : Tables) (m : ℕ) (k : Contract) where
     waiting-rows : ValidRows (k .grants) → WaitingRows (on .used) (on .aid) (on .provides) (after .waiting)
     waiting-rows v =
         let old = new .formed .waiting in
-        record
-          { wait-valid = each-waiting (λ (w : Waiting). T (validAid (w .caller))) (λ w i s. old .wait-valid w i) (λ r i s. v r i)
-          ; wait-off = each-waiting (λ (w : Waiting). (n : ℕ) → T (on .used n) → on .aid n ≡ w .caller → ⊥)
+        record {
+          wait-valid = each-waiting (λ (w : Waiting). T (validAid (w .caller))) (λ w i s. old .wait-valid w i) (λ r i s. v r i);
+          wait-off = each-waiting (λ (w : Waiting). (n : ℕ) → T (on .used n) → on .aid n ≡ w .caller → ⊥)
               (λ w i s n. by-number m (λ (x : ℕ). T (on .used x) → on .aid x ≡ w .caller → ⊥) n
-                (λ u e. not-e (eqAid (w .caller) (k .aid)) s (eqAid-of (sym e ∙ l .aid-new)))
-                (λ h u e. old .wait-off w i n (l .used-back n h u) (sym (l .aid-old n h) ∙ e)))
+              (λ u e. not-e (eqAid (w .caller) (k .aid)) s (eqAid-of (sym e ∙ l .aid-new)))
+              (λ h u e. old .wait-off w i n (l .used-back n h u) (sym (l .aid-old n h) ∙ e)))
               (λ r i s n. by-number m (λ (x : ℕ). T (on .used x) → on .aid x ≡ r .aid → ⊥) n
-                (λ u e. new .grants-other r i (sym e ∙ l .aid-new))
-                (λ h u e. not-installed r s n (l .used-back n h u) (sym (l .aid-old n h) ∙ e)))
-          ; wait-prov = each-waiting (λ (w : Waiting). T (on .provides (w .callee) (w .service)))
-              (λ w i s. l .prov-old (w .callee) (w .service) (old .wait-prov w i)) (λ r i s. service-loaded (new .grants-provided r i) .0)
-          ; wait-once = once-append (keep waitsStill (t .waiting)) (map waitingFor (keep uninstalled (k .grants)))
+              (λ u e. new .grants-other r i (sym e ∙ l .aid-new))
+              (λ h u e. not-installed r s n (l .used-back n h u) (sym (l .aid-old n h) ∙ e)));
+          wait-prov = each-waiting (λ (w : Waiting). T (on .provides (w .callee) (w .service)))
+              (λ w i s. l .prov-old (w .callee) (w .service) (old .wait-prov w i)) (λ r i s. service-loaded (new .grants-provided r i) .0);
+          wait-once = once-append (keep waitsStill (t .waiting)) (map waitingFor (keep uninstalled (k .grants)))
               (once-keep waitsStill (t .waiting) (old .wait-once))
               (once-map waitingFor (keep uninstalled (k .grants)) (λ r r′ i j e. same r r′ (keep-in uninstalled (k .grants) i .0) (keep-in uninstalled (k .grants) j .0) e)
-                (once-keep uninstalled (k .grants) (new .sets .grants)))
-              (λ w i j. l .prov-ne (w .callee) (w .service) (old .wait-prov w (keep-in waitsStill (t .waiting) i .0)) (each-waits (λ (w : Waiting). w .callee ≡ m) (λ r i s. refl) w j)) }
+              (once-keep uninstalled (k .grants) (new .sets .grants)))
+              (λ w i j. l .prov-ne (w .callee) (w .service) (old .wait-prov w (keep-in waitsStill (t .waiting) i .0)) (each-waits (λ (w : Waiting). w .callee ≡ m) (λ r i s. refl) w j));
+        }
       where
         same : (r r′ : Row) → In r (k .grants) → In r′ (k .grants) → waitingFor r ≡ waitingFor r′ → r ≡ r′
         same r r′ i j e =

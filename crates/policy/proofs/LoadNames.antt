@@ -17,7 +17,7 @@ use Rattle.policy.specs.Record.{load, notOwn, proper}
 use Rattle.policy.specs.Causes.{_when_, answer}
 use Rattle.policy.specs.Tables.{Tables, noTok}
 use Rattle.policy.specs.Lookup.{serviceAt, numberOf, freeNumber}
-use Rattle.policy.specs.Draft.{Draft, loadedNames, loadAt, kept, draft}
+use Rattle.policy.specs.Draft.{kept, Draft, loadedNames, loadAt, draft}
 use Rattle.policy.specs.Judge.{tableCauses}
 use Rattle.policy.specs.History.{FourSets}
 use Rattle.policy.proofs.Sets.{T-true, T-false, false-T, and-l, and-r, test, not-i, not-e, every-in, distinct→once}
@@ -28,12 +28,12 @@ use Rattle.policy.proofs.Answers.{answer-zero}
 
 -- ---- elements by their index
 module _ {A : Type 0} (d : A) where
-  pub getD-in : (l : List A) (y : ℕ) → y < length l → In (getD l y d) l
+  getD-in : (l : List A) (y : ℕ) → y < length l → In (getD l y d) l
   getD-in [] y h = absurd (not-suc-le-zero h)
   getD-in (x ∷ l) zero h = here refl
   getD-in (x ∷ l) (suc y) h = there (getD-in l y (le-of-suc-le-suc h))
 
-  pub in-getD : {x : A} {l : List A} → In x l → (y : ℕ) × (y < length l) × (getD l y d ≡ x)
+  in-getD : {x : A} {l : List A} → In x l → (y : ℕ) × (y < length l) × (getD l y d ≡ x)
   in-getD (here e) = (zero, suc-le-suc zero-le, sym e)
   in-getD (there m) = let p = in-getD m in (suc (p .0), suc-le-suc (p .1), p .2)
 
@@ -101,20 +101,21 @@ module _ (L : Layout) (t : Tables) (m : ℕ) (k : Contract) where
     loaded =
         let old-ne : (x : ℕ) → T (t .used x) → x ≡ m → ⊥ = λ x u e. new .free (subst (λ (z : ℕ). T (t .used z)) e u) in
         let prov-ne : (x y : ℕ) → T (t .provides x y) → x ≡ m → ⊥ = λ x y p. old-ne x (new .formed .names .prov-used x y p) in
-        record
-          { old-ne = old-ne
-          ; prov-ne = prov-ne
-          ; used-new = subst T (sym (at-new m true (t .used m))) tt
-          ; used-old = λ x u. subst T (sym (at-old m true (t .used x) x (old-ne x u))) u
-          ; used-back = λ x h u. subst T (at-old m true (t .used x) x h) u
-          ; aid-new = at-new m (k .aid) (t .aid m)
-          ; aid-old = λ x. at-old m (k .aid) (t .aid x) x
-          ; tok-new = λ y. at-new m (getD (k .provides) y noTok) (t .tok m y)
-          ; tok-old = λ x y. at-old m (getD (k .provides) y noTok) (t .tok x y) x
-          ; prov-new = λ y h. subst T (sym (at-new m (ltb y (length (k .provides))) (t .provides m y))) (lt→ltb y (length (k .provides)) h)
-          ; prov-is = λ y p. ltb→lt y (length (k .provides)) (subst T (at-new m (ltb y (length (k .provides))) (t .provides m y)) p)
-          ; prov-old = λ x y p. subst T (sym (at-old m (ltb y (length (k .provides))) (t .provides x y) x (prov-ne x y p))) p
-          ; prov-back = λ x y h p. subst T (at-old m (ltb y (length (k .provides))) (t .provides x y) x h) p }
+        record {
+          old-ne = old-ne;
+          prov-ne = prov-ne;
+          used-new = subst T (sym (at-new m true (t .used m))) tt;
+          used-old = λ x u. subst T (sym (at-old m true (t .used x) x (old-ne x u))) u;
+          used-back = λ x h u. subst T (at-old m true (t .used x) x h) u;
+          aid-new = at-new m (k .aid) (t .aid m);
+          aid-old = λ x. at-old m (k .aid) (t .aid x) x;
+          tok-new = λ y. at-new m (getD (k .provides) y noTok) (t .tok m y);
+          tok-old = λ x y. at-old m (getD (k .provides) y noTok) (t .tok x y) x;
+          prov-new = λ y h. subst T (sym (at-new m (ltb y (length (k .provides))) (t .provides m y))) (lt→ltb y (length (k .provides)) h);
+          prov-is = λ y p. ltb→lt y (length (k .provides)) (subst T (at-new m (ltb y (length (k .provides))) (t .provides m y)) p);
+          prov-old = λ x y p. subst T (sym (at-old m (ltb y (length (k .provides))) (t .provides x y) x (prov-ne x y p))) p;
+          prov-back = λ x y h p. subst T (at-old m (ltb y (length (k .provides))) (t .provides x y) x h) p;
+        }
 
     pub service-old : (x y : ℕ) → T (t .provides x y) → serviceAt on x y ≡ serviceAt t x y
     service-old x y p = row-path (loaded .aid-old x (loaded .prov-ne x y p)) (loaded .tok-old x y (loaded .prov-ne x y p))
@@ -126,37 +127,38 @@ module _ (L : Layout) (t : Tables) (m : ℕ) (k : Contract) where
     pub in-tok : {s : Tok} → In s (k .provides) → (y : ℕ) × T (on .provides m y) × (on .tok m y ≡ s)
     in-tok i = let q = in-getD noTok i in (q .0, loaded .prov-new (q .0) (q .1), loaded .tok-new (q .0) ∙ q .2)
 
+    pub new-lt : (y : ℕ) → T (on .provides m y) → y < L .services
+    new-lt y p = let h = loaded .prov-is y p in omega (arith, new .services-fit)
+
     pub names-loaded : T (validAid (k .aid)) → Names L (on .used) (on .aid) (on .tok) (on .provides)
     names-loaded v =
         let l = loaded in
         let ns = new .formed .names in
-        record
-          { used-lt = λ x. by-number m (λ (z : ℕ). T (on .used z) → z < L .packages) x (λ u. new .number-lt) (λ h u. ns .used-lt x (l .used-back x h u))
-          ; prov-lt = λ x y. by-number m (λ (z : ℕ). T (on .provides z y) → y < L .services) x
-              (λ p. below (l .prov-is y p)) (λ h p. ns .prov-lt x y (l .prov-back x y h p))
-          ; prov-used = λ x y. by-number m (λ (z : ℕ). T (on .provides z y) → T (on .used z)) x
-              (λ p. l .used-new) (λ h p. l .used-old x (ns .prov-used x y (l .prov-back x y h p)))
-          ; aid-valid = λ x. by-number m (λ (z : ℕ). T (on .used z) → T (validAid (on .aid z))) x
+        record {
+          used-lt = λ x. by-number m (λ (z : ℕ). T (on .used z) → z < L .packages) x (λ u. new .number-lt) (λ h u. ns .used-lt x (l .used-back x h u));
+          prov-lt = λ x y. by-number m (λ (z : ℕ). T (on .provides z y) → y < L .services) x
+              (new-lt y) (λ h p. ns .prov-lt x y (l .prov-back x y h p));
+          prov-used = λ x y. by-number m (λ (z : ℕ). T (on .provides z y) → T (on .used z)) x
+              (λ p. l .used-new) (λ h p. l .used-old x (ns .prov-used x y (l .prov-back x y h p)));
+          aid-valid = λ x. by-number m (λ (z : ℕ). T (on .used z) → T (validAid (on .aid z))) x
               (λ u. subst (λ (z : Aid). T (validAid z)) (sym (l .aid-new)) v)
-              (λ h u. subst (λ (z : Aid). T (validAid z)) (sym (l .aid-old x h)) (ns .aid-valid x (l .used-back x h u)))
-          ; aid-blank = λ x. by-number m (λ (z : ℕ). (T (on .used z) → ⊥) → on .aid z ≡ []) x
-              (λ n. absurd (n (l .used-new))) (λ h n. l .aid-old x h ∙ ns .aid-blank x (λ u. n (l .used-old x u)))
-          ; tok-blank = λ x y. by-number m (λ (z : ℕ). (T (on .provides z y) → ⊥) → on .tok z y ≡ noTok) x
+              (λ h u. subst (λ (z : Aid). T (validAid z)) (sym (l .aid-old x h)) (ns .aid-valid x (l .used-back x h u)));
+          aid-blank = λ x. by-number m (λ (z : ℕ). (T (on .used z) → ⊥) → on .aid z ≡ []) x
+              (λ n. absurd (n (l .used-new))) (λ h n. l .aid-old x h ∙ ns .aid-blank x (λ u. n (l .used-old x u)));
+          tok-blank = λ x y. by-number m (λ (z : ℕ). (T (on .provides z y) → ⊥) → on .tok z y ≡ noTok) x
               (λ n. l .tok-new y ∙ past y (λ h. n (l .prov-new y h)))
-              (λ h n. l .tok-old x y h ∙ ns .tok-blank x y (λ p. n (l .prov-old x y p)))
-          ; aid-inj = λ i j. by-number m (λ (z : ℕ). T (on .used z) → T (on .used j) → on .aid z ≡ on .aid j → z ≡ j) i
+              (λ h n. l .tok-old x y h ∙ ns .tok-blank x y (λ p. n (l .prov-old x y p)));
+          aid-inj = λ i j. by-number m (λ (z : ℕ). T (on .used z) → T (on .used j) → on .aid z ≡ on .aid j → z ≡ j) i
               (by-number m (λ (z : ℕ). T (on .used m) → T (on .used z) → on .aid m ≡ on .aid z → m ≡ z) j
-                (λ u w e. refl) (λ h u w e. absurd (foreign j h w (sym e))))
+              (λ u w e. refl) (λ h u w e. absurd (foreign j h w (sym e))))
               (λ h. by-number m (λ (z : ℕ). T (on .used i) → T (on .used z) → on .aid i ≡ on .aid z → i ≡ z) j
-                (λ u w e. absurd (foreign i h u e))
-                (λ g u w e. ns .aid-inj i j (l .used-back i h u) (l .used-back j g w) (sym (l .aid-old i h) ∙ e ∙ l .aid-old j g)))
-          ; tok-inj = λ j y z. by-number m (λ (x : ℕ). T (on .provides x y) → T (on .provides x z) → on .tok x y ≡ on .tok x z → y ≡ z) j
+              (λ u w e. absurd (foreign i h u e))
+              (λ g u w e. ns .aid-inj i j (l .used-back i h u) (l .used-back j g w) (sym (l .aid-old i h) ∙ e ∙ l .aid-old j g)));
+          tok-inj = λ j y z. by-number m (λ (x : ℕ). T (on .provides x y) → T (on .provides x z) → on .tok x y ≡ on .tok x z → y ≡ z) j
               (λ p q e. getD-inj noTok (k .provides) (new .sets .provides) y z (l .prov-is y p) (l .prov-is z q) (sym (l .tok-new y) ∙ e ∙ l .tok-new z))
-              (λ h p q e. ns .tok-inj j y z (l .prov-back j y h p) (l .prov-back j z h q) (sym (l .tok-old j y h) ∙ e ∙ l .tok-old j z h)) }
+              (λ h p q e. ns .tok-inj j y z (l .prov-back j y h p) (l .prov-back j z h q) (sym (l .tok-old j y h) ∙ e ∙ l .tok-old j z h));
+        }
       where
-        below : {y : ℕ} → y < length (k .provides) → y < L .services
-        below h = omega (arith, new .services-fit)
-
         past : (y : ℕ) → (y < length (k .provides) → ⊥) → getD (k .provides) y noTok ≡ noTok
         past y n = List·getD-eq-default (k .provides) noTok (nltb→le y (length (k .provides)) (not-i (ltb y (length (k .provides))) (λ s. n (ltb→lt y (length (k .provides)) s))))
 
@@ -189,21 +191,23 @@ module _ (L : Layout) (t : Tables) (a : Aid) (p : List Tok) (c g n : List Row) w
       let hi = and-r (d && o) i pr in
       let h3 = and-l (d1 && d2 && d3) d4 hd in
       let h2 = and-l (d1 && d2) d3 h3 in
-      record
-        { formed = f
-        ; number-lt = fr .0
-        ; free = fr .1
-        ; absent = none-with (numberOf L t a) (number-is L t (f .names) a) (answer-zero 3 (isSome (numberOf L t a)) (7 when not (isSome (freeNumber L t)) ∷ []) an .0)
-        ; services-fit = fit
-        ; sets = record
-            { provides = distinct→once eqTok eqTok→ eqTok-refl p (and-l d1 d2 h2)
-            ; calls = rows-once c (and-r d1 d2 h2)
-            ; grants = rows-once g (and-r (d1 && d2) d3 h3)
-            ; needs = rows-once n (and-r (d1 && d2 && d3) d4 hd) }
-        ; calls-other = other c (and-l o1 o2 (and-l (o1 && o2) o3 ho))
-        ; grants-other = other g (and-r o1 o2 (and-l (o1 && o2) o3 ho))
-        ; needs-called = λ r m. has-row r c (every-in (λ x. hasRow x c) n (and-l i1 i2 hi) m)
-        ; grants-provided = λ r m. has-tok (r .tok) p (every-in (λ x. hasTok (x .tok) p) g (and-r i1 i2 hi) m) }
+      record {
+        formed = f;
+        number-lt = fr .0;
+        free = fr .1;
+        absent = none-with (numberOf L t a) (number-is L t (f .names) a) (answer-zero 3 (isSome (numberOf L t a)) (7 when not (isSome (freeNumber L t)) ∷ []) an .0);
+        services-fit = fit;
+        sets = record {
+          provides = distinct→once eqTok eqTok→ eqTok-refl p (and-l d1 d2 h2);
+          calls = rows-once c (and-r d1 d2 h2);
+          grants = rows-once g (and-r (d1 && d2) d3 h3);
+          needs = rows-once n (and-r (d1 && d2 && d3) d4 hd);
+        };
+        calls-other = other c (and-l o1 o2 (and-l (o1 && o2) o3 ho));
+        grants-other = other g (and-r o1 o2 (and-l (o1 && o2) o3 ho));
+        needs-called = λ r m. has-row r c (every-in (λ x. hasRow x c) n (and-l i1 i2 hi) m);
+        grants-provided = λ r m. has-tok (r .tok) p (every-in (λ x. hasTok (x .tok) p) g (and-r i1 i2 hi) m);
+      }
     where
       none-with : (o : Option ℕ) → NumberIs t a o → isSome o ≡ false → NumberIs t a none
       none-with none h e = h

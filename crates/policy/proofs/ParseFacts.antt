@@ -48,7 +48,7 @@ module _ {A : Type 0} (P : A → Type 0) where
 
 -- one reader after another
 reads-then : {A B : Type 0} (P : A → Type 0) (Q : B → Type 0) (x : Got A) (f : A → Reader B)
-  → Reads P x → ((a : A) (s : List ℕ) → P a → Reads Q (f a s)) → Reads Q (andThen x f)
+    → Reads P x → ((a : A) (s : List ℕ) → P a → Reads Q (f a s)) → Reads Q (andThen x f)
 reads-then P Q (got a s) f h k = k a s h
 reads-then P Q bad f h k = tt
 
@@ -68,7 +68,7 @@ module _ {A : Type 0} (P : A → Type 0) (p : Reader A) (ok : (s : List ℕ) →
   reads-many zero s = (refl, λ x m. absurd (in-nil m))
   reads-many (suc n) s =
       reads-then P (Several (suc n)) (p s) _ (ok s) (λ a t h.
-        reads-then (Several n) (Several (suc n)) (many p n t) _ (reads-many n t) (λ l u e. (ap suc (e .0), each-cons P a l h (e .1))))
+      reads-then (Several n) (Several (suc n)) (many p n t) _ (reads-many n t) (λ l u e. (ap suc (e .0), each-cons P a l h (e .1))))
 
   abbrev AtMost : ℕ → List A → Type 0
   AtMost most l = (length l ≤ most) × Each P l
@@ -77,7 +77,7 @@ module _ {A : Type 0} (P : A → Type 0) (p : Reader A) (ok : (s : List ℕ) →
   unfolding counted
   reads-counted w most s =
       reads-then Any (AtMost most) (number w s) _ (reads-any (number w s)) (λ n t _.
-        reads-given (AtMost most) (leb n most) (many p n) t (λ h. weaken n most h (many p n t) (reads-many n t)))
+      reads-given (AtMost most) (leb n most) (many p n) t (λ h. weaken n most h (many p n t) (reads-many n t)))
     where
       weaken : (n most : ℕ) → T (leb n most) → (x : Got (List A)) → Reads (Several n) x → Reads (AtMost most) x
       weaken n most h (got l t) e = (subst (λ (z : ℕ). z ≤ most) (sym (e .0)) (leb→le n most h), e .1)
@@ -92,9 +92,9 @@ unfolding aid byte bytes
 reads-aid-at [] = tt
 reads-aid-at (n ∷ s) =
     reads-then (λ a. a ≡ take (length a) s) (AidAt (n ∷ s)) (bytes n s) _
-      (reads-given (λ a. a ≡ take (length a) s) (leb n (length s)) (λ t. got (take n t) (drop n t)) s
-        (λ h. ap (λ (m : ℕ). take m s) (sym (length-take-le n s (leb→le n (length s) h)))))
-      (λ a t e. reads-given (AidAt (n ∷ s)) (validAid a) (done a) t (λ v. (e, v)))
+    (reads-given (λ a. a ≡ take (length a) s) (leb n (length s)) (λ t. got (take n t) (drop n t)) s
+    (λ h. ap (λ (m : ℕ). take m s) (sym (length-take-le n s (leb→le n (length s) h)))))
+    (λ a t e. reads-given (AidAt (n ∷ s)) (validAid a) (done a) t (λ v. (e, v)))
 
 reads-aid : (s : List ℕ) → Reads (λ a. T (validAid a)) (aid s)
 reads-aid s = go (aid s) (reads-aid-at s)
@@ -128,32 +128,55 @@ module _ (L : Layout) where
   reads-rows : (f : List Row → Reader Change) → ((l : List Row) → ValidRows l → ReadsChange (f l)) → ReadsChange (counted (L .countWidth) (L .mostRows) aRow >>= f)
   reads-rows f k s =
       reads-then (AtMost ValidRow aRow reads-row (L .mostRows)) (Valid L) (counted (L .countWidth) (L .mostRows) aRow s) f
-        (reads-counted ValidRow aRow reads-row (L .countWidth) (L .mostRows) s) (λ l t h. k l (h .1) t)
+      (reads-counted ValidRow aRow reads-row (L .countWidth) (L .mostRows) s) (λ l t h. k l (h .1) t)
 
   reads-load : ReadsChange (aLoad L)
   unfolding aLoad
   reads-load s =
       reads-then (AtMost Any tokens (λ u. reads-any (tokens u)) (L .services)) (Valid L) (counted 1 (L .services) tokens s) _
-        (reads-counted Any tokens (λ u. reads-any (tokens u)) 1 (L .services) s)
-        (λ p t hp. reads-rows _ (λ c hc. reads-rows _ (λ g hg. reads-rows _ (λ n hn u. (hp .0, hc, hg, hn)))) t)
+      (reads-counted Any tokens (λ u. reads-any (tokens u)) 1 (L .services) s)
+      (λ p t hp. reads-rows _ (λ c hc. reads-rows _ (λ g hg. reads-rows _ (λ n hn u. (hp .0, hc, hg, hn)))) t)
 
   reads-service : ReadsChange (aService L)
   unfolding aService
   reads-service s =
       reads-then Any (Valid L) (tokens s) _ (reads-any (tokens s)) (λ k t _.
-        reads-then (AtMost (λ a. T (validAid a)) aid reads-aid (L .mostCallers)) (Valid L) (counted 1 (L .mostCallers) aid t) _
-          (reads-counted (λ a. T (validAid a)) aid reads-aid 1 (L .mostCallers) t) (λ l u h. h .1))
+      reads-then (AtMost (λ a. T (validAid a)) aid reads-aid (L .mostCallers)) (Valid L) (counted 1 (L .mostCallers) aid t) _
+      (reads-counted (λ a. T (validAid a)) aid reads-aid 1 (L .mostCallers) t) (λ l u h. h .1))
 
   -- kinds 5 to 10
   reads-one : (f : Row → Change) → ((r : Row) → ValidRow r → Valid L (f r)) → ReadsChange (aRow >>= λ r. done (f r))
   reads-one f h s = reads-then ValidRow (Valid L) (aRow s) _ (reads-row s) (λ r t v. h r v)
 
   reads-kinds : All ReadsChange (kinds L)
-  reads-kinds =
-      ((λ s. tt), (reads-load, ((λ s. tt), (reads-service
-      , ((λ s. reads-then Any (Valid L) (tokens s) _ (reads-any (tokens s)) (λ k t _. tt))
-      , (reads-one addCall (λ r v. v), (reads-one removeCall (λ r v. v), (reads-one addGrant (λ r v. v), (reads-one removeGrant (λ r v. v)
-      , (reads-one addNeed (λ r v. v), (reads-one removeNeed (λ r v. v), tt)))))))))))
+  reads-kinds = (
+    (λ s. tt),
+    (
+      reads-load,
+      (
+        (λ s. tt),
+        (
+          reads-service,
+          (
+            (λ s. reads-then Any (Valid L) (tokens s) _ (reads-any (tokens s)) (λ k t _. tt)),
+            (
+              reads-one addCall (λ r v. v),
+              (
+                reads-one removeCall (λ r v. v),
+                (
+                  reads-one addGrant (λ r v. v),
+                  (
+                    reads-one removeGrant (λ r v. v),
+                    (reads-one addNeed (λ r v. v), (reads-one removeNeed (λ r v. v), tt)),
+                  ),
+                ),
+              ),
+            ),
+          ),
+        ),
+      ),
+    ),
+  )
 
   reads-change : (k : ℕ) → ReadsChange (change L k)
   unfolding change
@@ -171,8 +194,8 @@ module _ (L : Layout) where
   reads-fields l (h ∷ x ∷ v ∷ []) = tt
   reads-fields l (h ∷ x ∷ v ∷ k ∷ s) =
       reads-then (AidAt s) (Facts (h ∷ x ∷ v ∷ k ∷ s)) (given (eqb ((0 * 256 + h) * 256 + x) l && eqb v (L .version)) aid s) _
-        (reads-given (AidAt s) (eqb ((0 * 256 + h) * 256 + x) l && eqb v (L .version)) aid s (λ _. reads-aid-at s))
-        (λ a t ha. reads-then (Valid L) (Facts (h ∷ x ∷ v ∷ k ∷ s)) (change L k t) _ (reads-change k t) (λ c u hc. (ha .0, ha .1, hc)))
+      (reads-given (AidAt s) (eqb ((0 * 256 + h) * 256 + x) l && eqb v (L .version)) aid s (λ _. reads-aid-at s))
+      (λ a t ha. reads-then (Valid L) (Facts (h ∷ x ∷ v ∷ k ∷ s)) (change L k t) _ (reads-change k t) (λ c u hc. (ha .0, ha .1, hc)))
 
   parsed : (s : List ℕ) (q : Request) → parse L s ≡ some q → Facts s q
   unfolding parse

@@ -28,7 +28,7 @@ module _ {A : Type 0} (g : A → List ℕ) (w : ℕ) where
       let q = append-assoc (g x) (flat g l) rest in
       let e = h x (here refl) in
       λ i. (ap (take w) q ∙ take-at (g x) (flat g l ++ rest) w e) i
-        ∷ (ap (pieces w (length l)) (ap (drop w) q ∙ drop-at (g x) (flat g l ++ rest) w e) ∙ pieces-flat l rest (λ y m. h y (there m))) i
+      ∷ (ap (pieces w (length l)) (ap (drop w) q ∙ drop-at (g x) (flat g l ++ rest) w e) ∙ pieces-flat l rest (λ y m. h y (there m))) i
 
 -- ---- one piece for each number below n
 pub in-or-off : (k n : ℕ) → (k < n) ⊎ (n ≤ k)
@@ -117,10 +117,11 @@ module _ (u : Unmet) (h : length (u .callee) ≤ 16) where
   pub read-unmet : readUnmet (writeUnmet u) ≡ u
   read-unmet =
       let q = drop-at (writeAid (u .callee)) after 17 (length-aid (u .callee) h) in
-      λ i. record
-        { callee = (ap readAid (take-at (writeAid (u .callee)) after 17 (length-aid (u .callee) h)) ∙ read-aid (u .callee)) i
-        ; tok = ap readTok q i
-        ; caller = ap (λ (z : List ℕ). getD z 2 0) q i }
+      λ i. record {
+        callee = (ap readAid (take-at (writeAid (u .callee)) after 17 (length-aid (u .callee) h)) ∙ read-aid (u .callee)) i;
+        tok = ap readTok q i;
+        caller = ap (λ (z : List ℕ). getD z 2 0) q i;
+      }
 
 module _ (v : Waiting) (h : length (v .caller) ≤ 16) where
   abbrev numbers : List ℕ
@@ -132,10 +133,11 @@ module _ (v : Waiting) (h : length (v .caller) ≤ 16) where
   pub read-waiting : readWaiting (writeWaiting v) ≡ v
   read-waiting =
       let q = drop-at (writeAid (v .caller)) numbers 17 (length-aid (v .caller) h) in
-      λ i. record
-        { caller = (ap readAid (take-at (writeAid (v .caller)) numbers 17 (length-aid (v .caller) h)) ∙ read-aid (v .caller)) i
-        ; callee = ap (λ (z : List ℕ). getD z 0 0) q i
-        ; service = ap (λ (z : List ℕ). getD z 1 0) q i }
+      λ i. record {
+        caller = (ap readAid (take-at (writeAid (v .caller)) numbers 17 (length-aid (v .caller) h)) ∙ read-aid (v .caller)) i;
+        callee = ap (λ (z : List ℕ). getD z 0 0) q i;
+        service = ap (λ (z : List ℕ). getD z 1 0) q i;
+      }
 
 -- ---- nothing but zeros
 abbrev pub Zeros : List ℕ → Type 0

@@ -34,14 +34,15 @@ pub record NewPlace (tok tok′ : ℕ → ℕ → Tok) (provides provides′ : �
   pub prov-cases : (x y : ℕ) → T (provides′ x y) → ((x ≡ j) × (y ≡ k)) ⊎ T (provides x y)
 
 pub new-place : (tok : ℕ → ℕ → Tok) (provides : ℕ → ℕ → Bool) (j k : ℕ) (s : Tok) → (T (provides j k) → ⊥)
-  → NewPlace tok (put2 j k s tok) provides (put2 j k true provides) j k s
-new-place tok provides j k s free = record
-    { new-prov = new
-    ; new-tok = put2-new j k s tok
-    ; old-prov = λ x y p. stays x y p (put2-cases j k true provides x y)
-    ; old-tok = λ x y p. same x y (λ e. free (rw (← e .0, ← e .1) p)) (put2-cases j k s tok x y)
-    ; none-tok = λ x y np. same x y (λ e. np (rw (e .0, e .1) new)) (put2-cases j k s tok x y)
-    ; prov-cases = λ x y p. which x y p (put2-cases j k true provides x y) }
+    → NewPlace tok (put2 j k s tok) provides (put2 j k true provides) j k s
+new-place tok provides j k s free = record {
+  new-prov = new;
+  new-tok = put2-new j k s tok;
+  old-prov = λ x y p. stays x y p (put2-cases j k true provides x y);
+  old-tok = λ x y p. same x y (λ e. free (rw (← e .0, ← e .1) p)) (put2-cases j k s tok x y);
+  none-tok = λ x y np. same x y (λ e. np (rw (e .0, e .1) new)) (put2-cases j k s tok x y);
+  prov-cases = λ x y p. which x y p (put2-cases j k true provides x y);
+}
   where
     new : T (put2 j k true provides j k)
     new = rw (put2-new j k true provides) tt

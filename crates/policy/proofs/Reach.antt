@@ -35,7 +35,7 @@ granted-provided L t f n x (row k m q) = at k (f .waiting .wait-prov (record { c
 module _ (L : Layout) (t : Tables) (names : Names L (t .used) (t .aid) (t .tok) (t .provides)) (P : Draft → Type 0) where
   -- cause 5 does not apply, nor do the others on the number that was found
   pub at-package : (d : ℕ → Draft) (a : Aid) (others : Option ℕ → List Cause) → answer (5 when absent L t a ∷ others (numberOf L t a)) ≡ 0
-    → ((j : ℕ) → T (t .used j) → t .aid j ≡ a → answer (others (some j)) ≡ 0 → P (d j)) → P (atPackage L t a d)
+      → ((j : ℕ) → T (t .used j) → t .aid j ≡ a → answer (others (some j)) ≡ 0 → P (d j)) → P (atPackage L t a d)
   at-package d a others e f = go (numberOf L t a) (number-is L t names a) e
     where
       go : (o : Option ℕ) → NumberIs t a o → answer (5 when not (isSome o) ∷ others o) ≡ 0 → P (orElse o (kept t) d)
@@ -51,7 +51,7 @@ module _ (L : Layout) (t : Tables) (names : Names L (t .used) (t .aid) (t .tok) 
 
   -- and the package provides the service
   pub at-place : (d : ℕ → ℕ → Draft) (a : Aid) (s : Tok) (others : Option ℕ → List Cause) → answer (5 when absent L t a ∷ others (numberOf L t a)) ≡ 0
-    → ((j : ℕ) → answer (others (some j)) ≡ 0 → ProvidesAt t j s)
-    → ((j k : ℕ) → t .aid j ≡ a → answer (others (some j)) ≡ 0 → T (t .provides j k) → t .tok j k ≡ s → P (d j k))
-    → P (atPackage L t a (λ j. atService L t j s (d j)))
+      → ((j : ℕ) → answer (others (some j)) ≡ 0 → ProvidesAt t j s)
+      → ((j k : ℕ) → t .aid j ≡ a → answer (others (some j)) ≡ 0 → T (t .provides j k) → t .tok j k ≡ s → P (d j k))
+      → P (atPackage L t a (λ j. atService L t j s (d j)))
   at-place d a s others e f g = at-package (λ j. atService L t j s (d j)) a others e (λ j u aj q. at-service (d j) j s (f j q) (λ k. g j k aj q))

@@ -82,13 +82,13 @@ module _ (L : Layout) (lo : LayoutOk L) (t : Tables) (g : Formed L t) (fit : Fit
     bits-length : length (flat (λ j. map (name j) (keep (b j) (places L t))) (numbers L t)) ≤ (L .packages - 1) * L .services
     bits-length =
         let h = length-flat-but (λ j. map (name j) (keep (b j) (places L t))) (L .services)
-              (λ j. let a = length-map (keep (b j) (places L t)) (name j) in let k = length-keep (b j) (places L t) in let u = length-from 0 (L .services) in omega arith)
-              n (ap (λ (z : List ℕ). map (name n) z) (empty-keep (places L t))) (numbers L t) (in-upto (L .packages) n (g .names .used-lt n un)) in
+        (λ j. let a = length-map (keep (b j) (places L t)) (name j) in let k = length-keep (b j) (places L t) in let u = length-from 0 (L .services) in omega arith)
+        n (ap (λ (z : List ℕ). map (name n) z) (empty-keep (places L t))) (numbers L t) (in-upto (L .packages) n (g .names .used-lt n un)) in
         subst (λ (z : ℕ). length (flat (λ j. map (name j) (keep (b j) (places L t))) (numbers L t)) ≤ (z - 1) * L .services) (length-from 0 (L .packages)) h
 
     -- with the rows of a list behind the bits
     rows-length : {A : Type 0} (f : A → Row) (own : A → Bool) (l : List A) → length l ≤ L .capacity
-      → length (flat (λ j. map (name j) (keep (b j) (places L t))) (numbers L t) ++ map f (keep own l)) ≤ L .mostRows
+        → length (flat (λ j. map (name j) (keep (b j) (places L t))) (numbers L t) ++ map f (keep own l)) ≤ L .mostRows
     rows-length f own l h =
         let a = bits-length in
         let e = length-append (flat (λ j. map (name j) (keep (b j) (places L t))) (numbers L t)) (map f (keep own l)) in
@@ -127,9 +127,10 @@ module _ (L : Layout) (lo : LayoutOk L) (t : Tables) (g : Formed L t) (fit : Fit
 
   at-service : (i j k : ℕ) (r : Row) → T (t .calls i j k) → i ≡ n → r ≡ serviceAt t j k → Other r
   at-service i j k r b ei e =
-      let uj = g .names .prov-used j k (g .calls .of-prov i j k b) in
-      ( subst (λ (z : Row). T (validAid (z .aid))) (sym e) (g .names .aid-valid j uj)
-      , λ q. g .calls .other i j k b (ei ∙ sym (g .names .aid-inj j n uj un (sym (ap (λ (z : Row). z .aid) e) ∙ q))) )
+      let uj = g .names .prov-used j k (g .calls .of-prov i j k b) in (
+        subst (λ (z : Row). T (validAid (z .aid))) (sym e) (g .names .aid-valid j uj),
+        λ q. g .calls .other i j k b (ei ∙ sym (g .names .aid-inj j n uj un (sym (ap (λ (z : Row). z .aid) e) ∙ q))),
+      )
 
   call-other : (r : Row) → In r (c .calls) → Other r
   call-other r m = go (calls-at L t g n r .0 m)
@@ -168,7 +169,7 @@ module _ (L : Layout) (lo : LayoutOk L) (t : Tables) (g : Formed L t) (fit : Fit
   pub read-out-parses : parse L (loadRecord L c) ≡ some (record { aid = c .aid; change = load (c .provides) (c .calls) (c .grants) (c .needs) })
   read-out-parses =
       load-parses L lo c valid-aid provides-length calls-length grants-length needs-length
-        (λ r m. call-other r m .0) (λ r m. grant-other r m .0) (λ r m. call-other r (need-called r m) .0)
+      (λ r m. call-other r m .0) (λ r m. grant-other r m .0) (λ r m. call-other r (need-called r m) .0)
 
   -- ---- no cause 3
   not-own : (l : List Row) → ((r : Row) → In r l → Other r) → T (notOwn (t .aid n) l)
@@ -182,8 +183,8 @@ module _ (L : Layout) (lo : LayoutOk L) (t : Tables) (g : Formed L t) (fit : Fit
       let o1 = notOwn (t .aid n) (c .calls) in let o2 = notOwn (t .aid n) (c .grants) in let o3 = notOwn (t .aid n) (c .needs) in
       let n1 = every (λ r. hasRow r (c .calls)) (c .needs) in let n2 = every (λ r. hasTok (r .tok) (c .provides)) (c .grants) in
       and-i (p1 && p2 && p3 && p4 && (o1 && o2 && o3)) (n1 && n2)
-        (and-i (p1 && p2 && p3 && p4) (o1 && o2 && o3)
-          (and-i (p1 && p2 && p3) p4 (and-i (p1 && p2) p3 (and-i p1 p2 (once→distinct eqTok eqTok→ eqTok-refl (c .provides) (s .provides)) (once→distinct eqRow eqRow→ eqRow-refl (c .calls) (s .calls)))
-            (once→distinct eqRow eqRow→ eqRow-refl (c .grants) (s .grants))) (once→distinct eqRow eqRow→ eqRow-refl (c .needs) (s .needs)))
-          (and-i (o1 && o2) o3 (and-i o1 o2 (not-own (c .calls) call-other) (not-own (c .grants) grant-other)) (not-own (c .needs) (λ r m. call-other r (need-called r m)))))
-        (and-i n1 n2 (in-every (λ r. hasRow r (c .calls)) (c .needs) (λ r m. row-has (need-called r m))) (in-every (λ r. hasTok (r .tok) (c .provides)) (c .grants) (λ r m. tok-has (grant-provided r m))))
+      (and-i (p1 && p2 && p3 && p4) (o1 && o2 && o3)
+      (and-i (p1 && p2 && p3) p4 (and-i (p1 && p2) p3 (and-i p1 p2 (once→distinct eqTok eqTok→ eqTok-refl (c .provides) (s .provides)) (once→distinct eqRow eqRow→ eqRow-refl (c .calls) (s .calls)))
+      (once→distinct eqRow eqRow→ eqRow-refl (c .grants) (s .grants))) (once→distinct eqRow eqRow→ eqRow-refl (c .needs) (s .needs)))
+      (and-i (o1 && o2) o3 (and-i o1 o2 (not-own (c .calls) call-other) (not-own (c .grants) grant-other)) (not-own (c .needs) (λ r m. call-other r (need-called r m)))))
+      (and-i n1 n2 (in-every (λ r. hasRow r (c .calls)) (c .needs) (λ r m. row-has (need-called r m))) (in-every (λ r. hasTok (r .tok) (c .provides)) (c .grants) (λ r m. tok-has (grant-provided r m))))

@@ -36,8 +36,10 @@ long p rest e q = length-append p rest ∙ λ i. e i + q i
 module _ (L : Layout) (lo : LayoutOk L) where
   abbrev n : ℕ
   n = L .packages
+
   abbrev m : ℕ
   m = L .services
+
   abbrev w : ℕ
   w = L .width
 
@@ -72,27 +74,37 @@ module _ (L : Layout) (lo : LayoutOk L) where
     -- ---- the parts, and what stands after each
     abbrev aids : List ℕ
     aids = flat (λ i. writeAid (t .aid i)) (upto n)
+
     abbrev tokens : ℕ → List ℕ
     tokens j = flat (λ k. writeTok (t .tok j k)) (upto m)
 
     abbrev from-waiting : List ℕ
     from-waiting = writeList L writeWaiting waitingSize (t .waiting)
+
     abbrev from-unmet : List ℕ
     from-unmet = writeList L writeUnmet unmetSize (t .unmet) ++ from-waiting
+
     abbrev from-needs : List ℕ
     from-needs = writeTable L (t .needs) ++ from-unmet
+
     abbrev from-grants : List ℕ
     from-grants = writeTable L (t .grants) ++ from-needs
+
     abbrev from-calls : List ℕ
     from-calls = writeTable L (t .calls) ++ from-grants
+
     abbrev from-provides : List ℕ
     from-provides = writeLine L (t .provides) ++ from-calls
+
     abbrev from-tokens : List ℕ
     from-tokens = flat tokens (upto n) ++ from-provides
+
     abbrev from-aids : List ℕ
     from-aids = aids ++ from-tokens
+
     abbrev from-used : List ℕ
     from-used = writeBits L n (t .used) ++ from-aids
+
     abbrev img : List ℕ
     img = L .header ++ from-used
 
@@ -115,9 +127,9 @@ module _ (L : Layout) (lo : LayoutOk L) where
     unfolding encode
     length-encode =
         long (L .header) from-used (lo .header-size) (long (writeBits L n (t .used)) from-aids (length-bits L n (t .used)) (long aids from-tokens length-aids
-          (long (flat tokens (upto n)) from-provides length-tokens (long (writeLine L (t .provides)) from-calls (length-line L (t .provides))
-          (long (writeTable L (t .calls)) from-grants (length-lines L (t .calls)) (long (writeTable L (t .grants)) from-needs (length-lines L (t .grants))
-          (long (writeTable L (t .needs)) from-unmet (length-lines L (t .needs)) (long (writeList L writeUnmet unmetSize (t .unmet)) from-waiting length-unmets length-waitings))))))))
+        (long (flat tokens (upto n)) from-provides length-tokens (long (writeLine L (t .provides)) from-calls (length-line L (t .provides))
+        (long (writeTable L (t .calls)) from-grants (length-lines L (t .calls)) (long (writeTable L (t .grants)) from-needs (length-lines L (t .grants))
+        (long (writeTable L (t .needs)) from-unmet (length-lines L (t .needs)) (long (writeList L writeUnmet unmetSize (t .unmet)) from-waiting length-unmets length-waitings))))))))
         ∙ omega arith
 
     -- ---- each part is where it is read
@@ -190,37 +202,57 @@ module _ (L : Layout) (lo : LayoutOk L) where
 
     pub round-trip : decode L (encode L t) ≡ t
     unfolding decode encode
-    round-trip = λ z. record
-        { used = λ i. read-used i z
-        ; aid = λ i. read-aids i z
-        ; tok = λ j k. read-tokens j k z
-        ; provides = λ j k. read-line L lo (t .provides) provides-in (drop (providesAt L) img) from-calls at-provides j k z
-        ; calls = λ i j k. read-lines L lo (t .calls) calls-in (drop (callsAt L) img) from-grants at-calls i j k z
-        ; grants = λ j i k. read-lines L lo (t .grants) grants-in (drop (grantsAt L) img) from-needs at-grants j i k z
-        ; needs = λ i j k. read-lines L lo (t .needs) (λ i j k s. calls-in i j k (fo .need-call i j k s)) (drop (needsAt L) img) from-unmet at-needs i j k z
-        ; unmet = read-list L readUnmet writeUnmet unmetSize (t .unmet) (λ u i. length-unmet u (unmet-short u i)) (λ u i. read-unmet u (unmet-short u i)) (drop (unmetAt L) img) from-waiting at-unmet z
-        ; waiting = read-list L readWaiting writeWaiting waitingSize (t .waiting) (λ v i. length-waiting v (waiting-short v i)) (λ v i. read-waiting v (waiting-short v i))
-            (drop (waitingAt L) img) [] (at-waiting ∙ sym (append-nil from-waiting)) z }
+    round-trip = λ z. record {
+      used = λ i. read-used i z;
+      aid = λ i. read-aids i z;
+      tok = λ j k. read-tokens j k z;
+      provides = λ j k. read-line L lo (t .provides) provides-in (drop (providesAt L) img) from-calls at-provides j k z;
+      calls = λ i j k. read-lines L lo (t .calls) calls-in (drop (callsAt L) img) from-grants at-calls i j k z;
+      grants = λ j i k. read-lines L lo (t .grants) grants-in (drop (grantsAt L) img) from-needs at-grants j i k z;
+      needs = λ i j k. read-lines L lo (t .needs) (λ i j k s. calls-in i j k (fo .need-call i j k s)) (drop (needsAt L) img) from-unmet at-needs i j k z;
+      unmet = read-list L readUnmet writeUnmet unmetSize (t .unmet) (λ u i. length-unmet u (unmet-short u i)) (λ u i. read-unmet u (unmet-short u i)) (drop (unmetAt L) img) from-waiting at-unmet z;
+      waiting = read-list L readWaiting writeWaiting waitingSize (t .waiting) (λ v i. length-waiting v (waiting-short v i)) (λ v i. read-waiting v (waiting-short v i))
+          (drop (waitingAt L) img) [] (at-waiting ∙ sym (append-nil from-waiting)) z;
+    }
 
 -- ---- no package
 abbrev pub emptyTables : Tables
-emptyTables = record
-    { used = λ n. false; aid = λ n. []; tok = λ j k. noTok; provides = λ j k. false
-    ; calls = λ i j k. false; grants = λ j i k. false; needs = λ i j k. false; unmet = []; waiting = [] }
+emptyTables = record {
+  used = λ n. false;
+  aid = λ n. [];
+  tok = λ j k. noTok;
+  provides = λ j k. false;
+  calls = λ i j k. false;
+  grants = λ j i k. false;
+  needs = λ i j k. false;
+  unmet = [];
+  waiting = [];
+}
 
 pub empty-formed : (L : Layout) → Formed L emptyTables
-empty-formed L = record
-    { names = record
-        { used-lt = λ n u. absurd u; prov-lt = λ j k s. absurd s; prov-used = λ j k s. s; aid-valid = λ n u. absurd u
-        ; aid-blank = λ n f. refl; tok-blank = λ j k f. refl; aid-inj = λ i j u v e. absurd u; tok-inj = λ j k l s p e. absurd s }
-    ; calls = record { by-used = λ i j k s. s; of-prov = λ i j k s. s; other = λ i j k s e. s }
-    ; grants = record { by-used = λ i j k s. s; of-prov = λ i j k s. s; other = λ i j k s e. s }
-    ; need-call = λ i j k s. s
-    ; unmet = record
-        { off = record { off-used = λ u i. absurd (in-nil i); off-card = λ u i j k s e f. s }
-        ; unmet-valid = λ u i. absurd (in-nil i); unmet-other = λ u i e. in-nil i; unmet-once = tt }
-    ; waiting = record
-        { wait-valid = λ v i. absurd (in-nil i); wait-off = λ v i n u e. u; wait-prov = λ v i. absurd (in-nil i); wait-once = tt } }
+empty-formed L = record {
+  names = record {
+    used-lt = λ n u. absurd u;
+    prov-lt = λ j k s. absurd s;
+    prov-used = λ j k s. s;
+    aid-valid = λ n u. absurd u;
+    aid-blank = λ n f. refl;
+    tok-blank = λ j k f. refl;
+    aid-inj = λ i j u v e. absurd u;
+    tok-inj = λ j k l s p e. absurd s;
+  };
+  calls = record { by-used = λ i j k s. s; of-prov = λ i j k s. s; other = λ i j k s e. s };
+  grants = record { by-used = λ i j k s. s; of-prov = λ i j k s. s; other = λ i j k s e. s };
+  need-call = λ i j k s. s;
+  unmet = record {
+    off = record { off-used = λ u i. absurd (in-nil i); off-card = λ u i j k s e f. s };
+    unmet-valid = λ u i. absurd (in-nil i);
+    unmet-other = λ u i e. in-nil i;
+    unmet-once = tt;
+  };
+  waiting = record
+      { wait-valid = λ v i. absurd (in-nil i); wait-off = λ v i n u e. u; wait-prov = λ v i. absurd (in-nil i); wait-once = tt };
+}
 
 pub empty-fitting : (L : Layout) → Fitting L emptyTables
 empty-fitting L = record { unmet-fits = zero-le; waiting-fits = zero-le }
@@ -238,6 +270,6 @@ empty-encode L lo =
     let line : Zeros (writeLine L (λ j k. false)) = each _ (λ j. zeros-bits L (L .services)) in
     let table : Zeros (writeTable L (λ i j k. false)) = each _ (λ i. line) in
     zeros-after (L .header) _ (size L) (lo .header-size) (length-encode L lo emptyTables (empty-formed L) (empty-fitting L))
-      (zeros-append (zeros-bits L (L .packages)) (zeros-append (each (λ i. writeAid []) (λ i. refl))
-        (zeros-append (each (λ j. flat (λ k. writeTok noTok) (upto (L .services))) (λ j. zeros-flat (λ k. writeTok noTok) (upto (L .services)) (λ k. refl)))
-        (zeros-append line (zeros-append table (zeros-append table (zeros-append table (zeros-append (zeros-list L writeUnmet unmetSize) (zeros-list L writeWaiting waitingSize)))))))))
+    (zeros-append (zeros-bits L (L .packages)) (zeros-append (each (λ i. writeAid []) (λ i. refl))
+    (zeros-append (each (λ j. flat (λ k. writeTok noTok) (upto (L .services))) (λ j. zeros-flat (λ k. writeTok noTok) (upto (L .services)) (λ k. refl)))
+    (zeros-append line (zeros-append table (zeros-append table (zeros-append table (zeros-append (zeros-list L writeUnmet unmetSize) (zeros-list L writeWaiting waitingSize)))))))))

@@ -45,20 +45,22 @@ pub record Turned (i : ℕ) (f : List Row → List Row) (P P′ : ℕ → Row �
 
 module _ {P P′ : ℕ → Row → Type 0} (i : ℕ) where
   pub turned-same : ((n : ℕ) (x : Row) → P′ n x ↔ P n x) → Turned i (λ l. l) P P′
-  turned-same h = record
-      { others = λ n ne l e. at-all n l e
-      ; own = λ l e. at-all i l e
-      ; once = λ l e d. d }
+  turned-same h = record {
+    others = λ n ne l e. at-all n l e;
+    own = λ l e. at-all i l e;
+    once = λ l e d. d;
+  }
     where
       at-all : (n : ℕ) (l : List Row) → Lists (P n) l → Lists (P′ n) l
       at-all n l e x = (λ m. h n x .1 (e x .0 m), λ p. e x .1 (h n x .0 p))
 
   module _ (r : Row) where
     pub turned-more : More i r P P′ → (P i r → ⊥) → Turned i (λ l. l ++ (r ∷ [])) P P′
-    turned-more h new = record
-        { others = λ n ne l e x. (λ m. h n x .1 (inl (e x .0 m)), λ p. e x .1 (other n ne x (h n x .0 p)))
-        ; own = λ l e x. (λ m. h i x .1 (to l e x (in-append l m)), λ p. back l e x (h i x .0 p))
-        ; once = λ l e d. once-snoc l r d (λ m. new (e r .0 m)) }
+    turned-more h new = record {
+      others = λ n ne l e x. (λ m. h n x .1 (inl (e x .0 m)), λ p. e x .1 (other n ne x (h n x .0 p)));
+      own = λ l e x. (λ m. h i x .1 (to l e x (in-append l m)), λ p. back l e x (h i x .0 p));
+      once = λ l e d. once-snoc l r d (λ m. new (e r .0 m));
+    }
       where
         other : (n : ℕ) → (n ≡ i → ⊥) → (x : Row) → P n x ⊎ ((n ≡ i) × (x ≡ r)) → P n x
         other n ne x (inl p) = p
@@ -77,12 +79,14 @@ module _ {P P′ : ℕ → Row → Type 0} (i : ℕ) where
         back l e x (inr q) = in-right l (here (q .1))
 
     pub turned-less : Less i r P P′ → Turned i (withoutRow r) P P′
-    turned-less h = record
-        { others = λ n ne l e x. (λ m. h n x .1 (e x .0 m, λ q. ne (q .0)), λ p. e x .1 (h n x .0 p .0))
-        ; own = λ l e x.
-            ( λ m. let q = keep-in out l m in h i x .1 (e x .0 (q .0), λ s. not-e (eqRow r x) (q .1) (subst (λ (z : Row). T (eqRow r z)) (sym (s .1)) (eqRow-refl r)))
-            , λ p. in-keep out (e x .1 (h i x .0 p .0)) (not-i (eqRow r x) (λ s. h i x .0 p .1 (refl, sym (eqRow→ r x s)))))
-        ; once = λ l e d. once-keep out l d }
+    turned-less h = record {
+      others = λ n ne l e x. (λ m. h n x .1 (e x .0 m, λ q. ne (q .0)), λ p. e x .1 (h n x .0 p .0));
+      own = λ l e x. (
+        λ m. let q = keep-in out l m in h i x .1 (e x .0 (q .0), λ s. not-e (eqRow r x) (q .1) (subst (λ (z : Row). T (eqRow r z)) (sym (s .1)) (eqRow-refl r))),
+        λ p. in-keep out (e x .1 (h i x .0 p .0)) (not-i (eqRow r x) (λ s. h i x .0 p .1 (refl, sym (eqRow→ r x s)))),
+      );
+      once = λ l e d. once-keep out l d;
+    }
       where
         out : Row → Bool
         out x = not (eqRow r x)
@@ -138,8 +142,8 @@ module _ (t t′ : Tables) (same : (j k : ℕ) → serviceAt t j k ≡ serviceAt
         back (bit j k h e) ne = bit j k h (e ∙ same j k)
         back (row m) ne =
             row (in-keep out m (not-i (eqUnmet (callRow i r) (callRow n x)) (λ s.
-              let e = eqUnmet→ (callRow i r) (callRow n x) s in
-              ne (sym (ap (λ (u : Unmet). u .caller) e), λ z. record { aid = sym e z .callee; tok = sym e z .tok }))))
+            let e = eqUnmet→ (callRow i r) (callRow n x) s in
+            ne (sym (ap (λ (u : Unmet). u .caller) e), λ z. record { aid = sym e z .callee; tok = sym e z .tok }))))
 
     -- ---- as the bit of service k of package j
     module _ (j k : ℕ) (is : r ≡ serviceAt t j k) where
@@ -165,10 +169,12 @@ module _ (t t′ : Tables) (same : (j k : ℕ) → serviceAt t j k ≡ serviceAt
         where
           to : RowAt t′ (put3 i j k false b) l n x → RowAt t b l n x × ((n ≡ i) × (x ≡ r) → ⊥)
           to (bit y z h e) =
-              let p = put3-less i j k b n y z .0 h in
-              (bit y z (p .0) (e ∙ sym (same y z)), λ q.
-                let s = one-place y z (subst (λ (w : ℕ). T (b w y z)) (q .0) (p .0)) (same y z ∙ sym e ∙ q .1 ∙ is) in
-                p .1 (q .0, s .0, s .1))
+              let p = put3-less i j k b n y z .0 h in (
+                bit y z (p .0) (e ∙ sym (same y z)),
+                λ q.
+                    let s = one-place y z (subst (λ (w : ℕ). T (b w y z)) (q .0) (p .0)) (same y z ∙ sym e ∙ q .1 ∙ is) in
+                    p .1 (q .0, s .0, s .1),
+              )
           to (row m) = (row m, λ q. no-row (in-cast (λ z. callRow (sym (q .0) z) (sym (q .1) z)) m))
 
           back : RowAt t b l n x → ((n ≡ i) × (x ≡ r) → ⊥) → RowAt t′ (put3 i j k false b) l n x
@@ -185,12 +191,13 @@ module _ (L : Layout) (t : Tables) (c d : ℕ → ℕ → ℕ → Bool) (u lost 
 
   has-rows : (n : ℕ) (k : Contract) (f g : List Row → List Row) → HasContract t [] n k → Lists (RowAt after c u n) (f (k .calls)) → Lists (RowAt after d lost n) (g (k .needs))
       → HasContract after lost n (rows f g k)
-  has-rows n k f g h hc hd = record
-      { aid = h .aid
-      ; provides = λ s. (λ m. to-provides s (h .provides s .0 m), λ p. h .provides s .1 (of-provides s p))
-      ; calls = hc
-      ; grants = λ x. (λ m. to-grants x (h .grants x .0 m), λ p. h .grants x .1 (of-grants x p))
-      ; needs = hd }
+  has-rows n k f g h hc hd = record {
+    aid = h .aid;
+    provides = λ s. (λ m. to-provides s (h .provides s .0 m), λ p. h .provides s .1 (of-provides s p));
+    calls = hc;
+    grants = λ x. (λ m. to-grants x (h .grants x .0 m), λ p. h .grants x .1 (of-grants x p));
+    needs = hd;
+  }
     where
       to-provides : (s : Tok) → ProvidesAt t n s → ProvidesAt after n s
       to-provides s (at z p e) = at z p e

@@ -63,8 +63,8 @@ and-true false = refl
 granted : (L : Layout) (t : Tables) → Lawful t → everyBit L (λ i j k. implies (t .calls i j k) (t .grants j i k)) ≡ true
 granted L t law = T-true (everyBit L (λ i j k. implies (t .calls i j k) (t .grants j i k)))
     (in-every (λ i. every (λ j. every (λ k. implies (t .calls i j k) (t .grants j i k)) (upto (L .services))) (upto (L .packages))) (upto (L .packages)) (λ i _.
-      in-every (λ j. every (λ k. implies (t .calls i j k) (t .grants j i k)) (upto (L .services))) (upto (L .packages)) (λ j _.
-        in-every (λ k. implies (t .calls i j k) (t .grants j i k)) (upto (L .services)) (λ k _. implies-i (t .calls i j k) (t .grants j i k) (law i j k)))))
+    in-every (λ j. every (λ k. implies (t .calls i j k) (t .grants j i k)) (upto (L .services))) (upto (L .packages)) (λ j _.
+    in-every (λ k. implies (t .calls i j k) (t .grants j i k)) (upto (L .services)) (λ k _. implies-i (t .calls i j k) (t .grants j i k) (law i j k)))))
 
 module _ (L : Layout) (t : Tables) where
   -- ---- how many rows the bits on package j leave
@@ -78,7 +78,7 @@ module _ (L : Layout) (t : Tables) where
     left-one : (b : ℕ → ℕ → ℕ → Bool) → Bits (t .used) (t .provides) b → (j k : ℕ) → length (leftBy L t b j (λ z. eqb z k)) ≡ count (λ i. b i j k) (numbers L t)
     left-one b bits j k =
         same-length (leftBy L t b j (λ z. eqb z k)) (map row (keep callers (numbers L t))) (once-left L t (fm .names) j (λ z. eqb z k) b bits)
-          (once-map row (keep callers (numbers L t)) (λ x y _ _ e. ap (λ (u : Unmet). u .caller) e) (once-keep callers (numbers L t) (once-upto (L .packages)))) to fro
+        (once-map row (keep callers (numbers L t)) (λ x y _ _ e. ap (λ (u : Unmet). u .caller) e) (once-keep callers (numbers L t) (once-upto (L .packages)))) to fro
         ∙ length-map (keep callers (numbers L t)) row
       where
         row : ℕ → Unmet
@@ -92,7 +92,7 @@ module _ (L : Layout) (t : Tables) where
             let p = left-in L t (fm .names) j (λ z. eqb z k) b bits m in
             let e : p .1 ≡ k = eqb→eq (p .1) k (p .3) in
             in-cast (p .4 ∙ ap (λ (z : ℕ). callRow (p .0) (serviceAt t j z)) e)
-              (in-map row (in-keep callers (in-upto (L .packages) (p .0) (fm .names .used-lt (p .0) (bits .by-used (p .0) j (p .1) (p .2)))) (subst (λ (z : ℕ). T (b (p .0) j z)) e (p .2))))
+            (in-map row (in-keep callers (in-upto (L .packages) (p .0) (fm .names .used-lt (p .0) (bits .by-used (p .0) j (p .1) (p .2)))) (subst (λ (z : ℕ). T (b (p .0) j z)) e (p .2))))
 
         fro : (u : Unmet) → In u (map row (keep callers (numbers L t))) → In u (leftBy L t b j (λ z. eqb z k))
         fro u m =
@@ -103,13 +103,14 @@ module _ (L : Layout) (t : Tables) where
       -- ---- kind 2
       look-removed : (n : ℕ) → T (t .used n) → look L (removeAt L t n) ≡ shortRemove L t n
       unfolding look
-      look-removed n un = λ z. record
-          { granted = granted L (removeAt L t n .tables) (lawful-dropped L t (removeAt L t n .tables) n (λ x. true) (keep byOther (t .unmet)) fm (dropping-2 L t fm n un) law) z
-          ; needed = (nil-length (leftBy L t (t .needs) n (λ x. true)) ∙ ap isZero (left-all (t .needs) n) ∙ none-sum (λ i. count (t .needs i n) (places L t)) (numbers L t)
-              ∙ (λ y. every (λ i. none-pass (t .needs i n) (places L t) y) (numbers L t))) z
-          ; unmetFits = leb ((length-append (keep byOther (t .unmet)) (leftBy L t (t .calls) n (λ x. true)) ∙ ap (λ (x : ℕ). count byOther (t .unmet) + x) (left-all (t .calls) n)) z) (L .capacity)
-          ; waitingFits = leb ((length-append (keep ofOther (t .waiting)) (flat (λ j. map (waitFor j) (keep (t .grants j n) (places L t))) (numbers L t))
-              ∙ ap (λ (x : ℕ). count ofOther (t .waiting) + x) (length-pairs waitFor (λ j. t .grants j n) (places L t) (numbers L t))) z) (L .capacity) }
+      look-removed n un = λ z. record {
+        granted = granted L (removeAt L t n .tables) (lawful-dropped L t (removeAt L t n .tables) n (λ x. true) (keep byOther (t .unmet)) fm (dropping-2 L t fm n un) law) z;
+        needed = (nil-length (leftBy L t (t .needs) n (λ x. true)) ∙ ap isZero (left-all (t .needs) n) ∙ none-sum (λ i. count (t .needs i n) (places L t)) (numbers L t)
+            ∙ (λ y. every (λ i. none-pass (t .needs i n) (places L t) y) (numbers L t))) z;
+        unmetFits = leb ((length-append (keep byOther (t .unmet)) (leftBy L t (t .calls) n (λ x. true)) ∙ ap (λ (x : ℕ). count byOther (t .unmet) + x) (left-all (t .calls) n)) z) (L .capacity);
+        waitingFits = leb ((length-append (keep ofOther (t .waiting)) (flat (λ j. map (waitFor j) (keep (t .grants j n) (places L t))) (numbers L t))
+            ∙ ap (λ (x : ℕ). count ofOther (t .waiting) + x) (length-pairs waitFor (λ j. t .grants j n) (places L t) (numbers L t))) z) (L .capacity);
+      }
         where
           byOther : Unmet → Bool
           byOther u = not (eqb (u .caller) n)
@@ -123,12 +124,13 @@ module _ (L : Layout) (t : Tables) where
       -- ---- kind 4
       look-dropped : Fitting L t → (j k : ℕ) → T (t .provides j k) → look L (removeServiceAt L t j k) ≡ shortRemoveService L t j k
       unfolding look
-      look-dropped fit j k pk = λ z. record
-          { granted = granted L (removeServiceAt L t j k .tables) (lawful-dropped L t (removeServiceAt L t j k .tables) j (λ x. eqb x k) (t .unmet) fm (dropping-4 L t fm j k pk) law) z
-          ; needed = (nil-length (leftBy L t (t .needs) j (λ x. eqb x k)) ∙ ap isZero (left-one (t .needs) (need-bits fm) j k) ∙ none-pass (λ i. t .needs i j k) (numbers L t)) z
-          ; unmetFits = leb ((length-append (t .unmet) (leftBy L t (t .calls) j (λ x. eqb x k)) ∙ ap (λ (x : ℕ). length (t .unmet) + x) (left-one (t .calls) (fm .calls) j k)) z) (L .capacity)
-          ; waitingFits = T-true (leb (count stays (t .waiting)) (L .capacity)) (le→leb (count stays (t .waiting)) (L .capacity)
-              (le-trans (length-le (keep stays (t .waiting)) (t .waiting) (once-keep stays (t .waiting) (fm .waiting .wait-once)) (λ w m. keep-in stays (t .waiting) m .0)) (fit .waiting-fits))) z }
+      look-dropped fit j k pk = λ z. record {
+        granted = granted L (removeServiceAt L t j k .tables) (lawful-dropped L t (removeServiceAt L t j k .tables) j (λ x. eqb x k) (t .unmet) fm (dropping-4 L t fm j k pk) law) z;
+        needed = (nil-length (leftBy L t (t .needs) j (λ x. eqb x k)) ∙ ap isZero (left-one (t .needs) (need-bits fm) j k) ∙ none-pass (λ i. t .needs i j k) (numbers L t)) z;
+        unmetFits = leb ((length-append (t .unmet) (leftBy L t (t .calls) j (λ x. eqb x k)) ∙ ap (λ (x : ℕ). length (t .unmet) + x) (left-one (t .calls) (fm .calls) j k)) z) (L .capacity);
+        waitingFits = T-true (leb (count stays (t .waiting)) (L .capacity)) (le→leb (count stays (t .waiting)) (L .capacity)
+            (le-trans (length-le (keep stays (t .waiting)) (t .waiting) (once-keep stays (t .waiting) (fm .waiting .wait-once)) (λ w m. keep-in stays (t .waiting) m .0)) (fit .waiting-fits))) z;
+      }
         where
           stays : Waiting → Bool
           stays w = not (eqb (w .callee) j && eqb (w .service) k)

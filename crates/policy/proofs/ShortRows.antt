@@ -51,15 +51,15 @@ module _ (L : Layout) where
   every-bit : (f : ℕ → ℕ → ℕ → Bool) → ((i j k : ℕ) → T (f i j k)) → T (everyBit L f)
   every-bit f h =
       in-every (λ i. every (λ j. every (f i j) (upto (L .services))) (upto (L .packages))) (upto (L .packages)) (λ i m.
-        in-every (λ j. every (f i j) (upto (L .services))) (upto (L .packages)) (λ j n. in-every (f i j) (upto (L .services)) (λ k q. h i j k)))
+      in-every (λ j. every (f i j) (upto (L .services))) (upto (L .packages)) (λ j n. in-every (f i j) (upto (L .services)) (λ k q. h i j k)))
 
   bit-every : (f : ℕ → ℕ → ℕ → Bool) → T (everyBit L f) → (i j k : ℕ) → i < L .packages → j < L .packages → k < L .services → T (f i j k)
   bit-every f h i j k hi hj hk =
       every-in (f i j) (upto (L .services))
-        (every-in (λ y. every (f i y) (upto (L .services))) (upto (L .packages))
-          (every-in (λ x. every (λ y. every (f x y) (upto (L .services))) (upto (L .packages))) (upto (L .packages)) h (in-upto (L .packages) i hi))
-          (in-upto (L .packages) j hj))
-        (in-upto (L .services) k hk)
+      (every-in (λ y. every (f i y) (upto (L .services))) (upto (L .packages))
+      (every-in (λ x. every (λ y. every (f x y) (upto (L .services))) (upto (L .packages))) (upto (L .packages)) h (in-upto (L .packages) i hi))
+      (in-upto (L .packages) j hj))
+      (in-upto (L .services) k hk)
 
   -- every bit of c, by caller, callee and service, has its bit of g
   abbrev Granted : (ℕ → ℕ → ℕ → Bool) → (ℕ → ℕ → ℕ → Bool) → Bool
@@ -102,8 +102,8 @@ module _ (L : Layout) (t : Tables) where
     one-more : (i j k : ℕ) → T (t .used i) → T (t .provides j k) → Granted L (put3 i j k true (t .calls)) (t .grants) ≡ t .grants j i k
     one-more i j k ui p = T-eq (Granted L c (t .grants)) (t .grants j i k)
         (λ h. implies-e (c i j k) (t .grants j i k)
-          (bit-every L (λ x y z. implies (c x y z) (t .grants y x z)) h i j k (fo .names .used-lt i ui) (fo .names .used-lt j (fo .names .prov-used j k p)) (fo .names .prov-lt j k p))
-          (put3-new i j k (t .calls)))
+        (bit-every L (λ x y z. implies (c x y z) (t .grants y x z)) h i j k (fo .names .used-lt i ui) (fo .names .used-lt j (fo .names .prov-used j k p)) (fo .names .prov-lt j k p))
+        (put3-new i j k (t .calls)))
         (λ g. every-bit L (λ x y z. implies (c x y z) (t .grants y x z)) (λ x y z. implies-i (c x y z) (t .grants y x z) (λ m. go x y z g (put3-cases i j k (t .calls) x y z m))))
       where
         c : ℕ → ℕ → ℕ → Bool
@@ -117,14 +117,14 @@ module _ (L : Layout) (t : Tables) where
     one-less : (i j k : ℕ) → Granted L (t .calls) (put3 j i k false (t .grants)) ≡ not (t .calls i j k)
     one-less i j k = T-eq (Granted L (t .calls) g) (not (t .calls i j k))
         (λ h. not-i (t .calls i j k) (λ m.
-          let p = fo .calls .of-prov i j k m in
-          put3-less j i k (t .grants) j i k .0
-            (implies-e (t .calls i j k) (g j i k)
-              (bit-every L (λ x y z. implies (t .calls x y z) (g y x z)) h i j k
-                (fo .names .used-lt i (fo .calls .by-used i j k m)) (fo .names .used-lt j (fo .names .prov-used j k p)) (fo .names .prov-lt j k p))
-              m) .1 (refl, refl, refl)))
+        let p = fo .calls .of-prov i j k m in
+        put3-less j i k (t .grants) j i k .0
+        (implies-e (t .calls i j k) (g j i k)
+        (bit-every L (λ x y z. implies (t .calls x y z) (g y x z)) h i j k
+        (fo .names .used-lt i (fo .calls .by-used i j k m)) (fo .names .used-lt j (fo .names .prov-used j k p)) (fo .names .prov-lt j k p))
+        m) .1 (refl, refl, refl)))
         (λ h. every-bit L (λ x y z. implies (t .calls x y z) (g y x z)) (λ x y z. implies-i (t .calls x y z) (g y x z) (λ m.
-          put3-less j i k (t .grants) y x z .1 (law x y z m, λ e. not-e (t .calls i j k) h (rw (sym (e .1), sym (e .0), sym (e .2)) m)))))
+        put3-less j i k (t .grants) y x z .1 (law x y z m, λ e. not-e (t .calls i j k) h (rw (sym (e .1), sym (e .0), sym (e .2)) m)))))
       where
         g : ℕ → ℕ → ℕ → Bool
         g = put3 j i k false (t .grants)
@@ -133,7 +133,7 @@ module _ (L : Layout) (t : Tables) where
     look-add-call : (r : Row) (i : ℕ) → T (t .used i) → (o : Option Place) → ServerIs t r o → look L (addCallAt L t i r o) ≡ shortAddCall L t i o
     look-add-call r i ui none s =
         look-of L (addCallAt L t i r none) true true (leb (suc (length (t .unmet))) (L .capacity)) true still-granted refl
-          (ap (λ (n : ℕ). leb n (L .capacity)) (length-snoc (t .unmet) (callRow i r))) waiting-fits
+        (ap (λ (n : ℕ). leb n (L .capacity)) (length-snoc (t .unmet) (callRow i r))) waiting-fits
     look-add-call r i ui (some p) s =
         look-of L (addCallAt L t i r (some p)) (t .grants (p .callee) i (p .service)) true true true (one-more i (p .callee) (p .service) ui (s .0)) refl unmet-fits waiting-fits
 
@@ -142,16 +142,16 @@ module _ (L : Layout) (t : Tables) where
         look-fine (removeCallAt L t i r none) true still-granted refl (le-trans (length-keep (λ u. not (eqUnmet (callRow i r) u)) (t .unmet)) (fit .unmet-fits)) (fit .waiting-fits)
     look-remove-call r i (some p) =
         look-fine (removeCallAt L t i r (some p)) true
-          (all-granted L (put3 i (p .callee) (p .service) false (t .calls)) (t .grants) (λ x y z m. law x y z (put3-less i (p .callee) (p .service) (t .calls) x y z .0 m .0)))
-          refl (fit .unmet-fits) (fit .waiting-fits)
+        (all-granted L (put3 i (p .callee) (p .service) false (t .calls)) (t .grants) (λ x y z m. law x y z (put3-less i (p .callee) (p .service) (t .calls) x y z .0 m .0)))
+        refl (fit .unmet-fits) (fit .waiting-fits)
 
     pub short-5 : (a : Aid) (r : Row) → ShortFull a (addCall r)
     unfolding draft shortLook
     short-5 a r ans =
         at-number L t (fo .names) a
-          (λ o. look L (orElse o (kept t) (λ i. addCallAt L t i r (serverOf L t r))) ≡ orElse o fine (λ i. shortAddCall L t i (serverOf L t r)))
-          (λ o. 6 when orElse o false (λ i. hasRow r (contractAt L t i .calls)) ∷ []) ans
-          (λ i ui ai six. look-add-call r i ui (serverOf L t r) (server-is L t (fo .names) r))
+        (λ o. look L (orElse o (kept t) (λ i. addCallAt L t i r (serverOf L t r))) ≡ orElse o fine (λ i. shortAddCall L t i (serverOf L t r)))
+        (λ o. 6 when orElse o false (λ i. hasRow r (contractAt L t i .calls)) ∷ []) ans
+        (λ i ui ai six. look-add-call r i ui (serverOf L t r) (server-is L t (fo .names) r))
 
     pub short-6 : (a : Aid) (r : Row) → ShortFull a (removeCall r)
     unfolding draft shortLook
@@ -165,15 +165,15 @@ module _ (L : Layout) (t : Tables) where
     look-add-grant : (j k : ℕ) (b : Aid) (o : Option ℕ) → look L (addGrantAt L t j b k o) ≡ shortAddGrant L t o
     look-add-grant j k b none =
         look-of L (addGrantAt L t j b k none) true true true (leb (suc (length (t .waiting))) (L .capacity)) still-granted refl unmet-fits
-          (ap (λ (n : ℕ). leb n (L .capacity)) (length-snoc (t .waiting) (record { caller = b; callee = j; service = k })))
+        (ap (λ (n : ℕ). leb n (L .capacity)) (length-snoc (t .waiting) (record { caller = b; callee = j; service = k })))
     look-add-grant j k b (some i) =
         look-fine (addGrantAt L t j b k (some i)) true
-          (all-granted L (t .calls) (put3 j i k true (t .grants)) (λ x y z m. put3-keep j i k (t .grants) y x z (law x y z m))) refl (fit .unmet-fits) (fit .waiting-fits)
+        (all-granted L (t .calls) (put3 j i k true (t .grants)) (λ x y z m. put3-keep j i k (t .grants) y x z (law x y z m))) refl (fit .unmet-fits) (fit .waiting-fits)
 
     look-remove-grant : (j k : ℕ) (b : Aid) (o : Option ℕ) → look L (removeGrantAt L t j b k o) ≡ shortRemoveGrant L t j k o
     look-remove-grant j k b none =
         look-fine (removeGrantAt L t j b k none) true still-granted refl (fit .unmet-fits)
-          (le-trans (length-keep (λ w. not (eqWaiting (record { caller = b; callee = j; service = k }) w)) (t .waiting)) (fit .waiting-fits))
+        (le-trans (length-keep (λ w. not (eqWaiting (record { caller = b; callee = j; service = k }) w)) (t .waiting)) (fit .waiting-fits))
     look-remove-grant j k b (some i) = look-of L (removeGrantAt L t j b k (some i)) (not (t .calls i j k)) true true true (one-less i j k) refl unmet-fits waiting-fits
 
     -- the service of a grant that is asked for is provided
@@ -187,11 +187,11 @@ module _ (L : Layout) (t : Tables) where
     unfolding draft shortLook
     short-7 a r ans =
         at-number L t (fo .names) a
-          (λ o. look L (orElse o (kept t) (λ j. orElse (serviceOf L t j (r .tok)) (kept t) (λ k. addGrantAt L t j (r .aid) k (numberOf L t (r .aid)))))
-            ≡ shortAddGrant L t (numberOf L t (r .aid)))
-          (λ o. 6 when (not (orElse o false (λ j. hasTok (r .tok) (contractAt L t j .provides))) || orElse o false (λ j. hasRow r (contractAt L t j .grants))) ∷ []) ans
-          (λ j uj aj six. go j (is-provided j (r .tok) (asked-and-new (hasTok (r .tok) (contractAt L t j .provides)) (hasRow r (contractAt L t j .grants)) six .0))
-            (serviceOf L t j (r .tok)) (service-is L t (fo .names) j (r .tok)))
+        (λ o. look L (orElse o (kept t) (λ j. orElse (serviceOf L t j (r .tok)) (kept t) (λ k. addGrantAt L t j (r .aid) k (numberOf L t (r .aid)))))
+        ≡ shortAddGrant L t (numberOf L t (r .aid)))
+        (λ o. 6 when (not (orElse o false (λ j. hasTok (r .tok) (contractAt L t j .provides))) || orElse o false (λ j. hasRow r (contractAt L t j .grants))) ∷ []) ans
+        (λ j uj aj six. go j (is-provided j (r .tok) (asked-and-new (hasTok (r .tok) (contractAt L t j .provides)) (hasRow r (contractAt L t j .grants)) six .0))
+        (serviceOf L t j (r .tok)) (service-is L t (fo .names) j (r .tok)))
       where
         go : (j : ℕ) → (k : ℕ) × T (t .provides j k) × (t .tok j k ≡ r .tok) → (o : Option ℕ) → ServiceIs t j (r .tok) o
             → look L (orElse o (kept t) (λ k. addGrantAt L t j (r .aid) k (numberOf L t (r .aid)))) ≡ shortAddGrant L t (numberOf L t (r .aid))
@@ -225,9 +225,9 @@ module _ (L : Layout) (t : Tables) where
     unfolding draft shortLook
     short-9 a r ans =
         at-number L t (fo .names) a
-          (λ o. look L (orElse o (kept t) (λ i. addNeedAt L t i r (serverOf L t r))) ≡ shortAddNeed L t (serverOf L t r))
-          (λ o. 6 when (not (orElse o false (λ i. hasRow r (contractAt L t i .calls))) || orElse o false (λ i. hasRow r (contractAt L t i .needs))) ∷ []) ans
-          (λ i ui ai six. look-add-need r i (serverOf L t r))
+        (λ o. look L (orElse o (kept t) (λ i. addNeedAt L t i r (serverOf L t r))) ≡ shortAddNeed L t (serverOf L t r))
+        (λ o. 6 when (not (orElse o false (λ i. hasRow r (contractAt L t i .calls))) || orElse o false (λ i. hasRow r (contractAt L t i .needs))) ∷ []) ans
+        (λ i ui ai six. look-add-need r i (serverOf L t r))
 
     pub short-10 : (a : Aid) (r : Row) → ShortFull a (removeNeed r)
     unfolding draft shortLook

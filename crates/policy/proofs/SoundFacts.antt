@@ -57,9 +57,10 @@ unfolding bit
 no-bit k h = subst (λ (z : ℕ). T (eqb (z % 2) 1)) (zero-div (2 ^ k)) h
 
 row-bit : (L : Layout) (n : ℕ) (bs : List ℕ) (k : ℕ) → T (bitOf L n bs k) → (k < n) × (bs ≡ [] → ⊥)
-row-bit L n bs k h =
-    ( ltb→lt k n (and-l (ltb k n) (bit (readNumber 0 bs) k) h)
-    , λ e. no-bit k (subst (λ (z : List ℕ). T (bit (readNumber 0 z) k)) e (and-r (ltb k n) (bit (readNumber 0 bs) k) h)) )
+row-bit L n bs k h = (
+  ltb→lt k n (and-l (ltb k n) (bit (readNumber 0 bs) k) h),
+  λ e. no-bit k (subst (λ (z : List ℕ). T (bit (readNumber 0 z) k)) e (and-r (ltb k n) (bit (readNumber 0 bs) k) h)),
+)
 
 module _ (L : Layout) (img : List ℕ) where
   table-in : (at : ℕ) (i j k : ℕ) → T (readTable L (drop at img) i j k) → BitIn L i j k
@@ -72,16 +73,19 @@ module _ (L : Layout) (img : List ℕ) where
 
   decode-in : InRange L (decode L img)
   unfolding decode
-  decode-in = record
-      { used-in = λ n h. row-bit L (L .packages) (take (L .width) (drop (usedAt L) img)) n h .0
-      ; aid-in = λ n h. subst (λ (z : ℕ). n < z) (length-map aids readAid ∙ pieces-length aidSize (L .packages) (drop (aidsAt L) img)) (entry-in (map readAid aids) [] n h)
-      ; tok-in = λ j k h.
-          let c = cell-in line (L .services) (λ l. length-map (pieces 2 (L .services) l) readTok ∙ pieces-length 2 (L .services) l) toks noTok j k h in
-          (subst (λ (z : ℕ). j < z) (pieces-length (L .services * 2) (L .packages) (drop (tokensAt L) img)) (c .0), c .1)
-      ; prov-in = λ j k h.
-          let r = row-bit L (L .services) (getD provs j []) k h in
-          (subst (λ (z : ℕ). j < z) (pieces-length (L .width) (L .packages) (drop (providesAt L) img)) (entry-in provs [] j (r .1)), r .0)
-      ; calls-in = table-in (callsAt L); grants-in = table-in (grantsAt L); needs-in = table-in (needsAt L) }
+  decode-in = record {
+    used-in = λ n h. row-bit L (L .packages) (take (L .width) (drop (usedAt L) img)) n h .0;
+    aid-in = λ n h. subst (λ (z : ℕ). n < z) (length-map aids readAid ∙ pieces-length aidSize (L .packages) (drop (aidsAt L) img)) (entry-in (map readAid aids) [] n h);
+    tok-in = λ j k h.
+        let c = cell-in line (L .services) (λ l. length-map (pieces 2 (L .services) l) readTok ∙ pieces-length 2 (L .services) l) toks noTok j k h in
+        (subst (λ (z : ℕ). j < z) (pieces-length (L .services * 2) (L .packages) (drop (tokensAt L) img)) (c .0), c .1);
+    prov-in = λ j k h.
+        let r = row-bit L (L .services) (getD provs j []) k h in
+        (subst (λ (z : ℕ). j < z) (pieces-length (L .width) (L .packages) (drop (providesAt L) img)) (entry-in provs [] j (r .1)), r .0);
+    calls-in = table-in (callsAt L);
+    grants-in = table-in (grantsAt L);
+    needs-in = table-in (needsAt L);
+  }
     where
       aids : List (List ℕ)
       aids = pieces aidSize (L .packages) (drop (aidsAt L) img)
@@ -123,7 +127,7 @@ nine-to a b c d e f g h i ok =
 nine-back : (a b c d e f g h i : Bool) → T a → T b → T c → T d → T e → T f → T g → T h → T i → T (nine a b c d e f g h i)
 nine-back a b c d e f g h i r s t u v w x y z =
     and-i ((a && b) && (c && d) && (e && f)) (g && (h && i))
-      (and-i ((a && b) && (c && d)) (e && f) (four-back a b c d r s t u) (and-i e f v w)) (and-i g (h && i) x (and-i h i y z))
+    (and-i ((a && b) && (c && d)) (e && f) (four-back a b c d r s t u) (and-i e f v w)) (and-i g (h && i) x (and-i h i y z))
 
 -- b at a place where a fails: the test of the place is at hand unless b holds there anyway
 blank-to : (a b : Bool) → ((T b → ⊥) → T (a || b)) → (T a → ⊥) → T b
@@ -185,8 +189,10 @@ module _ {A : Type 0} (eq : A → A → Bool) (eq→ : (x y : A) → T (eq x y) 
 module _ (L : Layout) (a b : ℕ → ℕ → ℕ → Bool) where
   abbrev bitOk : ℕ → ℕ → ℕ → Bool
   bitOk i j k = implies (a i j k) (b i j k)
+
   abbrev entryOk : ℕ → ℕ → Bool
   entryOk i j = every (bitOk i j) (upto (L .services))
+
   abbrev lineOk : ℕ → Bool
   lineOk i = every (entryOk i) (upto (L .packages))
 
@@ -202,18 +208,25 @@ module _ (L : Layout) (a b : ℕ → ℕ → ℕ → Bool) where
 module _ (L : Layout) (t : Tables) where
   abbrev aidsValid : Bool
   aidsValid = every (λ n. validAid (t .aid n)) (usedNumbers L t)
+
   abbrev aidsDiffer : Bool
   aidsDiffer = distinct eqAid (map (t .aid) (usedNumbers L t))
+
   abbrev toksDiffer : ℕ → Bool
   toksDiffer j = distinct eqTok (map (t .tok j) (keep (t .provides j) (places L t)))
+
   abbrev aidBlank : ℕ → Bool
   aidBlank n = t .used n || isNil (t .aid n)
+
   abbrev tokBlank : ℕ → ℕ → Bool
   tokBlank j k = t .provides j k || eqTok (t .tok j k) noTok
+
   abbrev provUsed : ℕ → ℕ → Bool
   provUsed j k = implies (t .provides j k) (t .used j)
+
   abbrev everyNumber : (ℕ → Bool) → Bool
   everyNumber f = every f (numbers L t)
+
   abbrev everyPlace : (ℕ → ℕ → Bool) → Bool
   everyPlace f = every (λ j. every (f j) (places L t)) (numbers L t)
 
@@ -229,18 +242,19 @@ module _ (L : Layout) (t : Tables) where
       let aids = both aidsValid aidsDiffer a in
       let blanks = both (everyNumber aidBlank && everyPlace tokBlank) (everyPlace provUsed) b in
       let zeros = both (everyNumber aidBlank) (everyPlace tokBlank) (blanks .0) in
-      record
-        { used-lt = r .used-in
-        ; prov-lt = λ j k h. r .prov-in j k h .1
-        ; prov-used = λ j k h. let c = r .prov-in j k h in implies-e (t .provides j k) (t .used j) (place-to provUsed (blanks .1) j k (c .0) (c .1)) h
-        ; aid-valid = λ n u. every-in (λ n. validAid (t .aid n)) (usedNumbers L t) (aids .0) (in-keep (t .used) (in-upto (L .packages) n (r .used-in n u)) u)
-        ; aid-blank = λ n u. isNil→ (t .aid n) (blank-to (t .used n) (isNil (t .aid n))
-            (λ f. below-to aidBlank (L .packages) (zeros .0) n (r .aid-in n (λ e. f (nil-is e)))) u)
-        ; tok-blank = λ j k p. eqTok→ (t .tok j k) noTok (blank-to (t .provides j k) (eqTok (t .tok j k) noTok)
-            (λ f. let c = r .tok-in j k (λ e. f (eqTok-of e)) in place-to tokBlank (zeros .1) j k (c .0) (c .1)) p)
-        ; aid-inj = differ-to eqAid eqAid→ eqAid-refl (t .aid) (t .used) (L .packages) (aids .1) (r .used-in)
-        ; tok-inj = λ j k l p. differ-to eqTok eqTok→ eqTok-refl (t .tok j) (t .provides j) (L .services)
-            (below-to toksDiffer (L .packages) s j (r .prov-in j k p .0)) (λ k q. r .prov-in j k q .1) k l p }
+      record {
+        used-lt = r .used-in;
+        prov-lt = λ j k h. r .prov-in j k h .1;
+        prov-used = λ j k h. let c = r .prov-in j k h in implies-e (t .provides j k) (t .used j) (place-to provUsed (blanks .1) j k (c .0) (c .1)) h;
+        aid-valid = λ n u. every-in (λ n. validAid (t .aid n)) (usedNumbers L t) (aids .0) (in-keep (t .used) (in-upto (L .packages) n (r .used-in n u)) u);
+        aid-blank = λ n u. isNil→ (t .aid n) (blank-to (t .used n) (isNil (t .aid n))
+            (λ f. below-to aidBlank (L .packages) (zeros .0) n (r .aid-in n (λ e. f (nil-is e)))) u);
+        tok-blank = λ j k p. eqTok→ (t .tok j k) noTok (blank-to (t .provides j k) (eqTok (t .tok j k) noTok)
+            (λ f. let c = r .tok-in j k (λ e. f (eqTok-of e)) in place-to tokBlank (zeros .1) j k (c .0) (c .1)) p);
+        aid-inj = differ-to eqAid eqAid→ eqAid-refl (t .aid) (t .used) (L .packages) (aids .1) (r .used-in);
+        tok-inj = λ j k l p. differ-to eqTok eqTok→ eqTok-refl (t .tok j) (t .provides j) (L .services)
+            (below-to toksDiffer (L .packages) s j (r .prov-in j k p .0)) (λ k q. r .prov-in j k q .1) k l p;
+      }
 
   module _ (n : Names L (t .used) (t .aid) (t .tok) (t .provides)) where
     aids-back : T (aidsOk L t)
@@ -257,27 +271,31 @@ module _ (L : Layout) (t : Tables) where
     unfolding blanksOk
     blanks-back = and-i (everyNumber aidBlank && everyPlace tokBlank) (everyPlace provUsed)
         (and-i (everyNumber aidBlank) (everyPlace tokBlank)
-          (below-back aidBlank (L .packages) (λ x. blank-back (t .used x) (isNil (t .aid x)) (λ u. nil-is (n .aid-blank x u))))
-          (place-back tokBlank (λ j k. blank-back (t .provides j k) (eqTok (t .tok j k) noTok) (λ p. eqTok-of (n .tok-blank j k p)))))
+        (below-back aidBlank (L .packages) (λ x. blank-back (t .used x) (isNil (t .aid x)) (λ u. nil-is (n .aid-blank x u))))
+        (place-back tokBlank (λ j k. blank-back (t .provides j k) (eqTok (t .tok j k) noTok) (λ p. eqTok-of (n .tok-blank j k p)))))
         (place-back provUsed (λ j k. implies-i (t .provides j k) (t .used j) (n .prov-used j k)))
 
   -- call and grant bits by caller, callee and service; and any bits
   abbrev callOrGrant : ℕ → ℕ → ℕ → Bool
   callOrGrant i j k = t .calls i j k || t .grants j i k
+
   abbrev someBit : ℕ → ℕ → ℕ → Bool
   someBit i j k = callOrGrant i j k || t .needs i j k
+
   abbrev apart : ℕ → ℕ → ℕ → Bool
   apart i j k = t .used i && t .used j && not (eqb i j)
+
   abbrev provided : ℕ → ℕ → ℕ → Bool
   provided i j k = t .provides j k
 
   bits-formed : T (entriesOk L t) → T (bitsProvided L t) → (b : ℕ → ℕ → ℕ → Bool) → ((i j k : ℕ) → T (b i j k) → BitIn L i j k) → ((i j k : ℕ) → T (b i j k) → T (callOrGrant i j k))
       → Bits (t .used) (t .provides) b
   unfolding entriesOk bitsProvided
-  bits-formed e p b range one = record
-      { by-used = λ i j k h. and-l (t .used i) (t .used j) (and-l (t .used i && t .used j) (not (eqb i j)) (entry i j k h))
-      ; of-prov = λ i j k h. bits-to L callOrGrant provided p i j k (range i j k h) (one i j k h)
-      ; other = λ i j k h q. not-e (eqb i j) (and-r (t .used i && t .used j) (not (eqb i j)) (entry i j k h)) (eqb-of q) }
+  bits-formed e p b range one = record {
+    by-used = λ i j k h. and-l (t .used i) (t .used j) (and-l (t .used i && t .used j) (not (eqb i j)) (entry i j k h));
+    of-prov = λ i j k h. bits-to L callOrGrant provided p i j k (range i j k h) (one i j k h);
+    other = λ i j k h q. not-e (eqb i j) (and-r (t .used i && t .used j) (not (eqb i j)) (entry i j k h)) (eqb-of q);
+  }
     where
       entry : (i j k : ℕ) → T (b i j k) → T (apart i j k)
       entry i j k h = bits-to L someBit apart e i j k (range i j k h) (or-l (callOrGrant i j k) (t .needs i j k) (one i j k h))
@@ -332,6 +350,7 @@ module _ (L : Layout) (t : Tables) where
 
   abbrev fits : Bool
   fits = leb (length (t .unmet)) (L .capacity) && leb (length (t .waiting)) (L .capacity)
+
   abbrev rowsDiffer : Bool
   rowsDiffer = distinct eqUnmet (t .unmet) && distinct eqWaiting (t .waiting)
 
@@ -340,38 +359,45 @@ module _ (L : Layout) (t : Tables) where
   lists-to h =
       let c = both fits rowsDiffer h in
       let l = both (leb (length (t .unmet)) (L .capacity)) (leb (length (t .waiting)) (L .capacity)) (c .0) in
-      let d = both (distinct eqUnmet (t .unmet)) (distinct eqWaiting (t .waiting)) (c .1) in
-      ( record { unmet-fits = leb→le (length (t .unmet)) (L .capacity) (l .0); waiting-fits = leb→le (length (t .waiting)) (L .capacity) (l .1) }
-      , distinct→once eqUnmet eqUnmet→ eqUnmet-refl (t .unmet) (d .0), distinct→once eqWaiting eqWaiting→ eqWaiting-refl (t .waiting) (d .1) )
+      let d = both (distinct eqUnmet (t .unmet)) (distinct eqWaiting (t .waiting)) (c .1) in (
+        record { unmet-fits = leb→le (length (t .unmet)) (L .capacity) (l .0); waiting-fits = leb→le (length (t .waiting)) (L .capacity) (l .1) },
+        distinct→once eqUnmet eqUnmet→ eqUnmet-refl (t .unmet) (d .0),
+        distinct→once eqWaiting eqWaiting→ eqWaiting-refl (t .waiting) (d .1),
+      )
 
   lists-back : Fitting L t → NoRepeat (t .unmet) → NoRepeat (t .waiting) → T (listsOk L t)
   unfolding listsOk
   lists-back f u w = and-i fits rowsDiffer
       (and-i (leb (length (t .unmet)) (L .capacity)) (leb (length (t .waiting)) (L .capacity))
-        (le→leb (length (t .unmet)) (L .capacity) (f .unmet-fits)) (le→leb (length (t .waiting)) (L .capacity) (f .waiting-fits)))
+      (le→leb (length (t .unmet)) (L .capacity) (f .unmet-fits)) (le→leb (length (t .waiting)) (L .capacity) (f .waiting-fits)))
       (and-i (distinct eqUnmet (t .unmet)) (distinct eqWaiting (t .waiting))
-        (once→distinct eqUnmet eqUnmet→ eqUnmet-refl (t .unmet) u) (once→distinct eqWaiting eqWaiting→ eqWaiting-refl (t .waiting) w))
+      (once→distinct eqUnmet eqUnmet→ eqUnmet-refl (t .unmet) u) (once→distinct eqWaiting eqWaiting→ eqWaiting-refl (t .waiting) w))
 
   -- a row of either list: a valid AID and a test of it, and two tests of the rest
   abbrev other : Unmet → Bool
   other u = not (eqAid (u .callee) (t .aid (u .caller)))
+
   abbrev unserved : Unmet → Bool
   unserved u = not (isSome (serverOf L t (wanted u)))
+
   abbrev absent : Waiting → Bool
   absent w = not (isSome (numberOf L t (w .caller)))
+
   abbrev granting : Waiting → Bool
   granting w = t .provides (w .callee) (w .service)
 
   module _ (names : Names L (t .used) (t .aid) (t .tok) (t .provides)) where
     unmet-to : T (rowsOk L t) → NoRepeat (t .unmet) → UnmetRows (t .used) (t .aid) (t .tok) (t .provides) (t .unmet)
     unfolding rowsOk
-    unmet-to h once = record
-        { off = record
-            { off-used = λ u m. row u m .2
-            ; off-card = λ u m. none-to (ServerIs t (wanted u)) (serverOf L t (wanted u)) (server-is L t names (wanted u)) (row u m .3) }
-        ; unmet-valid = λ u m. row u m .0
-        ; unmet-other = λ u m e. not-e (eqAid (u .callee) (t .aid (u .caller))) (row u m .1) (eqAid-of e)
-        ; unmet-once = once }
+    unmet-to h once = record {
+      off = record {
+        off-used = λ u m. row u m .2;
+        off-card = λ u m. none-to (ServerIs t (wanted u)) (serverOf L t (wanted u)) (server-is L t names (wanted u)) (row u m .3);
+      };
+      unmet-valid = λ u m. row u m .0;
+      unmet-other = λ u m e. not-e (eqAid (u .callee) (t .aid (u .caller))) (row u m .1) (eqAid-of e);
+      unmet-once = once;
+    }
       where
         row : (u : Unmet) → In u (t .unmet) → T (validAid (u .callee)) × T (other u) × T (t .used (u .caller)) × T (unserved u)
         row u m = four (validAid (u .callee)) (other u) (t .used (u .caller)) (unserved u)
@@ -379,11 +405,12 @@ module _ (L : Layout) (t : Tables) where
 
     waiting-to : T (rowsOk L t) → NoRepeat (t .waiting) → WaitingRows (t .used) (t .aid) (t .provides) (t .waiting)
     unfolding rowsOk
-    waiting-to h once = record
-        { wait-valid = λ w m. row w m .0
-        ; wait-off = λ w m. none-to (NumberIs t (w .caller)) (numberOf L t (w .caller)) (number-is L t names (w .caller)) (row w m .1)
-        ; wait-prov = λ w m. row w m .3
-        ; wait-once = once }
+    waiting-to h once = record {
+      wait-valid = λ w m. row w m .0;
+      wait-off = λ w m. none-to (NumberIs t (w .caller)) (numberOf L t (w .caller)) (number-is L t names (w .caller)) (row w m .1);
+      wait-prov = λ w m. row w m .3;
+      wait-once = once;
+    }
       where
         row : (w : Waiting) → In w (t .waiting) → T (validAid (w .caller)) × T (absent w) × T (t .used (w .callee)) × T (granting w)
         row w m = four (validAid (w .caller)) (absent w) (t .used (w .callee)) (granting w)
@@ -393,12 +420,12 @@ module _ (L : Layout) (t : Tables) where
     unfolding rowsOk
     rows-back r s = and-i (every (unmetOk L t) (t .unmet)) (every (waitingOk L t) (t .waiting))
         (in-every (unmetOk L t) (t .unmet) (λ u m. four-back (validAid (u .callee)) (other u) (t .used (u .caller)) (unserved u)
-          (r .unmet-valid u m) (not-i (eqAid (u .callee) (t .aid (u .caller))) (λ e. r .unmet-other u m (eqAid→ (u .callee) (t .aid (u .caller)) e))) (r .off .off-used u m)
-          (none-back (ServerIs t (wanted u)) (λ p h. r .off .off-card u m (p .callee) (p .service) (h .0) (h .1) (h .2)) (serverOf L t (wanted u)) (server-is L t names (wanted u)))))
+        (r .unmet-valid u m) (not-i (eqAid (u .callee) (t .aid (u .caller))) (λ e. r .unmet-other u m (eqAid→ (u .callee) (t .aid (u .caller)) e))) (r .off .off-used u m)
+        (none-back (ServerIs t (wanted u)) (λ p h. r .off .off-card u m (p .callee) (p .service) (h .0) (h .1) (h .2)) (serverOf L t (wanted u)) (server-is L t names (wanted u)))))
         (in-every (waitingOk L t) (t .waiting) (λ w m. four-back (validAid (w .caller)) (absent w) (t .used (w .callee)) (granting w)
-          (s .wait-valid w m)
-          (none-back (NumberIs t (w .caller)) (λ n h. s .wait-off w m n (h .0) (h .1)) (numberOf L t (w .caller)) (number-is L t names (w .caller)))
-          (names .prov-used (w .callee) (w .service) (s .wait-prov w m)) (s .wait-prov w m)))
+        (s .wait-valid w m)
+        (none-back (NumberIs t (w .caller)) (λ n h. s .wait-off w m n (h .0) (h .1)) (numberOf L t (w .caller)) (number-is L t names (w .caller)))
+        (names .prov-used (w .callee) (w .service) (s .wait-prov w m)) (s .wait-prov w m)))
 
   -- ---- all items together
   module _ (r : InRange L t) (ok : T (soundTables L t)) where
@@ -410,13 +437,14 @@ module _ (L : Layout) (t : Tables) where
     tables-formed =
         let names = names-to r (items .0) (items .1) (items .2) in
         let lists = lists-to (items .7) in
-        record
-          { names = names
-          ; calls = bits-formed (items .3) (items .4) (t .calls) (r .calls-in) (λ i j k h. or-l (t .calls i j k) (t .grants j i k) h)
-          ; grants = bits-formed (items .3) (items .4) (grantBit t) (λ i j k h. let c = r .grants-in j i k h in (c .1, c .0, c .2)) (λ i j k h. or-r (t .calls i j k) (t .grants j i k) h)
-          ; need-call = needs-to r (items .5)
-          ; unmet = unmet-to names (items .8) (lists .1)
-          ; waiting = waiting-to names (items .8) (lists .2) }
+        record {
+          names = names;
+          calls = bits-formed (items .3) (items .4) (t .calls) (r .calls-in) (λ i j k h. or-l (t .calls i j k) (t .grants j i k) h);
+          grants = bits-formed (items .3) (items .4) (grantBit t) (λ i j k h. let c = r .grants-in j i k h in (c .1, c .0, c .2)) (λ i j k h. or-r (t .calls i j k) (t .grants j i k) h);
+          need-call = needs-to r (items .5);
+          unmet = unmet-to names (items .8) (lists .1);
+          waiting = waiting-to names (items .8) (lists .2);
+        }
 
     tables-lawful : Lawful t
     tables-lawful = granted-to r (items .6)
@@ -428,15 +456,17 @@ module _ (L : Layout) (t : Tables) where
   unfolding soundTables
   sound-tables f l w =
       nine-back (aidsOk L t) (tokensOk L t) (blanksOk L t) (entriesOk L t) (bitsProvided L t) (needsCalled L t) (bitsGranted L t) (listsOk L t) (rowsOk L t)
-        (aids-back (f .names)) (tokens-back (f .names)) (blanks-back (f .names)) (entries-back f) (provided-back f) (needs-back f) (granted-back l)
-        (lists-back w (f .unmet .unmet-once) (f .waiting .wait-once)) (rows-back (f .names) (f .unmet) (f .waiting))
+      (aids-back (f .names)) (tokens-back (f .names)) (blanks-back (f .names)) (entries-back f) (provided-back f) (needs-back f) (granted-back l)
+      (lists-back w (f .unmet .unmet-once) (f .waiting .wait-once)) (rows-back (f .names) (f .unmet) (f .waiting))
 
 -- ---- the whole image
 module _ (L : Layout) where
   abbrev sized : List ℕ → Bool
   sized img = eqb (length img) (size L)
+
   abbrev headed : List ℕ → Bool
   headed img = eqBytes (take 3 img) (L .header)
+
   abbrev written : List ℕ → Tables → Bool
   written img t = eqBytes (encode L t) img
 
@@ -459,4 +489,4 @@ module _ (L : Layout) where
   sound-image t s h d f l w =
       let img = encode L t in
       subst (λ (x : Tables). T ((sized img && headed img) && (written img x && soundTables L x))) (sym d)
-        (four-back (sized img) (headed img) (written img t) (soundTables L t) (eqb-of s) (eqAid-of h) (eqBytes-refl img) (sound-tables L t f l w))
+      (four-back (sized img) (headed img) (written img t) (soundTables L t) (eqb-of s) (eqAid-of h) (eqBytes-refl img) (sound-tables L t f l w))

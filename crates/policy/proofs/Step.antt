@@ -34,19 +34,24 @@ use Rattle.policy.proofs.Answers.{answer-zero, answer-append, ascends, 
 
 -- ---- images and tables
 pub stands-of : (L : Layout) (img : List ℕ) (cs : List Contract) → StandsFor L img cs → Stands (decode L img) [] cs
-stands-of L img cs f = record
-    { these = λ c m. let p = f .these c m in (p .0, p .1, has-contract L (decode L img) (sound-formed L img (f .is-sound)) (p .0) c (p .2))
-    ; no-others = f .no-others; one-each = f .one-each; four-sets = f .four-sets }
+stands-of L img cs f = record {
+  these = λ c m. let p = f .these c m in (p .0, p .1, has-contract L (decode L img) (sound-formed L img (f .is-sound)) (p .0) c (p .2));
+  no-others = f .no-others;
+  one-each = f .one-each;
+  four-sets = f .four-sets;
+}
 
 pub image-stands : (L : Layout) → LayoutOk L → (t : Tables) (cs : List Contract) → Formed L t → Lawful t → Fitting L t → Stands t [] cs → StandsFor L (encode L t) cs
 image-stands L lo t cs g w fit st =
     let e = round-trip L lo t g fit in
-    record
-      { is-sound = sound-image L t (length-encode L lo t g fit) (header-encode L lo t) e g w fit
-      ; these = λ c m. let p = st .these c m in
-          (p .0, subst (λ (z : Tables). T (z .used (p .0))) (sym e) (p .1), subst (λ (z : Tables). SameContract c (contractAt L z (p .0))) (sym e) (same-contract L t g (p .0) c (p .2)))
-      ; no-others = λ n u. let p = st .no-others n (subst (λ (z : Tables). T (z .used n)) e u) in (p .0, p .1, p .2 ∙ ap (λ (z : Tables). z .aid n) (sym e))
-      ; one-each = st .one-each; four-sets = st .four-sets }
+    record {
+      is-sound = sound-image L t (length-encode L lo t g fit) (header-encode L lo t) e g w fit;
+      these = λ c m. let p = st .these c m in
+          (p .0, subst (λ (z : Tables). T (z .used (p .0))) (sym e) (p .1), subst (λ (z : Tables). SameContract c (contractAt L z (p .0))) (sym e) (same-contract L t g (p .0) c (p .2)));
+      no-others = λ n u. let p = st .no-others n (subst (λ (z : Tables). T (z .used n)) e u) in (p .0, p .1, p .2 ∙ ap (λ (z : Tables). z .aid n) (sym e));
+      one-each = st .one-each;
+      four-sets = st .four-sets;
+    }
 
 -- ---- an accepted draft
 granted-lawful : (L : Layout) (d : Draft) → Formed L (d .tables) → T (look L d .granted) → Lawful (d .tables)
@@ -55,11 +60,11 @@ granted-lawful L d g h i j k b =
     let t = d .tables in
     let pj = g .calls .of-prov i j k b in
     let row = every-in (λ i. every (λ j. every (λ k. implies (t .calls i j k) (t .grants j i k)) (upto (L .services))) (upto (L .packages))) (upto (L .packages)) h
-          (in-upto (L .packages) i (g .names .used-lt i (g .calls .by-used i j k b))) in
+    (in-upto (L .packages) i (g .names .used-lt i (g .calls .by-used i j k b))) in
     let col = every-in (λ j. every (λ k. implies (t .calls i j k) (t .grants j i k)) (upto (L .services))) (upto (L .packages)) row
-          (in-upto (L .packages) j (g .names .used-lt j (g .names .prov-used j k pj))) in
+    (in-upto (L .packages) j (g .names .used-lt j (g .names .prov-used j k pj))) in
     implies-e (t .calls i j k) (t .grants j i k)
-      (every-in (λ k. implies (t .calls i j k) (t .grants j i k)) (upto (L .services)) col (in-upto (L .services) k (g .names .prov-lt j k pj))) b
+    (every-in (λ k. implies (t .calls i j k) (t .grants j i k)) (upto (L .services)) col (in-upto (L .services) k (g .names .prov-lt j k pj))) b
 
 no-lost : (l : List Unmet) → T (isNil l) → l ≡ []
 no-lost [] t = refl
@@ -69,12 +74,14 @@ no-lost (u ∷ l) t = absurd t
 pub accepted : (L : Layout) (d : Draft) → Formed L (d .tables) → answer (lookCauses L (look L d)) ≡ 0 → Lawful (d .tables) × Fitting L (d .tables) × (d .lost ≡ [])
 unfolding look
 accepted L d g e =
-    let p = none-of-four (look L d .granted) (look L d .needed) (look L d .unmetFits) (look L d .waitingFits) e in
-    ( granted-lawful L d g (p .0)
-    , record
-        { unmet-fits = leb→le (length (d .tables .unmet)) (L .capacity) (p .2)
-        ; waiting-fits = leb→le (length (d .tables .waiting)) (L .capacity) (p .3) }
-    , no-lost (d .lost) (p .1) )
+    let p = none-of-four (look L d .granted) (look L d .needed) (look L d .unmetFits) (look L d .waitingFits) e in (
+      granted-lawful L d g (p .0),
+      record {
+        unmet-fits = leb→le (length (d .tables .unmet)) (L .capacity) (p .2);
+        waiting-fits = leb→le (length (d .tables .waiting)) (L .capacity) (p .3);
+      },
+      no-lost (d .lost) (p .1),
+    )
 
 -- ---- the two lists of causes
 module _ (L : Layout) (t : Tables) (a : Aid) where
@@ -94,10 +101,13 @@ module _ (L : Layout) (lo : LayoutOk L) (t : Tables) (cs : List Contract) (g : F
     (q : Request) (va : T (validAid (q .aid))) (vc : Valid L (q .change)) where
   abbrev a : Aid
   a = q .aid
+
   abbrev c : Change
   c = q .change
+
   abbrev d : Draft
   d = draft L t a c
+
   abbrev ds : List Contract
   ds = effect cs a c
 
@@ -143,7 +153,7 @@ module _ (L : Layout) (lo : LayoutOk L) (img s : List ℕ) (cs : List Contract) 
       let d = draft L (decode L img) (q .aid) (q .change) in
       let same = answers-agree L lo (decode L img) cs g st q (v .0) (v .1) in
       subst (λ (n : ℕ). Steps (judged L img (numberFor L (decode L img) (q .aid)) (d .tables) (answer (judgeCauses L (decode L img) q))) (held L cs (effect cs (q .aid) (q .change)) n)) same
-        (settle (numberFor L (decode L img) (q .aid)) (d .tables) (effect cs (q .aid) (q .change)) (answer (judgeCauses L (decode L img) q)) (accepted-stands L lo (decode L img) cs g st q (v .0) (v .1)))
+      (settle (numberFor L (decode L img) (q .aid)) (d .tables) (effect cs (q .aid) (q .change)) (answer (judgeCauses L (decode L img) q)) (accepted-stands L lo (decode L img) cs g st q (v .0) (v .1)))
 
   pub step : (judge L img s .answered ≡ machine L cs s .answered) × StandsFor L (judge L img s .bytes) (machine L cs s .contracts)
   unfolding judge machine

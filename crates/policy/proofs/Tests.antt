@@ -88,7 +88,6 @@ under-none cs a f h = T-false (under cs a f) (λ u.
 -- ---- as many contracts as used numbers, and as many services as places taken
 module _ (L : Layout) (t : Tables) (lost : List Unmet) (cs : List Contract)
     (names : Names L (t .used) (t .aid) (t .tok) (t .provides)) (st : Stands t lost cs) where
-
   count : length cs ≡ length (usedNumbers L t)
   count = sym (length-map cs (λ c. c .aid)) ∙ same-length (map (λ c. c .aid) cs) (map (t .aid) (usedNumbers L t)) (st .one-each) once to of ∙ length-map (usedNumbers L t) (t .aid)
     where
@@ -113,7 +112,7 @@ module _ (L : Layout) (t : Tables) (lost : List Unmet) (cs : List Contract)
   service-count : (n : ℕ) (c : Contract) → In c cs → HasContract t lost n c → length (c .provides) ≡ length (keep (t .provides n) (places L t))
   service-count n c m h =
       same-length (c .provides) (provided L t n) (st .four-sets c m .provides) (once-provided L t names n)
-        (λ s p. provided-in L t names n s .1 (h .provides s .0 p)) (λ s p. h .provides s .1 (provided-in L t names n s .0 p))
+      (λ s p. provided-in L t names n s .1 (h .provides s .0 p)) (λ s p. h .provides s .1 (provided-in L t names n s .0 p))
       ∙ length-map (keep (t .provides n) (places L t)) (t .tok n)
 
   pub packages-fit : length cs ≤ L .packages

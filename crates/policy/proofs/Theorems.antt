@@ -13,7 +13,7 @@ use lib.ListN.{length, drop, length-append}
 use lib.Seq.{drop-append-seam}
 use Rattle.policy.specs.Lists.{every, exists, keep, orElse, isSome}
 use Rattle.policy.specs.Contract.{Aid, eqAid, Tok, Contract, under, lawful, callsGranted, needsMet, unmetCalls, waitingGrants}
-use Rattle.policy.specs.Layout.{Layout, LayoutOk, small, size}
+use Rattle.policy.specs.Layout.{Layout, LayoutOk, small, aidsAt, tokensAt, providesAt, callsAt, grantsAt, needsAt, unmetAt, waitingAt, size}
 use Rattle.policy.specs.Record.{Request, Change, load, remove, addService, removeService, addCall, removeCall, addGrant, removeGrant, addNeed, removeNeed, parse, proper}
 use Rattle.policy.specs.Causes.{Cause, _when_, answer}
 use Rattle.policy.specs.Machine.{Held, held, effect, alter, altered, causes4to7, causes8to11, causes3to11, machine}
@@ -21,13 +21,14 @@ use Rattle.policy.specs.Tables.{Tables, decode, encode, emptyImage}
 use Rattle.policy.specs.Lookup.{usedNumbers, numbers, contractAt}
 use Rattle.policy.specs.Sound.{sound}
 use Rattle.policy.specs.Draft.{Draft, look, draft}
+use Rattle.policy.specs.ShortCheck.{shortLook}
 use Rattle.policy.specs.Judge.{Out, refusal, tableCauses, lookCauses, judgeCauses, judged, judgeTables, judge, check, writeEmpty, loadRecord, wrote, readOutTables, readOut}
 use Rattle.policy.specs.History.{SameContract, StandsFor, answers, imageAfter, machineAnswers, contractsAfter}
 use Rattle.policy.specs.Marked.{Case, cases}
-use Rattle.policy.specs.Claims.{MarkedCases, Agreement, HistoryOf, History, FitsLimits, AcceptedExactly, allCauses, IsFirst, FirstCause, SoundStands, ReadsOut, ReadOutAgain, RefusesWith, AnswersAlways}
+use Rattle.policy.specs.Claims.{MarkedCases, Agreement, HistoryOf, History, FitsLimits, AcceptedExactly, allCauses, IsFirst, FirstCause, SoundStands, ShortIsFull, ReadsOut, ReadOutAgain, RefusesWith, AnswersAlways}
 use Rattle.policy.proofs.Sets.{T-true, T-false, true-T, false-T, and-l, and-r, and-i, not-i, not-e, test, every-in, in-from, exists-in, in-map, keep-in}
 use Rattle.policy.proofs.Equal.{eqAid→}
-use Rattle.policy.proofs.Formed.{Formed, Lawful, Fitting, Stands}
+use Rattle.policy.proofs.Formed.{Formed, Lawful, Fitting, Valid}
 use Rattle.policy.proofs.Answers.{ascends, ascends-lt, ascends-front, answer-append-zero, first-is, none-of-four, four-none}
 use Rattle.policy.proofs.SoundFacts.{sound-formed, sound-lawful, sound-fitting}
 use Rattle.policy.proofs.RoundTrip.{emptyTables, empty-formed, empty-fitting, empty-encode}
@@ -35,6 +36,10 @@ use Rattle.policy.proofs.ContractAt.{same-contract, stands-self}
 use Rattle.policy.proofs.Tests.{packages-fit, services-fit}
 use Rattle.policy.proofs.LawfulCard.{calls-granted, needs-present}
 use Rattle.policy.proofs.ReadOut.{length-keep, length-from, read-out-parses, read-out-proper}
+use Rattle.policy.proofs.ParseFacts.{parse-valid}
+use Rattle.policy.proofs.ShortLoad.{short-1, short-3}
+use Rattle.policy.proofs.ShortRemove.{short-2, short-4}
+use Rattle.policy.proofs.ShortRows.{short-5, short-6, short-7, short-8, short-9, short-10}
 use Rattle.policy.proofs.Step.{stands-of, image-stands, step}
 
 -- ---- 2. one record
@@ -46,7 +51,7 @@ agreement L lo img s cs f = step L lo img s cs f
 pub empty-stands : (L : Layout) → LayoutOk L → StandsFor L (emptyImage L) []
 empty-stands L lo = subst (λ (z : List ℕ). StandsFor L z []) (empty-encode L lo)
     (image-stands L lo emptyTables [] (empty-formed L) (λ i j k b. absurd b) (empty-fitting L)
-      (record { these = λ c m. absurd (in-nil m); no-others = λ n u. absurd u; one-each = tt; four-sets = λ c m. absurd (in-nil m) }))
+    (record { these = λ c m. absurd (in-nil m); no-others = λ n u. absurd u; one-each = tt; four-sets = λ c m. absurd (in-nil m) }))
 
 module _ (L : Layout) (lo : LayoutOk L) where
   equal-answers : (ss : List (List ℕ)) (img : List ℕ) (cs : List Contract) → StandsFor L img cs → answers L img ss ≡ machineAnswers L cs ss
@@ -70,11 +75,12 @@ module _ (L : Layout) (lo : LayoutOk L) where
   pub history : History L
   history ss =
       let f = stands-after ss (emptyImage L) [] (empty-stands L lo) in
-      record
-        { equal-answers = equal-answers ss (emptyImage L) [] (empty-stands L lo)
-        ; stands-for = f
-        ; calls-granted = standing-granted (imageAfter L (emptyImage L) ss) (contractsAfter L [] ss) f
-        ; needs-present = standing-present (imageAfter L (emptyImage L) ss) (contractsAfter L [] ss) f }
+      record {
+        equal-answers = equal-answers ss (emptyImage L) [] (empty-stands L lo);
+        stands-for = f;
+        calls-granted = standing-granted (imageAfter L (emptyImage L) ss) (contractsAfter L [] ss) f;
+        needs-present = standing-present (imageAfter L (emptyImage L) ss) (contractsAfter L [] ss) f;
+      }
 
 -- ---- 4. demand 2
 module _ (L : Layout) (lo : LayoutOk L) where
@@ -121,18 +127,22 @@ module _ (L : Layout) (lo : LayoutOk L) where
       go cs f none e = subst (λ (n : ℕ). IsFirst n (2 when true ∷ [])) (sym (step L lo img s cs f .0 ∙ ap (λ (h : Held L). h .answered) (machine-malformed cs s e))) (first-is 1 (2 when true ∷ []) tt)
       go cs f (some q) e =
           subst (λ (n : ℕ). IsFirst n (2 when false ∷ causes3to11 L cs q)) (sym (read-answer img s cs q f e))
-            (first-is 1 (2 when false ∷ causes3to11 L cs q) (causes-ascend cs (effect cs (q .aid) (q .change)) (q .aid) (not (proper (q .aid) (q .change))) (q .change)))
+          (first-is 1 (2 when false ∷ causes3to11 L cs q) (causes-ascend cs (effect cs (q .aid) (q .change)) (q .aid) (not (proper (q .aid) (q .change))) (q .change)))
 
   pub sound-stands : SoundStands L
   sound-stands img ok =
       let t = decode L img in
       let g = sound-formed L img ok in
-      let st = stands-self L t g in
-      ( map (contractAt L t) (usedNumbers L t)
-      , record
-          { is-sound = ok
-          ; these = λ c m. let p = st .these c m in (p .0, p .1, same-contract L t g (p .0) c (p .2))
-          ; no-others = st .no-others; one-each = st .one-each; four-sets = st .four-sets } )
+      let st = stands-self L t g in (
+        map (contractAt L t) (usedNumbers L t),
+        record {
+          is-sound = ok;
+          these = λ c m. let p = st .these c m in (p .0, p .1, same-contract L t g (p .0) c (p .2));
+          no-others = st .no-others;
+          one-each = st .one-each;
+          four-sets = st .four-sets;
+        },
+      )
 
   -- ---- accepted exactly
   -- no cause of a list applies
@@ -186,11 +196,11 @@ module _ (L : Layout) (lo : LayoutOk L) where
 
   -- what the machine leaves of an accepted record
   accepted-contracts : (img s : List ℕ) (cs : List Contract) (q : Request) → StandsFor L img cs → parse L s ≡ some q → answer (causes3to11 L cs q) ≡ 0
-    → StandsFor L (judge L img s .bytes) (effect cs (q .aid) (q .change))
+      → StandsFor L (judge L img s .bytes) (effect cs (q .aid) (q .change))
   accepted-contracts img s cs q f e z =
       subst (λ (ds : List Contract). StandsFor L (judge L img s .bytes) ds)
-        (ap (λ (h : Held L). h .contracts) (machine-read cs s q e) ∙ ap (λ (n : ℕ). held L cs (effect cs (q .aid) (q .change)) n .contracts) z)
-        (step L lo img s cs f .1)
+      (ap (λ (h : Held L). h .contracts) (machine-read cs s q e) ∙ ap (λ (n : ℕ). held L cs (effect cs (q .aid) (q .change)) n .contracts) z)
+      (step L lo img s cs f .1)
 
   module _ (img s : List ℕ) (cs : List Contract) (q : Request) (f : StandsFor L img cs) (e : parse L s ≡ some q) (pr : T (proper (q .aid) (q .change)))
       (free : (k : Cause) → In k (causes4to7 L cs (q .aid) (q .change)) → k .number < 7 → T (k .applies) → ⊥) where
@@ -207,13 +217,15 @@ module _ (L : Layout) (lo : LayoutOk L) where
         let v = none-of-four (callsGranted ds) (needsMet ds) (leb (length (unmetCalls ds)) (L .capacity)) (leb (length (waitingGrants ds)) (L .capacity)) (p .1) in
         let st = accepted-contracts img s cs q f e n in
         let after = stands-of L (judge L img s .bytes) ds st in
-        let names = sound-formed L (judge L img s .bytes) (st .is-sound) .names in
-        ( and-i (callsGranted ds) (needsMet ds) (v .0) (v .1)
-        , record
-            { packages-fit = packages-fit L (decode L (judge L img s .bytes)) [] ds names after
-            ; services-fit = services-fit L (decode L (judge L img s .bytes)) [] ds names after
-            ; unmet-fit = leb→le (length (unmetCalls ds)) (L .capacity) (v .2)
-            ; waiting-fit = leb→le (length (waitingGrants ds)) (L .capacity) (v .3) } )
+        let names = sound-formed L (judge L img s .bytes) (st .is-sound) .names in (
+          and-i (callsGranted ds) (needsMet ds) (v .0) (v .1),
+          record {
+            packages-fit = packages-fit L (decode L (judge L img s .bytes)) [] ds names after;
+            services-fit = services-fit L (decode L (judge L img s .bytes)) [] ds names after;
+            unmet-fit = leb→le (length (unmetCalls ds)) (L .capacity) (v .2);
+            waiting-fit = leb→le (length (waitingGrants ds)) (L .capacity) (v .3);
+          },
+        )
 
     silent : FitsLimits L ds → Silent early
     silent fit k m w = go (in-cons m)
@@ -226,11 +238,30 @@ module _ (L : Layout) (lo : LayoutOk L) where
     accepted-if-fits h =
         read-answer img s cs q f e ∙ silent-append early (causes8to11 L ds) (silent (h .1))
         ∙ four-none (callsGranted ds) (needsMet ds) (leb (length (unmetCalls ds)) (L .capacity)) (leb (length (waitingGrants ds)) (L .capacity))
-            (and-l (callsGranted ds) (needsMet ds) (h .0)) (and-r (callsGranted ds) (needsMet ds) (h .0))
-            (le→leb (length (unmetCalls ds)) (L .capacity) (h .1 .unmet-fit)) (le→leb (length (waitingGrants ds)) (L .capacity) (h .1 .waiting-fit))
+        (and-l (callsGranted ds) (needsMet ds) (h .0)) (and-r (callsGranted ds) (needsMet ds) (h .0))
+        (le→leb (length (unmetCalls ds)) (L .capacity) (h .1 .unmet-fit)) (le→leb (length (waitingGrants ds)) (L .capacity) (h .1 .waiting-fit))
 
   pub accepted-exactly : AcceptedExactly L
   accepted-exactly img s cs q f e pr free = (fits-if-accepted img s cs q f e pr free, accepted-if-fits img s cs q f e pr free)
+
+-- ---- 5. short check = full look
+module _ (L : Layout) where
+  short-look : (t : Tables) → Formed L t → Lawful t → Fitting L t → (a : Aid) (c : Change) → Valid L c → T (proper a c)
+      → answer (tableCauses L t a c) ≡ 0 → look L (draft L t a c) ≡ shortLook L t a c
+  short-look t g w fit a (load p c d n) v pr e = short-1 p c d n L t g w fit a (v .0) pr e
+  short-look t g w fit a remove v pr e = short-2 L t g w fit a e
+  short-look t g w fit a (addService s l) v pr e = short-3 s l L t g w fit a pr e
+  short-look t g w fit a (removeService s) v pr e = short-4 s L t g w fit a e
+  short-look t g w fit a (addCall r) v pr e = short-5 L t g w fit a r e
+  short-look t g w fit a (removeCall r) v pr e = short-6 L t g w fit a r e
+  short-look t g w fit a (addGrant r) v pr e = short-7 L t g w fit a r e
+  short-look t g w fit a (removeGrant r) v pr e = short-8 L t g w fit a r e
+  short-look t g w fit a (addNeed r) v pr e = short-9 L t g w fit a r e
+  short-look t g w fit a (removeNeed r) v pr e = short-10 L t g w fit a r e
+
+  pub short-is-full : ShortIsFull L
+  short-is-full img s q ok e pr z =
+      short-look (decode L img) (sound-formed L img ok) (sound-lawful L img ok) (sound-fitting L img ok) (q .aid) (q .change) (parse-valid L s q e .1) pr z
 
 -- ---- 6. reading out
 module _ (L : Layout) (lo : LayoutOk L) where
@@ -239,13 +270,14 @@ module _ (L : Layout) (lo : LayoutOk L) where
       let t = decode L img in
       let g = sound-formed L img ok in
       let fit = sound-fitting L img ok in
-      record
-        { parses = λ c e. subst (λ (k : Contract). parse L (loadRecord L k) ≡ some (record { aid = k .aid; change = load (k .provides) (k .calls) (k .grants) (k .needs) })) (sym e) (read-out-parses L lo t g fit n un)
-        ; is-proper = λ c e. subst (λ (k : Contract). T (proper (k .aid) (load (k .provides) (k .calls) (k .grants) (k .needs)))) (sym e) (read-out-proper L lo t g fit n un)
-        ; loads-again = λ c e img₂ z. again c (subst (λ (k : Contract). parse L (loadRecord L k) ≡ some (record { aid = k .aid; change = load (k .provides) (k .calls) (k .grants) (k .needs) })) (sym e) (read-out-parses L lo t g fit n un)) img₂ z }
+      record {
+        parses = λ c e. subst (λ (k : Contract). parse L (loadRecord L k) ≡ some (record { aid = k .aid; change = load (k .provides) (k .calls) (k .grants) (k .needs) })) (sym e) (read-out-parses L lo t g fit n un);
+        is-proper = λ c e. subst (λ (k : Contract). T (proper (k .aid) (load (k .provides) (k .calls) (k .grants) (k .needs)))) (sym e) (read-out-proper L lo t g fit n un);
+        loads-again = λ c e img₂ z. again c (subst (λ (k : Contract). parse L (loadRecord L k) ≡ some (record { aid = k .aid; change = load (k .provides) (k .calls) (k .grants) (k .needs) })) (sym e) (read-out-parses L lo t g fit n un)) img₂ z;
+      }
     where
       again : (c : Contract) → parse L (loadRecord L c) ≡ some (record { aid = c .aid; change = load (c .provides) (c .calls) (c .grants) (c .needs) }) → (img₂ : List ℕ) → judge L img₂ (loadRecord L c) .answered ≡ 0
-        → (m : ℕ) × T (decode L (judge L img₂ (loadRecord L c) .bytes) .used m) × SameContract c (contractAt L (decode L (judge L img₂ (loadRecord L c) .bytes)) m)
+          → (m : ℕ) × T (decode L (judge L img₂ (loadRecord L c) .bytes) .used m) × SameContract c (contractAt L (decode L (judge L img₂ (loadRecord L c) .bytes)) m)
       again c e img₂ z = go (test (sound L img₂))
         where
           go : T (sound L img₂) ⊎ (T (sound L img₂) → ⊥) → (m : ℕ) × T (decode L (judge L img₂ (loadRecord L c) .bytes) .used m) × SameContract c (contractAt L (decode L (judge L img₂ (loadRecord L c) .bytes)) m)
@@ -258,3 +290,24 @@ module _ (L : Layout) (lo : LayoutOk L) where
             where
               one-not-zero : _≡_ {A = ℕ} 1 0 → ⊥
               one-not-zero e = omega arith
+
+-- ---- the card of 1,094 bytes
+pub small-ok : LayoutOk small
+small-ok = record { header-size = refl; packages-fit = lit≤ tt; services-fit = lit≤ tt; rows-fit = lit≤ tt; counts-fit = lit≤ tt; records-fit = lit≤ tt }
+
+-- where document 01 says that its parts stand, and its size
+pub small-parts : aidsAt small ∷ tokensAt small ∷ providesAt small ∷ callsAt small ∷ grantsAt small ∷ needsAt small ∷ unmetAt small ∷ waitingAt small ∷ size small ∷ []
+    ≡ 4 ∷ 140 ∷ 268 ∷ 276 ∷ 340 ∷ 404 ∷ 468 ∷ 789 ∷ 1094 ∷ []
+small-parts = refl
+
+-- ---- 1. the marked cases: computed on the machine, and carried to the engine's definition by the history theorem
+machine-marked : map (λ c. machineAnswers small [] (c .records)) cases ≡ map (λ c. c .answers) cases
+unfolding machineAnswers
+machine-marked = refl
+
+same-answers : (l : List Case) → map (λ c. answers small (emptyImage small) (c .records)) l ≡ map (λ c. machineAnswers small [] (c .records)) l
+same-answers [] = refl
+same-answers (c ∷ l) = λ i. history small small-ok (c .records) .equal-answers i ∷ same-answers l i
+
+pub marked : MarkedCases
+marked = (same-answers cases ∙ machine-marked, machine-marked)

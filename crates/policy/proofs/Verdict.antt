@@ -43,13 +43,13 @@ module _ (L : Layout) (f : ℕ → ℕ → ℕ → Bool) where
   bits-i : ((i j k : ℕ) → T (f i j k)) → T (everyBit L f)
   bits-i h =
       in-every (λ i. every (λ j. every (f i j) (upto (L .services))) (upto (L .packages))) (upto (L .packages)) (λ i _.
-        in-every (λ j. every (f i j) (upto (L .services))) (upto (L .packages)) (λ j _. in-every (f i j) (upto (L .services)) (λ k _. h i j k)))
+      in-every (λ j. every (f i j) (upto (L .services))) (upto (L .packages)) (λ j _. in-every (f i j) (upto (L .services)) (λ k _. h i j k)))
 
   bits-e : T (everyBit L f) → (i j k : ℕ) → In i (upto (L .packages)) → In j (upto (L .packages)) → In k (upto (L .services)) → T (f i j k)
   bits-e h i j k mi mj mk =
       every-in (f i j) (upto (L .services))
-        (every-in (λ j. every (f i j) (upto (L .services))) (upto (L .packages))
-          (every-in (λ i. every (λ j. every (f i j) (upto (L .services))) (upto (L .packages))) (upto (L .packages)) h mi) mj) mk
+      (every-in (λ j. every (f i j) (upto (L .services))) (upto (L .packages))
+      (every-in (λ i. every (λ j. every (f i j) (upto (L .services))) (upto (L .packages))) (upto (L .packages)) h mi) mj) mk
 
 module _ (L : Layout) (t : Tables) (lost : List Unmet) (ds : List Contract) (g : Formed L t) (st : Stands t lost ds) where
   -- the contract of a used number
@@ -77,7 +77,7 @@ module _ (L : Layout) (t : Tables) (lost : List Unmet) (ds : List Contract) (g :
   met-i : (r : Row) (j k : ℕ) → T (t .provides j k) → r ≡ serviceAt t j k → T (met ds r)
   met-i r j k p e =
       under-i j (g .names .prov-used j k p) (r .aid) (λ i. sym e i .aid) (λ c. hasTok (r .tok) (c .provides))
-        (λ c h. tok-has (h .provides (r .tok) .1 (ProvidesAt.at k p (λ i. e i .tok))))
+      (λ c h. tok-has (h .provides (r .tok) .1 (ProvidesAt.at k p (λ i. e i .tok))))
 
   met-e : (r : Row) → T (met ds r) → (j : ℕ) × (k : ℕ) × T (t .provides j k) × (t .aid j ≡ r .aid) × (t .tok j k ≡ r .tok)
   met-e r h = let p = under-e (r .aid) (λ c. hasTok (r .tok) (c .provides)) h in go (p .0) (p .2) (p .4 .provides (r .tok) .0 (has-tok (r .tok) (p .3 .provides) (p .5)))
@@ -119,18 +119,18 @@ module _ (L : Layout) (t : Tables) (lost : List Unmet) (ds : List Contract) (g :
           let p = g .calls .of-prov n j k b in
           let uj = g .names .prov-used j k p in
           let b′ : T (t .grants j n k) = implies-e (t .calls n j k) (t .grants j n k)
-                (bits-e L grantedAt h n j k
-                  (in-upto (L .packages) n (g .names .used-lt n (g .calls .by-used n j k b)))
-                  (in-upto (L .packages) j (g .names .used-lt j uj)) (in-upto (L .services) k (g .names .prov-lt j k p))) b in
+          (bits-e L grantedAt h n j k
+          (in-upto (L .packages) n (g .names .used-lt n (g .calls .by-used n j k b)))
+          (in-upto (L .packages) j (g .names .used-lt j uj)) (in-upto (L .services) k (g .names .prov-lt j k p))) b in
           under-i j uj (r .aid) (λ i. sym e i .aid) (λ d. hasRow (asked c r) (d .grants))
-            (λ d hd. row-has (hd .grants (asked c r) .1 (GrantAt.bit n k b′ (hc .aid) (λ i. e i .tok))))
+          (λ d hd. row-has (hd .grants (asked c r) .1 (GrantAt.bit n k b′ (hc .aid) (λ i. e i .tok))))
       have h c n hc r m (RowAt.row n′) = absurd (off-met (t .unmet) (g .unmet .off) (callRow n r) n′ m)
 
       to : T (everyBit L grantedAt) → T (callsGranted ds)
       to h = in-every (λ c. every (allowed c) (c .calls)) ds (λ c mc.
           let p = st .these c mc in
           in-every (allowed c) (c .calls) (λ r mr.
-            implies-i (met ds r) (grantedTo ds (c .aid) r) (λ m. have h c (p .0) (p .2) r m (p .2 .calls r .0 mr))))
+          implies-i (met ds r) (grantedTo ds (c .aid) r) (λ m. have h c (p .0) (p .2) r m (p .2 .calls r .0 mr))))
 
       fro : T (callsGranted ds) → T (everyBit L grantedAt)
       fro h = bits-i L grantedAt (λ i j k. implies-i (t .calls i j k) (t .grants j i k) (λ b.
@@ -140,12 +140,12 @@ module _ (L : Layout) (t : Tables) (lost : List Unmet) (ds : List Contract) (g :
           let r = serviceAt t j k in
           let a = every-in (λ c. every (allowed c) (c .calls)) ds h (c .1) in
           let q = implies-e (met ds r) (grantedTo ds (c .0 .aid) r)
-                (every-in (allowed (c .0)) (c .0 .calls) a (c .2 .calls r .1 (RowAt.bit j k b refl))) (met-i r j k p refl) in
+          (every-in (allowed (c .0)) (c .0 .calls) a (c .2 .calls r .1 (RowAt.bit j k b refl))) (met-i r j k p refl) in
           let d = under-e (t .aid j) (λ d. hasRow (asked (c .0) r) (d .grants)) q in
           let ej : d .0 ≡ j = g .names .aid-inj (d .0) j (d .1) (g .names .prov-used j k p) (d .2) in
           granted-bit i j k ui p (asked (c .0) r) (c .2 .aid) refl
-            (subst (λ (z : ℕ). GrantAt t z (asked (c .0) r)) ej
-              (d .4 .grants (asked (c .0) r) .0 (has-row (asked (c .0) r) (d .3 .grants) (d .5))))))
+          (subst (λ (z : ℕ). GrantAt t z (asked (c .0) r)) ej
+          (d .4 .grants (asked (c .0) r) .0 (has-row (asked (c .0) r) (d .3 .grants) (d .5))))))
 
   -- ---- cause 9
   needed : Off (t .used) (t .aid) (t .tok) (t .provides) lost → isNil lost ≡ needsMet ds
@@ -179,10 +179,10 @@ module _ (L : Layout) (t : Tables) (lost : List Unmet) (ds : List Contract) (g :
 
   -- a list of the tables has as many rows as the contracts have rows of one sort that pass f, where it has a link for each of these and for no other
   same-count : {A : Type 0} (l : List A) (link : A → Link) (rows : Contract → List Row) (f : Row → Bool)
-    → NoRepeat l → ((x y : A) → In x l → In y l → link x ≡ link y → x ≡ y) → ((c : Contract) → In c ds → NoRepeat (rows c))
-    → ((x : A) → In x l → OwnRow rows f (link x))
-    → ((n : ℕ) (c : Contract) → HasContract t lost n c → (r : Row) → In r (rows c) → T (f r) → (x : A) × In x l × (link x ≡ record { owner = t .aid n; row = r }))
-    → length l ≡ length (flat (λ c. map (linkOf c) (keep f (rows c))) ds)
+      → NoRepeat l → ((x y : A) → In x l → In y l → link x ≡ link y → x ≡ y) → ((c : Contract) → In c ds → NoRepeat (rows c))
+      → ((x : A) → In x l → OwnRow rows f (link x))
+      → ((n : ℕ) (c : Contract) → HasContract t lost n c → (r : Row) → In r (rows c) → T (f r) → (x : A) × In x l × (link x ≡ record { owner = t .aid n; row = r }))
+      → length l ≡ length (flat (λ c. map (linkOf c) (keep f (rows c))) ds)
   same-count {A} l link rows f once inj sets to fro =
       sym (length-map l link) ∙ same-length (map link l) (flat links ds) (once-map link l inj once) once-links forth back
     where
@@ -248,17 +248,21 @@ module _ (L : Layout) (t : Tables) (lost : List Unmet) (ds : List Contract) (g :
           λ i. record { caller = e i .row .aid; callee = q .0 i; service = q .1 i }
 
       to : (w : Waiting) → In w (t .waiting) → OwnRow (λ c. c .grants) (waits ds) (link w)
-      to w m =
-          ( w .callee, g .names .prov-used (w .callee) (w .service) (g .waiting .wait-prov w m), refl, (λ c h. h .grants (grantAt t w) .1 (GrantAt.row (w .service) m refl))
-          , not-i (installed ds (w .caller)) (λ h. let p = under-e (w .caller) (λ c. true) h in g .waiting .wait-off w m (p .0) (p .1) (p .2)))
+      to w m = (
+        w .callee,
+        g .names .prov-used (w .callee) (w .service) (g .waiting .wait-prov w m),
+        refl,
+        (λ c h. h .grants (grantAt t w) .1 (GrantAt.row (w .service) m refl)),
+        not-i (installed ds (w .caller)) (λ h. let p = under-e (w .caller) (λ c. true) h in g .waiting .wait-off w m (p .0) (p .1) (p .2)),
+      )
 
       fro : (n : ℕ) (r : Row) → T (waits ds r) → GrantAt t n r → (w : Waiting) × In w (t .waiting) × (link w ≡ record { owner = t .aid n; row = r })
       fro n r f (GrantAt.bit i k b e _) = absurd (not-e (installed ds (r .aid)) f (under-i i (g .grants .by-used i n k b) (r .aid) (sym e) (λ c. true) (λ c h. tt)))
       fro n r f (GrantAt.row k m e) = (record { caller = r .aid; callee = n; service = k }, m, λ i. record { owner = t .aid n; row = record { aid = r .aid; tok = sym e i } })
 
 pub looks-agree : (L : Layout) (d : Draft) (ds : List Contract) → Formed L (d .tables)
-  → Off (d .tables .used) (d .tables .aid) (d .tables .tok) (d .tables .provides) (d .lost) → Stands (d .tables) (d .lost) ds
-  → lookCauses L (look L d) ≡ causes8to11 L ds
+    → Off (d .tables .used) (d .tables .aid) (d .tables .tok) (d .tables .provides) (d .lost) → Stands (d .tables) (d .lost) ds
+    → lookCauses L (look L d) ≡ causes8to11 L ds
 unfolding look
 looks-agree L d ds g off st = λ i.
     8 when not (granted L (d .tables) (d .lost) ds g st i)

@@ -81,7 +81,7 @@ module _ {A : Type 0} (p : Reader A) (f : A → List ℕ) where
       rw (append-assoc (f x) (flat f l) rest, h x (here refl) (flat f l ++ rest), many-written l rest (λ y m. h y (there m)))
 
   counted-written : (w most : ℕ) (l : List A) (rest : List ℕ) → length l < 256 ^ w → length l ≤ most → ((x : A) → In x l → (u : List ℕ) → p (f x ++ u) ≡ got x u)
-    → counted w most p (writeNumber w (length l) (flat f l) ++ rest) ≡ got l rest
+      → counted w most p (writeNumber w (length l) (flat f l) ++ rest) ≡ got l rest
   unfolding counted
   counted-written w most l rest b m h =
       rw (number-append w (length l) (flat f l) rest, number-written w (length l) (flat f l ++ rest) b, T-true (leb (length l) most) (le→leb (length l) most m), many-written l rest h)
@@ -90,7 +90,6 @@ module _ {A : Type 0} (p : Reader A) (f : A → List ℕ) where
 module _ (L : Layout) (lo : LayoutOk L) (c : Contract) (va : T (validAid (c .aid))) (np : length (c .provides) ≤ L .services)
     (nc : length (c .calls) ≤ L .mostRows) (ng : length (c .grants) ≤ L .mostRows) (nn : length (c .needs) ≤ L .mostRows)
     (vc : ValidRows (c .calls)) (vg : ValidRows (c .grants)) (vn : ValidRows (c .needs)) where
-
   rows-written : (l : List Row) (rest : List ℕ) → length l ≤ L .mostRows → ValidRows l → counted (L .countWidth) (L .mostRows) aRow (rowsBytes L l ++ rest) ≡ got l rest
   rows-written l rest n v = counted-written aRow rowBytes (L .countWidth) (L .mostRows) l rest (let h = lo .counts-fit in omega arith) n (λ r m u. row-written r u (v r m))
 
@@ -104,7 +103,7 @@ module _ (L : Layout) (lo : LayoutOk L) (c : Contract) (va : T (validAid (c .aid
   last-written = ap (λ (z : List ℕ). counted (L .countWidth) (L .mostRows) aRow z) (sym (append-nil (rowsBytes L (c .needs)))) ∙ rows-written (c .needs) [] nn vn
 
   load-written : aLoad L ((length (c .provides) ∷ flat writeTok (c .provides)) ++ (rowsBytes L (c .calls) ++ (rowsBytes L (c .grants) ++ rowsBytes L (c .needs))))
-    ≡ got (load (c .provides) (c .calls) (c .grants) (c .needs)) []
+      ≡ got (load (c .provides) (c .calls) (c .grants) (c .needs)) []
   unfolding aLoad
   load-written = rw (toks-written _, rows-written (c .calls) _ nc vc, rows-written (c .grants) _ ng vg, last-written)
 

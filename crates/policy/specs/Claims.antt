@@ -89,8 +89,9 @@ SoundStands L = (img : List ℕ) → T (sound L img) → (cs : List Contract) ×
 
 -- ---- 5. short check = full look
 abbrev pub ShortIsFull : Layout → Type 0
-ShortIsFull L = (img : List ℕ) (a : Aid) (c : Change) → T (sound L img) → T (proper a c)
-    → answer (tableCauses L (decode L img) a c) ≡ 0 → look L (draft L (decode L img) a c) ≡ shortLook L (decode L img) a c
+ShortIsFull L = (img s : List ℕ) (q : Request) → T (sound L img) → parse L s ≡ some q → T (proper (q .aid) (q .change))
+    → answer (tableCauses L (decode L img) (q .aid) (q .change)) ≡ 0
+    → look L (draft L (decode L img) (q .aid) (q .change)) ≡ shortLook L (decode L img) (q .aid) (q .change)
 
 -- ---- 6. reading out
 -- the record read out is well formed, has no cause 3, and is the contract again; a card that accepts it holds the same four sets
