@@ -1,7 +1,10 @@
 // A card's layout in code: an enum of the cards, and its numbers by cases.
 ghost use mathlib.Core.Path.{_≡_};
-ghost use Prim.Native.Nat.{_+_, _*_, _<_};
-ghost use Rattle.policy.specs.Layout.{aidsAt as aidsOf, tokensAt, providesAt, unmetAt, waitingAt, size as sizeOf};
+ghost use mathlib.Core.List.{_++_};
+ghost use Prim.Native.Nat.{_+_, _^_, _≤_, _<_};
+ghost use lib.ListN.{length, take, drop};
+ghost use Rattle.policy.specs.Layout.{unmetAt, waitingAt, size as sizeOf};
+ghost use Rattle.policy.specs.Tables.{readNumber, writeNumber};
 ghost use Rattle.geometry.specs.Geometry.{layoutOf, aidAt, tokAt, provAt, tableAt, entryAt};
 
 // The card of 1,094 bytes.
@@ -146,5 +149,38 @@ pub fn waiting_at(c: Card) -> usize
 {
     match c {
         Card::Small => 789,
+    }
+}
+
+// The first three bytes of an image.
+pub fn header(c: Card) -> [u8; 3]
+    ensures { λ r. ⌜ r ≡ layoutOf c .header ⌝ }
+{
+    match c {
+        Card::Small => [4, 70, 1],
+    }
+}
+
+// The row of bits at a place.
+pub fn row_at(img: &[u8], c: Card, at: usize) -> u16
+    requires { ⌜ at + layoutOf c .width ≤ length (now img) ⌝ }
+    ensures { λ r. ⌜ r ≡ readNumber 0 (take (layoutOf c .width) (drop at (now (img .entry)))) ⌝ }
+{
+    match c {
+        Card::Small => img[at] as u16,
+    }
+}
+
+// Puts a row of bits at a place.
+pub fn put_row(img: &mut [u8], c: Card, at: usize, row: u16)
+    requires inside { ⌜ at + layoutOf c .width ≤ length (now img) ⌝ }
+    requires fits { ⌜ row < 256 ^ layoutOf c .width ⌝ }
+    ensures { λ _. ⌜ now (img .exit)
+        ≡ take at (now (img .entry)) ++ writeNumber (layoutOf c .width) row (drop (at + layoutOf c .width) (now (img .entry))) ⌝ }
+{
+    match c {
+        Card::Small => {
+            img[at] = row as u8;
+        }
     }
 }

@@ -1,0 +1,16 @@
+-- `geometry::aid_at` meets its contract. Assumes nothing.
+use mathlib.Core.Path.{ap}
+use native.Mathlib.Omega.{arith}
+use Rattle.geometry.specs.declared.Card.{Card}
+use Rattle.geometry.specs.Geometry.{layoutOf}
+use Rattle.geometry.proofs.Cards.{only}
+use Rattle.geometry.proofs.aid_at.Statement.{statement}
+use Rattle.geometry.proofs.aid_at.Tie as tie
+
+pub aid-at-spec : {M : Type 1} → statement M
+aid-at-spec =
+    tie.close
+    (tie.spec
+    (λ c. omega (arith, ap (λ (k : Card). layoutOf k .packages) (only (c .args .c))))
+    (λ c. omega (arith, ap (λ (k : Card). layoutOf k .packages) (only (c .args .c))))
+    (λ c. rw (only (c .args .c))))
