@@ -39,3 +39,5 @@ pub mod Written
 pub mod ReadOut
 pub mod Theorems
 pub mod Entries
+pub mod HasRow
+pub mod Settled

@@ -246,7 +246,7 @@ module _ (L : Layout) (lo : LayoutOk L) where
 
 -- ---- 5. short check = full look
 module _ (L : Layout) where
-  short-look : (t : Tables) → Formed L t → Lawful t → Fitting L t → (a : Aid) (c : Change) → Valid L c → T (proper a c)
+  pub short-look : (t : Tables) → Formed L t → Lawful t → Fitting L t → (a : Aid) (c : Change) → Valid L c → T (proper a c)
       → answer (tableCauses L t a c) ≡ 0 → look L (draft L t a c) ≡ shortLook L t a c
   short-look t g w fit a (load p c d n) v pr e = short-1 p c d n L t g w fit a (v .0) pr e
   short-look t g w fit a remove v pr e = short-2 L t g w fit a e

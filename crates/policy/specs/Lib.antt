@@ -13,3 +13,4 @@ pub mod History
 pub mod Marked
 pub mod ShortCheck
 pub mod Claims
+pub mod Settled
