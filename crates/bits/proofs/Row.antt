@@ -1,0 +1,270 @@
+-- Laws of rows of bits, for any number of bits: each is an induction on the bits, lowest first, over `step0` and `stepS`. Assumes nothing.
+use Prim.Native.Nat.{ℕ, zero, suc, _+_, _-_, _*_, _/_, _%_, _^_, _≤_, _<_, min, max}
+use native.Mathlib.Omega.{arith}
+use native.Mathlib.Nat.{le-of-suc-le-suc, not-suc-le-zero, zero-lt-suc, mod-lt, pow-suc, div-one, one-mul, lt-of-lt-of-le}
+use native.Mathlib.Numerals.{one-add}
+use mathlib.Core.Path.{_≡_, refl, sym, ap, ap₂, _∙_}
+use mathlib.Core.Logic.{_⊎_, inl, inr}
+use mathlib.Core.Bool.{Bool, true, false, _&&_, _||_, not, cond, or-comm, and-comm, and-false}
+use mathlib.Core.List.{List, _∷_}
+use mathlib.Core.Option.{Option, none, some}
+use lib.Dec.{eqb, eqb→eq, eqb·zero-suc, eqb·suc-zero, eqb·suc-suc}
+use lib.ListN.{length}
+use lib.Arith.{lt-one}
+use lib.Pow.{pow-mono, shr-shr, shl-exact, pow-lt, ones-sub-lt}
+use lib.Bits.{bitAnd, bitOr, and-step, or-step, or-lt, and-lt}
+use lib.Count.{ones, ones-step, trailingZeros, under}
+use borrow.Author.Tests.{eq-eqb, ne-eqb}
+use Rattle.policy.specs.Lists.{implies, every, keep, first, from, upto, orElse}
+use Rattle.policy.specs.Tables.{bit, rowOf}
+use Rattle.policy.proofs.Sets.{T-eq, T-true, true-T, upto-in}
+use Rattle.policy.proofs.Pieces.{in-or-off}
+use Rattle.bits.proofs.Loops.{every-at, every-intro, first-ext, every-narrow, keep-narrow, first-narrow, first-past}
+
+bit-low : (r : ℕ) → bit r zero ≡ eqb (r % 2) 1
+unfolding bit
+bit-low r = ap (λ (x : ℕ). eqb (x % 2) 1) (div-one r)
+
+bit-rest : (r k : ℕ) → bit r (suc k) ≡ bit (r / 2) k
+unfolding bit
+bit-rest r k = ap (λ (x : ℕ). eqb (x % 2) 1) (ap (λ (m : ℕ). r / 2 ^ m) (sym (one-add k)) ∙ sym (shr-shr r 1 k))
+
+-- a number made of its lowest bit c and the rest y
+step0 : (x y c : ℕ) → x ≡ y * 2 + c → c < 2 → bit x zero ≡ eqb c 1
+step0 x y c e h = let q : x % 2 ≡ c = omega arith in bit-low x ∙ ap (λ (m : ℕ). eqb m 1) q
+
+stepS : (x y c k : ℕ) → x ≡ y * 2 + c → c < 2 → bit x (suc k) ≡ bit y k
+stepS x y c k e h = let q : x / 2 ≡ y = omega arith in bit-rest x k ∙ ap (λ (m : ℕ). bit m k) q
+
+low2 : (x : ℕ) → x % 2 < 2
+low2 x = mod-lt x (zero-lt-suc 1)
+
+pub bit-none : (k : ℕ) → bit zero k ≡ false
+bit-none zero = step0 zero zero zero refl (zero-lt-suc 1)
+bit-none (suc k) = stepS zero zero zero k refl (zero-lt-suc 1) ∙ bit-none k
+
+-- past the row's n bits there is none
+pub bit-past : (n r k : ℕ) → r < 2 ^ n → n ≤ k → bit r k ≡ false
+bit-past zero r k h l = ap (λ (x : ℕ). bit x k) (lt-one h) ∙ bit-none k
+bit-past (suc n) r zero h l = absurd (not-suc-le-zero l)
+bit-past (suc n) r (suc k) h l = bit-rest r k ∙ bit-past n (r / 2) k (omega (arith, pow-suc 2 n)) (le-of-suc-le-suc l)
+
+eqb-one : (x y : ℕ) → x < 2 → y < 2 → eqb x 1 ≡ eqb y 1 → x ≡ y
+eqb-one zero zero h l e = refl
+eqb-one zero (suc zero) h l e = let z : _≡_ {A = ℕ} 0 1 = cc in z
+eqb-one (suc zero) zero h l e = let z : _≡_ {A = ℕ} 0 1 = cc in sym z
+eqb-one (suc zero) (suc zero) h l e = refl
+eqb-one zero (suc (suc y)) h l e = absurd (omega arith)
+eqb-one (suc zero) (suc (suc y)) h l e = absurd (omega arith)
+eqb-one (suc (suc x)) y h l e = absurd (omega arith)
+
+-- two rows of n bits with the same bits are the same
+pub bit-ext : (n a b : ℕ) → a < 2 ^ n → b < 2 ^ n → ((k : ℕ) → k < n → bit a k ≡ bit b k) → a ≡ b
+bit-ext zero a b h l e = lt-one h ∙ sym (lt-one l)
+bit-ext (suc n) a b h l e =
+    let p : a / 2 ≡ b / 2 = bit-ext n (a / 2) (b / 2) (omega (arith, pow-suc 2 n)) (omega (arith, pow-suc 2 n))
+    (λ k m. sym (bit-rest a k) ∙ e (suc k) (omega arith) ∙ bit-rest b k) in
+    let q : a % 2 ≡ b % 2 = eqb-one (a % 2) (b % 2) (low2 a) (low2 b) (sym (bit-low a) ∙ e zero (omega arith) ∙ bit-low b) in
+    omega arith
+
+-- ---- the row of a test
+pub rowOf-lt : (n : ℕ) (f : ℕ → Bool) → rowOf n f < 2 ^ n
+unfolding rowOf
+rowOf-lt zero f = zero-lt-suc 0
+rowOf-lt (suc n) f = go (f zero) (rowOf-lt n (λ k. f (suc k)))
+  where
+    go : (b : Bool) → rowOf n (λ k. f (suc k)) < 2 ^ n → rowOf n (λ k. f (suc k)) * 2 + cond b 1 0 < 2 ^ suc n
+    go true h = omega (arith, pow-suc 2 n)
+    go false h = omega (arith, pow-suc 2 n)
+
+cond-lt : (b : Bool) → cond b 1 0 < 2
+cond-lt true = omega arith
+cond-lt false = omega arith
+
+cond-is : (b : Bool) → eqb (cond b 1 0) 1 ≡ b
+cond-is true = refl
+cond-is false = refl
+
+pub bit-rowOf : (n : ℕ) (f : ℕ → Bool) (k : ℕ) → k < n → bit (rowOf n f) k ≡ f k
+unfolding rowOf
+bit-rowOf zero f k h = absurd (not-suc-le-zero h)
+bit-rowOf (suc n) f zero h = step0 _ (rowOf n (λ j. f (suc j))) (cond (f zero) 1 0) refl (cond-lt (f zero)) ∙ cond-is (f zero)
+bit-rowOf (suc n) f (suc k) h =
+    stepS _ (rowOf n (λ j. f (suc j))) (cond (f zero) 1 0) k refl (cond-lt (f zero)) ∙ bit-rowOf n (λ j. f (suc j)) k (le-of-suc-le-suc h)
+
+-- what has the test's bits is the test's row
+pub row-is : (n x : ℕ) (f : ℕ → Bool) → x < 2 ^ n → ((k : ℕ) → k < n → bit x k ≡ f k) → x ≡ rowOf n f
+row-is n x f h e = bit-ext n x (rowOf n f) h (rowOf-lt n f) (λ k l. e k l ∙ sym (bit-rowOf n f k l))
+
+-- ---- bit by bit
+min-bit : (x y : ℕ) → x < 2 → y < 2 → eqb (min x y) 1 ≡ eqb x 1 && eqb y 1
+min-bit zero zero h l = refl
+min-bit zero (suc zero) h l = refl
+min-bit (suc zero) zero h l = refl
+min-bit (suc zero) (suc zero) h l = refl
+min-bit zero (suc (suc y)) h l = absurd (omega arith)
+min-bit (suc zero) (suc (suc y)) h l = absurd (omega arith)
+min-bit (suc (suc x)) y h l = absurd (omega arith)
+
+max-bit : (x y : ℕ) → x < 2 → y < 2 → eqb (max x y) 1 ≡ eqb x 1 || eqb y 1
+max-bit zero zero h l = refl
+max-bit zero (suc zero) h l = refl
+max-bit (suc zero) zero h l = refl
+max-bit (suc zero) (suc zero) h l = refl
+max-bit zero (suc (suc y)) h l = absurd (omega arith)
+max-bit (suc zero) (suc (suc y)) h l = absurd (omega arith)
+max-bit (suc (suc x)) y h l = absurd (omega arith)
+
+pub bit-and : (a b k : ℕ) → bit (bitAnd a b) k ≡ bit a k && bit b k
+bit-and a b zero =
+    step0 (bitAnd a b) (bitAnd (a / 2) (b / 2)) (min (a % 2) (b % 2)) (and-step a b) (omega (arith, low2 a, low2 b))
+    ∙ min-bit (a % 2) (b % 2) (low2 a) (low2 b) ∙ ap₂ _&&_ (sym (bit-low a)) (sym (bit-low b))
+bit-and a b (suc k) =
+    stepS (bitAnd a b) (bitAnd (a / 2) (b / 2)) (min (a % 2) (b % 2)) k (and-step a b) (omega (arith, low2 a, low2 b))
+    ∙ bit-and (a / 2) (b / 2) k ∙ ap₂ _&&_ (sym (bit-rest a k)) (sym (bit-rest b k))
+
+pub bit-or : (a b k : ℕ) → bit (bitOr a b) k ≡ bit a k || bit b k
+bit-or a b zero =
+    step0 (bitOr a b) (bitOr (a / 2) (b / 2)) (max (a % 2) (b % 2)) (or-step a b) (omega (arith, low2 a, low2 b))
+    ∙ max-bit (a % 2) (b % 2) (low2 a) (low2 b) ∙ ap₂ _||_ (sym (bit-low a)) (sym (bit-low b))
+bit-or a b (suc k) =
+    stepS (bitOr a b) (bitOr (a / 2) (b / 2)) (max (a % 2) (b % 2)) k (or-step a b) (omega (arith, low2 a, low2 b))
+    ∙ bit-or (a / 2) (b / 2) k ∙ ap₂ _||_ (sym (bit-rest a k)) (sym (bit-rest b k))
+
+bit-pow : (k j : ℕ) → bit (2 ^ k) j ≡ eqb j k
+bit-pow zero zero = step0 1 0 1 refl (omega arith)
+bit-pow zero (suc j) = stepS 1 0 1 j refl (omega arith) ∙ bit-none j ∙ sym (eqb·suc-zero j)
+bit-pow (suc k) zero = step0 (2 ^ suc k) (2 ^ k) 0 (omega (arith, pow-suc 2 k)) (omega arith) ∙ sym (eqb·zero-suc k)
+bit-pow (suc k) (suc j) = stepS (2 ^ suc k) (2 ^ k) 0 j (omega (arith, pow-suc 2 k)) (omega arith) ∙ bit-pow k j ∙ sym (eqb·suc-suc j k)
+
+flip : (x : ℕ) → x < 2 → eqb (1 - x) 1 ≡ not (eqb x 1)
+flip zero h = refl
+flip (suc zero) h = refl
+flip (suc (suc x)) h = absurd (omega arith)
+
+-- the row inverted in n bits
+bit-inv : (n a k : ℕ) → a < 2 ^ n → k < n → bit (2 ^ n - 1 - a) k ≡ not (bit a k)
+bit-inv zero a k h l = absurd (not-suc-le-zero l)
+bit-inv (suc n) a zero h l =
+    step0 (2 ^ suc n - 1 - a) (2 ^ n - 1 - a / 2) (1 - a % 2) (omega (arith, pow-suc 2 n)) (omega arith) ∙ flip (a % 2) (low2 a) ∙ ap not (sym (bit-low a))
+bit-inv (suc n) a (suc k) h l =
+    stepS (2 ^ suc n - 1 - a) (2 ^ n - 1 - a / 2) (1 - a % 2) k (omega (arith, pow-suc 2 n)) (omega arith)
+    ∙ bit-inv n (a / 2) k (omega (arith, pow-suc 2 n)) (le-of-suc-le-suc l) ∙ ap not (sym (bit-rest a k))
+
+-- ---- what the machine's operations give
+shl-one : (n k : ℕ) → k < n → 1 * 2 ^ k % 2 ^ n ≡ 2 ^ k
+shl-one n k h = shl-exact {a = 1} 1 k n (omega arith) (omega arith) ∙ one-mul (2 ^ k)
+
+pub or-set : (n r k : ℕ) → r < 2 ^ n → k < n → bitOr r (1 * 2 ^ k % 2 ^ n) ≡ rowOf n (λ j. eqb j k || bit r j)
+or-set n r k h l =
+    rw (shl-one n k l)
+    (row-is n (bitOr r (2 ^ k)) (λ j. eqb j k || bit r j) (or-lt n r (2 ^ k) h (pow-lt l))
+    (λ j m. bit-or r (2 ^ k) j ∙ or-comm (bit r j) (bit (2 ^ k) j) ∙ ap (λ (b : Bool). b || bit r j) (bit-pow k j)))
+
+pub and-clear : (n r k : ℕ) → r < 2 ^ n → k < n → bitAnd r (2 ^ n - 1 - 1 * 2 ^ k % 2 ^ n) ≡ rowOf n (λ j. not (eqb j k) && bit r j)
+and-clear n r k h l =
+    rw (shl-one n k l)
+    (row-is n (bitAnd r (2 ^ n - 1 - 2 ^ k)) (λ j. not (eqb j k) && bit r j) (and-lt n r (2 ^ n - 1 - 2 ^ k) h (ones-sub-lt n (2 ^ k)))
+    (λ j m. bit-and r (2 ^ n - 1 - 2 ^ k) j ∙ and-comm (bit r j) (bit (2 ^ n - 1 - 2 ^ k) j)
+    ∙ ap (λ (b : Bool). b && bit r j) (bit-inv n (2 ^ k) j (pow-lt l) m ∙ ap not (bit-pow k j))))
+
+-- every number one more
+first-shift : (f : ℕ → Bool) (i n d : ℕ) → orElse (first f (from (suc i) n)) (suc d) (λ k. k) ≡ suc (orElse (first (λ k. f (suc k)) (from i n)) d (λ k. k))
+first-shift f i zero d = refl
+first-shift f i (suc n) d = go (f (suc i)) (first-shift f (suc i) n d)
+  where
+    go : (b : Bool) → orElse (first f (from (suc (suc i)) n)) (suc d) (λ k. k) ≡ suc (orElse (first (λ k. f (suc k)) (from (suc i) n)) d (λ k. k))
+        → orElse (cond b (some (suc i)) (first f (from (suc (suc i)) n))) (suc d) (λ k. k) ≡ suc (orElse (cond b (some i) (first (λ k. f (suc k)) (from (suc i) n))) d (λ k. k))
+    go true e = refl
+    go false e = e
+
+count-shift : (f : ℕ → Bool) (i n : ℕ) → length (keep f (from (suc i) n)) ≡ length (keep (λ k. f (suc k)) (from i n))
+count-shift f i zero = refl
+count-shift f i (suc n) = go (f (suc i)) (keep f (from (suc (suc i)) n)) (keep (λ k. f (suc k)) (from (suc i) n)) (count-shift f (suc i) n)
+  where
+    go : (b : Bool) (l m : List ℕ) → length l ≡ length m → length (cond b (suc i ∷ l) l) ≡ length (cond b (i ∷ m) m)
+    go true l m e = ap suc e
+    go false l m e = e
+
+rest : (r : ℕ) → bit (r / 2) ≡ (λ k. bit r (suc k))
+rest r = sym (λ i k. bit-rest r k i)
+
+trailing-first : (n x : ℕ) → trailingZeros n x ≡ orElse (first (bit x) (upto n)) n (λ k. k)
+unfolding trailingZeros
+trailing-first zero x = refl
+trailing-first (suc n) x =
+    ap (under (x % 2)) (trailing-first n (x / 2) ∙ ap (λ (f : ℕ → Bool). orElse (first f (upto n)) n (λ k. k)) (rest x))
+    ∙ go (x % 2) (low2 x) _ _ (first-shift (bit x) 0 n n) ∙ ap (λ (b : Bool). orElse (cond b (some zero) (first (bit x) (from 1 n))) (suc n) (λ k. k)) (sym (bit-low x))
+  where
+    go : (c : ℕ) → c < 2 → (m : ℕ) (o : Option ℕ) → orElse o (suc n) (λ k. k) ≡ suc m → under c m ≡ orElse (cond (eqb c 1) (some zero) o) (suc n) (λ k. k)
+    go zero h m o e = sym e
+    go (suc zero) h m o e = refl
+    go (suc (suc c)) h m o e = absurd (omega arith)
+
+-- the lowest clear bit: trailing zeros of the inverted row
+pub lowest-clear : (n r : ℕ) → r < 2 ^ n → trailingZeros n (2 ^ n - 1 - r) ≡ orElse (first (λ k. not (bit r k)) (upto n)) n (λ k. k)
+lowest-clear n r h =
+    trailing-first n (2 ^ n - 1 - r)
+    ∙ ap (λ (o : Option ℕ). orElse o n (λ k. k)) (first-ext (bit (2 ^ n - 1 - r)) (λ k. not (bit r k)) (upto n) (λ k m. bit-inv n r k h (upto-in n m)))
+
+pub ones-count : (n r : ℕ) → r < 2 ^ n → ones r ≡ length (keep (bit r) (upto n))
+unfolding ones
+ones-count zero r h = ap ones (lt-one h)
+ones-count (suc n) r h =
+    ones-step r
+    ∙ ap (λ (m : ℕ). r % 2 + m) (ones-count n (r / 2) (omega (arith, pow-suc 2 n)) ∙ ap (λ (f : ℕ → Bool). length (keep f (upto n))) (rest r) ∙ sym (count-shift (bit r) 0 n))
+    ∙ go (r % 2) (low2 r) (keep (bit r) (from 1 n)) ∙ ap (λ (b : Bool). length (cond b (zero ∷ keep (bit r) (from 1 n)) (keep (bit r) (from 1 n)))) (sym (bit-low r))
+  where
+    go : (c : ℕ) → c < 2 → (l : List ℕ) → c + length l ≡ length (cond (eqb c 1) (zero ∷ l) l)
+    go zero h l = omega arith
+    go (suc zero) h l = omega arith
+    go (suc (suc c)) h l = absurd (omega arith)
+
+within : (a b : Bool) → a && b ≡ a → implies a b ≡ true
+within true b e = e
+within false b e = refl
+
+within-back : (a b : Bool) → implies a b ≡ true → a && b ≡ a
+within-back true b e = e
+within-back false b e = refl
+
+-- a & b == a: each bit of a is one of b's
+pub and-subset : (n a b : ℕ) → a < 2 ^ n → b < 2 ^ n → eqb (bitAnd a b) a ≡ every (λ k. implies (bit a k) (bit b k)) (upto n)
+and-subset n a b h l =
+    T-eq (eqb (bitAnd a b) a) (every test (upto n))
+    (λ e. true-T (every-intro test n (λ k m. within (bit a k) (bit b k) (sym (bit-and a b k) ∙ ap (λ (x : ℕ). bit x k) (eqb→eq (bitAnd a b) a e)))))
+    (λ e. true-T (eq-eqb (bitAnd a b) a (bit-ext n (bitAnd a b) a (and-lt n a b h l) h (λ k m. bit-and a b k ∙ within-back (bit a k) (bit b k) (every-at test n k (T-true (every test (upto n)) e) m)))))
+  where
+    test : ℕ → Bool
+    test k = implies (bit a k) (bit b k)
+
+-- ---- a row of n bits in a wider word of m: the tests over m are those over n
+module _ (n m r : ℕ) (h : n ≤ m) (l : r < 2 ^ n) where
+  pub keep-row : keep (bit r) (upto m) ≡ keep (bit r) (upto n)
+  keep-row = keep-narrow (bit r) n m h (λ k q. bit-past n r k l q)
+
+  pub first-row : first (bit r) (upto m) ≡ first (bit r) (upto n)
+  first-row = first-narrow (bit r) n m h (λ k q. bit-past n r k l q)
+
+  pub subset-row : (b : ℕ) → every (λ k. implies (bit r k) (bit b k)) (upto m) ≡ every (λ k. implies (bit r k) (bit b k)) (upto n)
+  subset-row b = every-narrow (λ k. implies (bit r k) (bit b k)) n m h (λ k q. ap (λ (x : Bool). implies x (bit b k)) (bit-past n r k l q))
+
+  pub lowest-row : orElse (first (λ k. not (bit r k)) (upto m)) m (λ k. k) ≡ orElse (first (λ k. not (bit r k)) (upto n)) n (λ k. k)
+  lowest-row = first-past (λ k. not (bit r k)) n m h (λ k q. ap not (bit-past n r k l q))
+
+-- the row of a test that passes at none past n
+pub rowOf-narrow : (n m : ℕ) (f : ℕ → Bool) → n ≤ m → ((k : ℕ) → n ≤ k → f k ≡ false) → rowOf m f ≡ rowOf n f
+rowOf-narrow n m f h e =
+    sym (row-is m (rowOf n f) f (lt-of-lt-of-le (rowOf-lt n f) (pow-mono h)) (λ k q. go k (in-or-off k n)))
+  where
+    go : (k : ℕ) → (k < n) ⊎ (n ≤ k) → bit (rowOf n f) k ≡ f k
+    go k (inl q) = bit-rowOf n f k q
+    go k (inr q) = bit-past n (rowOf n f) k (rowOf-lt n f) q ∙ sym (e k q)
+
+-- a bit set or cleared in a row of n bits gives a row of n bits
+module _ (n m r k : ℕ) (h : n ≤ m) (l : r < 2 ^ n) where
+  pub with-row : k < n → rowOf m (λ j. eqb j k || bit r j) ≡ rowOf n (λ j. eqb j k || bit r j)
+  with-row q = rowOf-narrow n m (λ j. eqb j k || bit r j) h (λ j p. ap₂ _||_ (ne-eqb j k (λ e. absurd (omega arith))) (bit-past n r j l p))
+
+  pub without-row : rowOf m (λ j. not (eqb j k) && bit r j) ≡ rowOf n (λ j. not (eqb j k) && bit r j)
+  without-row = rowOf-narrow n m (λ j. not (eqb j k) && bit r j) h (λ j p. ap (λ (b : Bool). not (eqb j k) && b) (bit-past n r j l p) ∙ and-false (not (eqb j k)))
