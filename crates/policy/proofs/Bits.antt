@@ -38,7 +38,7 @@ rest : (y : ℕ) (b : Bool) → (y * 2 + cond b 1 0) / 2 ≡ y
 rest y true = omega arith
 rest y false = omega arith
 
-bit-rowOf : (n : ℕ) (f : ℕ → Bool) (k : ℕ) → k < n → bit (rowOf n f) k ≡ f k
+pub bit-rowOf : (n : ℕ) (f : ℕ → Bool) (k : ℕ) → k < n → bit (rowOf n f) k ≡ f k
 unfolding rowOf
 bit-rowOf zero f k h = absurd (not-suc-le-zero h)
 bit-rowOf (suc n) f zero h = low (rowOf n (λ j. f (suc j))) (f zero)
@@ -46,7 +46,7 @@ bit-rowOf (suc n) f (suc k) h =
     let y = rowOf n (λ j. f (suc j)) in
     bit-rest (y * 2 + cond (f zero) 1 0) k ∙ ap (λ (x : ℕ). bit x k) (rest y (f zero)) ∙ bit-rowOf n (λ j. f (suc j)) k (le-of-suc-le-suc h)
 
-rowOf-lt : (n : ℕ) (f : ℕ → Bool) → rowOf n f < 2 ^ n
+pub rowOf-lt : (n : ℕ) (f : ℕ → Bool) → rowOf n f < 2 ^ n
 unfolding rowOf
 rowOf-lt zero f = zero-lt-suc 0
 rowOf-lt (suc n) f = go (f zero) (rowOf-lt n (λ k. f (suc k)))
@@ -65,7 +65,7 @@ length-number : (w n : ℕ) (bs : List ℕ) → length (writeNumber w n bs) ≡ 
 length-number zero n bs = omega arith
 length-number (suc w) n bs = length-number w (n / 256) (n % 256 ∷ bs) ∙ omega arith
 
-read-number : (w n : ℕ) (bs : List ℕ) → n < 256 ^ w → readNumber 0 (writeNumber w n bs) ≡ readNumber n bs
+pub read-number : (w n : ℕ) (bs : List ℕ) → n < 256 ^ w → readNumber 0 (writeNumber w n bs) ≡ readNumber n bs
 read-number zero n bs h = ap (λ (z : ℕ). readNumber z bs) (none n h)
   where
     none : (n : ℕ) → n < 1 → 0 ≡ n

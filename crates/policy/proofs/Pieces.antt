@@ -18,7 +18,7 @@ use Rattle.policy.proofs.Sets.{test, not-i, upto-in}
 
 -- ---- one piece for each element of a list
 module _ {A : Type 0} (g : A → List ℕ) (w : ℕ) where
-  length-flat : (l : List A) → ((x : A) → In x l → length (g x) ≡ w) → length (flat g l) ≡ length l * w
+  pub length-flat : (l : List A) → ((x : A) → In x l → length (g x) ≡ w) → length (flat g l) ≡ length l * w
   length-flat [] h = omega arith
   length-flat (x ∷ l) h = length-append (g x) (flat g l) ∙ rw (h x (here refl), length-flat l (λ y m. h y (there m)), suc-mul (length l) w) (omega arith)
 
@@ -38,7 +38,7 @@ in-or-off k n = go (test (ltb k n))
     go (inl t) = inl (ltb→lt k n t)
     go (inr f) = inr (nltb→le k n (not-i (ltb k n) f))
 
-length-from : (i n : ℕ) → length (from i n) ≡ n
+pub length-from : (i n : ℕ) → length (from i n) ≡ n
 length-from i zero = refl
 length-from i (suc n) = ap suc (length-from (suc i) n)
 

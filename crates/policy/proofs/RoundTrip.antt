@@ -22,7 +22,7 @@ use Rattle.policy.proofs.Pieces.{length-aid, read-aid, length-unmet, re
 use Rattle.policy.proofs.Formed.{Formed, Fitting}
 
 -- an AID of a package or of a row has room in its place
-valid-short : (a : Aid) → T (validAid a) → length a ≤ 16
+pub valid-short : (a : Aid) → T (validAid a) → length a ≤ 16
 valid-short a t = leb→le (length a) 16 (and-r (leb 5 (length a)) (leb (length a) 16) t)
 
 -- the next part of an image, after one of b bytes
@@ -30,7 +30,7 @@ past : (img p rest : List ℕ) (a b : ℕ) → length p ≡ b → drop a img ≡
 past img p rest a b e q = sym (drop-drop b a img) ∙ ap (drop b) q ∙ drop-at p rest b e
 
 -- the length of a part and what follows
-long : (p rest : List ℕ) {a b : ℕ} → length p ≡ a → length rest ≡ b → length (p ++ rest) ≡ a + b
+pub long : (p rest : List ℕ) {a b : ℕ} → length p ≡ a → length rest ≡ b → length (p ++ rest) ≡ a + b
 long p rest e q = length-append p rest ∙ λ i. e i + q i
 
 module _ (L : Layout) (lo : LayoutOk L) where

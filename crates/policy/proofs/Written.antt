@@ -53,7 +53,7 @@ pub length-number : (w n : ℕ) (rest : List ℕ) → length (writeNumber w n re
 length-number zero n rest = omega arith
 length-number (suc w) n rest = length-number w (n / 256) (n % 256 ∷ rest) ∙ omega arith
 
-number-append : (w n : ℕ) (a b : List ℕ) → writeNumber w n a ++ b ≡ writeNumber w n (a ++ b)
+pub number-append : (w n : ℕ) (a b : List ℕ) → writeNumber w n a ++ b ≡ writeNumber w n (a ++ b)
 number-append zero n a b = refl
 number-append (suc w) n a b = number-append w (n / 256) (n % 256 ∷ a) b
 

@@ -1,0 +1,242 @@
+-- The image of tables and that of the same tables with one part changed differ at that part's place only.
+use Prim.Native.Nat.{ℕ, _+_, _*_, _<_}
+use native.Mathlib.Omega.{arith}
+use mathlib.Core.Path.{_≡_, refl, sym, ap, _∙_}
+use mathlib.Core.Bool.{Bool, true, false, _&&_, cond}
+use mathlib.Core.List.{List, [], _++_}
+use lib.Dec.{T, eqb, eqb→eq, eqb-refl}
+use lib.ListN.{length}
+use Rattle.policy.specs.Lists.{flat, upto}
+use Rattle.policy.specs.Contract.{Aid, Tok}
+use Rattle.policy.specs.Layout.{Layout, LayoutOk, aidSize, unmetSize, waitingSize, usedAt, aidsAt, tokensAt, providesAt, callsAt, grantsAt, needsAt, unmetAt, waitingAt, size}
+use Rattle.policy.specs.Tables.{Tables, Unmet, Waiting, writeAid, writeTok, readUnmet, writeUnmet, readWaiting, writeWaiting, writeList, writeBits, writeTable, encode}
+use Rattle.policy.proofs.Sets.{and-l, and-r, and-i}
+use Rattle.policy.proofs.Bits.{length-bits, writeLine, length-line, length-lines}
+use Rattle.policy.proofs.Pieces.{length-table, length-list, length-aid, length-unmet, length-waiting}
+use Rattle.policy.proofs.RoundTrip.{long}
+use Rattle.geometry.specs.declared.Table.{Table}
+use Rattle.geometry.specs.declared.Table.the-variants.{Calls, Grants, Needs}
+use Rattle.geometry.specs.Geometry.{aidAt, tokAt, provAt, tableAt, entryAt}
+use Rattle.image.specs.Laid.{tableOf, Room, withUsed, withAid, withTok, withProvides, withTable, withEntry, withUnmet, withWaiting}
+use Rattle.image.proofs.Swap.{Swap, swap-cast, swap-after, swap-skip, swap-head, swap-upto, swap-grid}
+
+-- ---- a choice whose test is known
+cond-yes : {A : Type 0} (c : Bool) (x y : A) → T c → cond c x y ≡ x
+cond-yes true x y t = refl
+cond-yes false x y t = absurd t
+
+cond-no : {A : Type 0} (c : Bool) (x y : A) → (T c → ⊥) → cond c x y ≡ y
+cond-no true x y f = absurd (f tt)
+cond-no false x y f = refl
+
+at-both : (i j : ℕ) → T (eqb i i && eqb j j)
+at-both i j = and-i (eqb i i) (eqb j j) (eqb-refl i) (eqb-refl j)
+
+pub both : (x y i j : ℕ) → T (eqb x i && eqb y j) → (x ≡ i) × (y ≡ j)
+both x y i j t = (eqb→eq x i (and-l (eqb x i) (eqb y j) t), eqb→eq y j (and-r (eqb x i) (eqb y j) t))
+
+module _ (L : Layout) where
+  abbrev n : ℕ
+  n = L .packages
+
+  abbrev m : ℕ
+  m = L .services
+
+  abbrev w : ℕ
+  w = L .width
+
+  abbrev pub Tokens : (ℕ → ℕ → Tok) → ℕ → List ℕ
+  Tokens tok j = flat (λ k. writeTok (tok j k)) (upto m)
+
+  -- ---- the parts, and what stands after each
+  module _ (t : Tables) where
+    abbrev Used : List ℕ
+    Used = writeBits L n (t .used)
+
+    abbrev Aids : List ℕ
+    Aids = flat (λ i. writeAid (t .aid i)) (upto n)
+
+    abbrev Toks : List ℕ
+    Toks = flat (Tokens (t .tok)) (upto n)
+
+    abbrev Unmets : List ℕ
+    Unmets = writeList L writeUnmet unmetSize (t .unmet)
+
+    abbrev Waitings : List ℕ
+    Waitings = writeList L writeWaiting waitingSize (t .waiting)
+
+    abbrev after-needs : List ℕ
+    after-needs = Unmets ++ Waitings
+
+    abbrev after-grants : List ℕ
+    after-grants = writeTable L (t .needs) ++ after-needs
+
+    abbrev after-calls : List ℕ
+    after-calls = writeTable L (t .grants) ++ after-grants
+
+    abbrev after-provides : List ℕ
+    after-provides = writeTable L (t .calls) ++ after-calls
+
+    abbrev after-tokens : List ℕ
+    after-tokens = writeLine L (t .provides) ++ after-provides
+
+    abbrev after-aids : List ℕ
+    after-aids = Toks ++ after-tokens
+
+    abbrev after-used : List ℕ
+    after-used = Aids ++ after-aids
+
+  module _ (lo : LayoutOk L) (t : Tables) (room : Room L t) where
+    length-aids : length (Aids t) ≡ n * aidSize
+    length-aids = length-table (λ i. writeAid (t .aid i)) aidSize n (λ i p. length-aid (t .aid i) (room .aid-short i))
+
+    pub length-line-tokens : (j : ℕ) → length (Tokens (t .tok) j) ≡ m * 2
+    length-line-tokens j = length-table (λ k. writeTok (t .tok j k)) 2 m (λ k q. refl)
+
+    length-tokens : length (Toks t) ≡ n * (m * 2)
+    length-tokens = length-table (Tokens (t .tok)) (m * 2) n (λ j p. length-line-tokens j)
+
+    pub length-unmets : length (Unmets t) ≡ 1 + L .capacity * unmetSize
+    length-unmets = length-list L readUnmet writeUnmet unmetSize (t .unmet) (λ u i. length-unmet u (room .unmet-short u i)) (room .unmet-fits)
+
+    pub length-waitings : length (Waitings t) ≡ 1 + L .capacity * waitingSize
+    length-waitings = length-list L readWaiting writeWaiting waitingSize (t .waiting) (λ v i. length-waiting v (room .waiting-short v i)) (room .waiting-fits)
+
+    pub length-image : length (encode L t) ≡ size L
+    unfolding encode
+    length-image =
+        long (L .header) (Used t ++ after-used t) (lo .header-size) (long (Used t) (after-used t) (length-bits L n (t .used)) (long (Aids t) (after-aids t) length-aids
+        (long (Toks t) (after-tokens t) length-tokens (long (writeLine L (t .provides)) (after-provides t) (length-line L (t .provides))
+        (long (writeTable L (t .calls)) (after-calls t) (length-lines L (t .calls)) (long (writeTable L (t .grants)) (after-grants t) (length-lines L (t .grants))
+        (long (writeTable L (t .needs)) (after-needs t) (length-lines L (t .needs)) (long (Unmets t) (Waitings t) length-unmets length-waitings))))))))
+        ∙ omega arith
+
+    -- ---- images that are equal before a place
+    abbrev To : (List ℕ → List ℕ) → ℕ → Type 0
+    To before off = (r r′ : List ℕ) → Swap (before r) (before r′) off r r′
+
+    abbrev with-header : List ℕ → List ℕ
+    with-header r = L .header ++ r
+
+    abbrev with-used : List ℕ → List ℕ
+    with-used r = with-header (Used t ++ r)
+
+    abbrev with-aids : List ℕ → List ℕ
+    with-aids r = with-used (Aids t ++ r)
+
+    abbrev with-tokens : List ℕ → List ℕ
+    with-tokens r = with-aids (Toks t ++ r)
+
+    abbrev with-provides : List ℕ → List ℕ
+    with-provides r = with-tokens (writeLine L (t .provides) ++ r)
+
+    abbrev with-calls : List ℕ → List ℕ
+    with-calls r = with-provides (writeTable L (t .calls) ++ r)
+
+    abbrev with-grants : List ℕ → List ℕ
+    with-grants r = with-calls (writeTable L (t .grants) ++ r)
+
+    abbrev with-needs : List ℕ → List ℕ
+    with-needs r = with-grants (writeTable L (t .needs) ++ r)
+
+    abbrev with-unmet : List ℕ → List ℕ
+    with-unmet r = with-needs (Unmets t ++ r)
+
+    to-used : To with-header (usedAt L)
+    to-used r r′ = swap-after (L .header) r r′ (lo .header-size)
+
+    to-aids : To with-used (aidsAt L)
+    to-aids r r′ = swap-skip (Used t) r r′ (length-bits L n (t .used)) (to-used (Used t ++ r) (Used t ++ r′))
+
+    to-tokens : To with-aids (tokensAt L)
+    to-tokens r r′ = swap-skip (Aids t) r r′ length-aids (to-aids (Aids t ++ r) (Aids t ++ r′))
+
+    to-provides : To with-tokens (providesAt L)
+    to-provides r r′ = swap-skip (Toks t) r r′ length-tokens (to-tokens (Toks t ++ r) (Toks t ++ r′))
+
+    to-calls : To with-provides (callsAt L)
+    to-calls r r′ = let p = writeLine L (t .provides) in swap-skip p r r′ (length-line L (t .provides)) (to-provides (p ++ r) (p ++ r′))
+
+    to-grants : To with-calls (grantsAt L)
+    to-grants r r′ = let p = writeTable L (t .calls) in swap-skip p r r′ (length-lines L (t .calls)) (to-calls (p ++ r) (p ++ r′))
+
+    to-needs : To with-grants (needsAt L)
+    to-needs r r′ = let p = writeTable L (t .grants) in swap-skip p r r′ (length-lines L (t .grants)) (to-grants (p ++ r) (p ++ r′))
+
+    to-unmet : To with-needs (unmetAt L)
+    to-unmet r r′ = let p = writeTable L (t .needs) in swap-skip p r r′ (length-lines L (t .needs)) (to-needs (p ++ r) (p ++ r′))
+
+    to-waiting : To with-unmet (waitingAt L)
+    to-waiting r r′ = swap-skip (Unmets t) r r′ length-unmets (to-unmet (Unmets t ++ r) (Unmets t ++ r′))
+
+    -- ---- each part of the image, and other bytes in its place
+    part : {before : List ℕ → List ℕ} {off : ℕ} → To before off → (s r rest : List ℕ) → Swap (before (s ++ rest)) (before (r ++ rest)) off s r
+    part to s r rest = swap-head s r rest (to (s ++ rest) (r ++ rest))
+
+    pub swap-aids : (r : List ℕ) → Swap (encode L t) (with-used (r ++ after-aids t)) (aidsAt L) (Aids t) r
+    unfolding encode
+    swap-aids r = part to-aids (Aids t) r (after-aids t)
+
+    pub swap-tokens : (r : List ℕ) → Swap (encode L t) (with-aids (r ++ after-tokens t)) (tokensAt L) (Toks t) r
+    unfolding encode
+    swap-tokens r = part to-tokens (Toks t) r (after-tokens t)
+
+    pub swap-provides : (r : List ℕ) → Swap (encode L t) (with-tokens (r ++ after-provides t)) (providesAt L) (writeLine L (t .provides)) r
+    unfolding encode
+    swap-provides r = part to-provides (writeLine L (t .provides)) r (after-provides t)
+
+    pub swap-table : (tb : Table) (b : ℕ → ℕ → ℕ → Bool) → Swap (encode L t) (encode L (withTable tb b t)) (tableAt L tb) (writeTable L (tableOf tb t)) (writeTable L b)
+    unfolding encode
+    swap-table Calls b = part to-calls (writeTable L (t .calls)) (writeTable L b) (after-calls t)
+    swap-table Grants b = part to-grants (writeTable L (t .grants)) (writeTable L b) (after-grants t)
+    swap-table Needs b = part to-needs (writeTable L (t .needs)) (writeTable L b) (after-needs t)
+
+    -- ---- each place of it, and that of the changed tables
+    pub swap-header : Swap (encode L t) (encode L t) 0 (L .header) (L .header)
+    unfolding encode
+    swap-header = swap-head (L .header) (L .header) _ (swap-after [] (encode L t) (encode L t) refl)
+
+    pub swap-used : (f : ℕ → Bool) → Swap (encode L t) (encode L (withUsed f t)) (usedAt L) (Used t) (writeBits L n f)
+    unfolding encode
+    swap-used f = part to-used (Used t) (writeBits L n f) (after-used t)
+
+    pub swap-unmet : (l : List Unmet) → Swap (encode L t) (encode L (withUnmet l t)) (unmetAt L) (Unmets t) (writeList L writeUnmet unmetSize l)
+    unfolding encode
+    swap-unmet l = part to-unmet (Unmets t) (writeList L writeUnmet unmetSize l) (Waitings t)
+
+    pub swap-waiting : (l : List Waiting) → Swap (encode L t) (encode L (withWaiting l t)) (waitingAt L) (Waitings t) (writeList L writeWaiting waitingSize l)
+    unfolding encode
+    swap-waiting l = to-waiting (Waitings t) (writeList L writeWaiting waitingSize l)
+
+    pub swap-aid : (k : ℕ) (a : Aid) → k < n → Swap (encode L t) (encode L (withAid k a t)) (aidAt L k) (writeAid (t .aid k)) (writeAid a)
+    unfolding encode
+    swap-aid k a lt =
+        let f : ℕ → Aid = λ x. cond (eqb x k) a (t .aid x) in
+        swap-cast (swap-upto (λ i. writeAid (t .aid i)) (λ i. writeAid (f i)) aidSize n k lt (λ i p. length-aid (t .aid i) (room .aid-short i))
+        (λ i ne. ap writeAid (sym (cond-no (eqb i k) a (t .aid i) (λ e. ne (eqb→eq i k e))))) (swap-aids (flat (λ i. writeAid (f i)) (upto n))))
+        refl refl (ap writeAid (cond-yes (eqb k k) a (t .aid k) (eqb-refl k)))
+
+    pub swap-tok : (j k : ℕ) (s : Tok) → j < n → k < m → Swap (encode L t) (encode L (withTok j k s t)) (tokAt L j k) (writeTok (t .tok j k)) (writeTok s)
+    unfolding encode
+    swap-tok j k s p q =
+        let f : ℕ → ℕ → Tok = λ x y. cond (eqb x j && eqb y k) s (t .tok x y) in
+        swap-cast (swap-grid (λ x y. writeTok (t .tok x y)) (λ x y. writeTok (f x y)) 2 n m j k p q (λ x y. refl)
+        (λ x y ne. ap writeTok (sym (cond-no (eqb x j && eqb y k) s (t .tok x y) (λ e. ne (both x y j k e))))) (swap-tokens (flat (Tokens f) (upto n))))
+        refl refl (ap writeTok (cond-yes (eqb j j && eqb k k) s (t .tok j k) (at-both j k)))
+
+    pub swap-row : (j : ℕ) (f : ℕ → Bool) → j < n → Swap (encode L t) (encode L (withProvides j f t)) (provAt L j) (writeBits L m (t .provides j)) (writeBits L m f)
+    unfolding encode
+    swap-row j f p =
+        let g : ℕ → ℕ → Bool = λ x y. cond (eqb x j) (f y) (t .provides x y) in
+        swap-cast (swap-upto (λ x. writeBits L m (t .provides x)) (λ x. writeBits L m (g x)) w n j p (λ x q. length-bits L m (t .provides x))
+        (λ x ne. ap (writeBits L m) (λ i y. sym (cond-no (eqb x j) (f y) (t .provides x y) (λ e. ne (eqb→eq x j e))) i)) (swap-provides (writeLine L g)))
+        refl refl (ap (writeBits L m) (λ i y. cond-yes (eqb j j) (f y) (t .provides j y) (eqb-refl j) i))
+
+    pub swap-entry : (tb : Table) (i j : ℕ) (f : ℕ → Bool) → i < n → j < n
+        → Swap (encode L t) (encode L (withEntry tb i j f t)) (entryAt L tb i j) (writeBits L m (tableOf tb t i j)) (writeBits L m f)
+    swap-entry tb i j f p q =
+        let b : ℕ → ℕ → ℕ → Bool = tableOf tb t in
+        let g : ℕ → ℕ → ℕ → Bool = λ x y z. cond (eqb x i && eqb y j) (f z) (b x y z) in
+        swap-cast (swap-grid (λ x y. writeBits L m (b x y)) (λ x y. writeBits L m (g x y)) w n n i j p q (λ x y. length-bits L m (b x y))
+        (λ x y ne. ap (writeBits L m) (λ r z. sym (cond-no (eqb x i && eqb y j) (f z) (b x y z) (λ e. ne (both x y i j e))) r)) (swap-table tb g))
+        refl refl (ap (writeBits L m) (λ r z. cond-yes (eqb i i && eqb j j) (f z) (b i j z) (at-both i j) r))
