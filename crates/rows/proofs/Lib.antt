@@ -1,0 +1,4 @@
+pub mod Over
+pub mod Same
+pub mod Area
+pub mod Lists
