@@ -25,7 +25,7 @@ bit-rest : (r k : ℕ) → bit r (suc k) ≡ bit (r / 2) k
 unfolding bit
 bit-rest r k = ap (λ (x : ℕ). eqb (x % 2) 1) (ap (λ (m : ℕ). r / 2 ^ m) (sym (one-add k)) ∙ sym (shr-shr r 1 k))
 
-bit-none : (k : ℕ) → bit zero k ≡ false
+pub bit-none : (k : ℕ) → bit zero k ≡ false
 bit-none zero = bit-low zero
 bit-none (suc k) = bit-rest zero k ∙ bit-none k
 
@@ -61,7 +61,7 @@ rowOf-none zero = refl
 rowOf-none (suc n) = ap (λ (x : ℕ). x * 2 + 0) (rowOf-none n)
 
 -- ---- a number of w bytes, before what follows
-length-number : (w n : ℕ) (bs : List ℕ) → length (writeNumber w n bs) ≡ w + length bs
+pub length-number : (w n : ℕ) (bs : List ℕ) → length (writeNumber w n bs) ≡ w + length bs
 length-number zero n bs = omega arith
 length-number (suc w) n bs = length-number w (n / 256) (n % 256 ∷ bs) ∙ omega arith
 

@@ -11,7 +11,7 @@ use Rattle.policy.specs.Contract.{Aid, eqAid, Tok, eqTok, Row}
 use Rattle.policy.specs.Layout.{Layout}
 use Rattle.policy.specs.Tables.{Tables}
 use Rattle.policy.specs.Lookup.{Place, numbers, places, numberOf, serviceOf, serverOf, freeNumber, freeService}
-use Rattle.policy.proofs.Sets.{and-l, and-r, and-i, not-e, not-i, Found, found, upto-in, in-upto}
+use Rattle.policy.proofs.Sets.{and-l, and-r, and-i, not-not, not-e, Found, found, upto-in, in-upto}
 use Rattle.policy.proofs.Equal.{eqAid→, eqAid-of, eqTok→, eqTok-of}
 use Rattle.policy.proofs.Formed.{Names}
 
@@ -31,15 +31,11 @@ abbrev pub FreeIs : ℕ → (ℕ → Bool) → Option ℕ → Type 0
 FreeIs most taken none = (n : ℕ) → n < most → T (taken n)
 FreeIs most taken (some n) = (n < most) × (T (taken n) → ⊥)
 
-all-taken : (b : Bool) → (T (not b) → ⊥) → T b
-all-taken true h = tt
-all-taken false h = h tt
-
 free-is : (most : ℕ) (taken : ℕ → Bool) → FreeIs most taken (first (λ n. not (taken n)) (upto most))
 free-is most taken = go (first (λ n. not (taken n)) (upto most)) (found (λ n. not (taken n)) (upto most))
   where
     go : (o : Option ℕ) → Found (λ n. not (taken n)) (upto most) o → FreeIs most taken o
-    go none h = λ n l. all-taken (taken n) (h n (in-upto most n l))
+    go none h = λ n l. not-not (taken n) (h n (in-upto most n l))
     go (some n) h = (upto-in most (h .0), not-e (taken n) (h .1))
 
 module _ (L : Layout) (t : Tables) where

@@ -2,6 +2,8 @@ pub mod Sets
 pub mod Equal
 pub mod Formed
 pub mod Found
+pub mod EveryBit
+pub mod Facts
 pub mod Answers
 pub mod Alter
 pub mod ContractAt

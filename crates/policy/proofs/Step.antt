@@ -21,8 +21,9 @@ use Rattle.policy.specs.Sound.{everyBit, sound}
 use Rattle.policy.specs.Draft.{Draft, look, draft, numberFor}
 use Rattle.policy.specs.Judge.{Out, refusal, tableCauses, lookCauses, judgeCauses, judged, judgeTables, judge}
 use Rattle.policy.specs.History.{SameContract, FourSets, StandsFor}
-use Rattle.policy.proofs.Sets.{T-true, true-T, false-T, not-i, not-e, implies-e, every-in, in-upto}
+use Rattle.policy.proofs.Sets.{T-true, not-false, nil-is}
 use Rattle.policy.proofs.Formed.{Formed, Lawful, Fitting, Off, HasContract, Stands, Turns, KindTurns, Valid}
+use Rattle.policy.proofs.Facts.{lawful-of}
 use Rattle.policy.proofs.SoundFacts.{sound-formed, sound-image}
 use Rattle.policy.proofs.RoundTrip.{round-trip, length-encode, header-encode}
 use Rattle.policy.proofs.ContractAt.{same-contract, has-contract}
@@ -54,33 +55,17 @@ image-stands L lo t cs g w fit st =
     }
 
 -- ---- an accepted draft
-granted-lawful : (L : Layout) (d : Draft) → Formed L (d .tables) → T (look L d .granted) → Lawful (d .tables)
-unfolding look
-granted-lawful L d g h i j k b =
-    let t = d .tables in
-    let pj = g .calls .of-prov i j k b in
-    let row = every-in (λ i. every (λ j. every (λ k. implies (t .calls i j k) (t .grants j i k)) (upto (L .services))) (upto (L .packages))) (upto (L .packages)) h
-    (in-upto (L .packages) i (g .names .used-lt i (g .calls .by-used i j k b))) in
-    let col = every-in (λ j. every (λ k. implies (t .calls i j k) (t .grants j i k)) (upto (L .services))) (upto (L .packages)) row
-    (in-upto (L .packages) j (g .names .used-lt j (g .names .prov-used j k pj))) in
-    implies-e (t .calls i j k) (t .grants j i k)
-    (every-in (λ k. implies (t .calls i j k) (t .grants j i k)) (upto (L .services)) col (in-upto (L .services) k (g .names .prov-lt j k pj))) b
-
-no-lost : (l : List Unmet) → T (isNil l) → l ≡ []
-no-lost [] t = refl
-no-lost (u ∷ l) t = absurd t
-
 -- no cause from 8 on: the tables are lawful and fit, and no need is lost
 pub accepted : (L : Layout) (d : Draft) → Formed L (d .tables) → answer (lookCauses L (look L d)) ≡ 0 → Lawful (d .tables) × Fitting L (d .tables) × (d .lost ≡ [])
 unfolding look
 accepted L d g e =
     let p = none-of-four (look L d .granted) (look L d .needed) (look L d .unmetFits) (look L d .waitingFits) e in (
-      granted-lawful L d g (p .0),
+      lawful-of L (d .tables) g (p .0),
       record {
         unmet-fits = leb→le (length (d .tables .unmet)) (L .capacity) (p .2);
         waiting-fits = leb→le (length (d .tables .waiting)) (L .capacity) (p .3);
       },
-      no-lost (d .lost) (p .1),
+      nil-is (d .lost) (p .1),
     )
 
 -- ---- the two lists of causes
@@ -117,10 +102,6 @@ module _ (L : Layout) (lo : LayoutOk L) (t : Tables) (cs : List Contract) (g : F
 
   turns : answer early ≡ 0 → Turns L d ds
   turns e = let p = answer-zero 2 (not (proper a c)) (tableCauses L t a c) e in kinds c L t cs a g st va vc (not-false (proper a c) (p .0)) (p .1)
-    where
-      not-false : (b : Bool) → not b ≡ false → T b
-      not-false true e = tt
-      not-false false e = absurd (false-T e tt)
 
   pub answers-agree : answer (judgeCauses L t q) ≡ answer (causes3to11 L cs q)
   answers-agree =

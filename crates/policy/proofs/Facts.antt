@@ -1,0 +1,56 @@
+-- What follows at once from the facts: where bits stand, lawful tables by their test, no rows, and the contract of a number.
+use Prim.Native.Nat.{ℕ, _<_}
+use mathlib.Core.Path.{_≡_, sym, _∙_, subst}
+use mathlib.Core.Bool.{Bool}
+use mathlib.Core.List.{List, []}
+use mathlib.Core.List.{List·Memᴰ as In, List·Memᴰ·not-nil as in-nil}
+use lib.Dec.{T}
+use Rattle.policy.specs.Contract.{Row, Contract}
+use Rattle.policy.specs.Layout.{Layout}
+use Rattle.policy.specs.Tables.{Tables, Unmet}
+use Rattle.policy.proofs.Formed.{Names, Bits, Off, grantBit, Formed, Lawful, ProvidesAt, at, GrantAt, bit, row, HasContract, Stands}
+use Rattle.policy.proofs.EveryBit.{BitIn, among, among-to, among-back}
+
+pub no-rows : (t : Tables) → Off (t .used) (t .aid) (t .tok) (t .provides) []
+no-rows t = record { off-used = λ u m. absurd (in-nil m); off-card = λ u m. absurd (in-nil m) }
+
+module _ (L : Layout) (t : Tables) where
+  module _ (names : Names L (t .used) (t .aid) (t .tok) (t .provides)) where
+    -- ---- a provided service and a bit stand within the tables
+    pub place-in : (j k : ℕ) → T (t .provides j k) → (j < L .packages) × (k < L .services)
+    place-in j k p = (names .used-lt j (names .prov-used j k p), names .prov-lt j k p)
+
+    pub bit-in : {b : ℕ → ℕ → ℕ → Bool} → Bits (t .used) (t .provides) b → (i j k : ℕ) → T (b i j k) → BitIn L i j k
+    bit-in h i j k m = let p = place-in j k (h .of-prov i j k m) in (names .used-lt i (h .by-used i j k m), p .0, p .1)
+
+    -- ---- a contract with the AID of package n is that of n, and there is one
+    module _ {lost : List Unmet} where
+      pub at-aid : (c : Contract) (m n : ℕ) → T (t .used m) → HasContract t lost m c → T (t .used n) → c .aid ≡ t .aid n → HasContract t lost n c
+      at-aid c m n um h un e = subst (λ (z : ℕ). HasContract t lost z c) (names .aid-inj m n um un (sym (h .aid) ∙ e)) h
+
+      pub contract-of : {cs : List Contract} → Stands t lost cs → (n : ℕ) → T (t .used n) → (c : Contract) × In c cs × HasContract t lost n c
+      contract-of st n u =
+          let p = st .no-others n u in
+          let h = st .these (p .0) (p .1) in
+          (p .0, p .1, at-aid (p .0) (h .0) n (h .1) (h .2) u (p .2))
+
+  module _ (f : Formed L t) where
+    -- needs are calls
+    pub need-bits : Bits (t .used) (t .provides) (t .needs)
+    need-bits = record {
+      by-used = λ x y z h. f .calls .by-used x y z (f .need-call x y z h);
+      of-prov = λ x y z h. f .calls .of-prov x y z (f .need-call x y z h);
+      other = λ x y z h. f .calls .other x y z (f .need-call x y z h);
+    }
+
+    -- a granted service is provided
+    pub granted-provided : (n : ℕ) (r : Row) → GrantAt t n r → ProvidesAt t n (r .tok)
+    granted-provided n r (bit i k b e q) = at k (f .grants .of-prov i n k b) q
+    granted-provided n r (row k m q) = at k (f .waiting .wait-prov (record { caller = r .aid; callee = n; service = k }) m) q
+
+    -- ---- every call bit has its grant bit
+    pub lawful-of : T (among L (t .calls) (grantBit t)) → Lawful t
+    lawful-of h i j k b = among-to L (t .calls) (grantBit t) h i j k (bit-in (f .names) (f .calls) i j k b) b
+
+  pub of-lawful : Lawful t → T (among L (t .calls) (grantBit t))
+  of-lawful = among-back L (t .calls) (grantBit t)
