@@ -14,6 +14,7 @@ use Rattle.policy.specs.Lists.{flat, upto}
 use Rattle.policy.specs.Layout.{Layout, LayoutOk}
 use Rattle.policy.specs.Tables.{bit, rowOf, readNumber, writeNumber, bitOf, writeBits, pieces, readTable, writeTable}
 use Rattle.policy.proofs.Sets.{T-eq, T-false, and-l, and-r, and-i}
+use Rattle.policy.proofs.EveryBit.{BitIn}
 use Rattle.policy.proofs.Pieces.{in-or-off, length-table, piece-at, piece-off, read-at, read-off, Zeros}
 
 -- ---- a row of bits
@@ -136,7 +137,7 @@ module _ (L : Layout) where
             ∙ read-bits m (f j) (lo .services-fit) (λ k t. lt j k t .1) k
         go (inr p) = off m (getD (pieces w n bs) j []) (f j k) k (piece-off w n bs j p) (λ t. not-le-of-lt (lt j k t .0) p)
 
-    pub read-lines : (b : ℕ → ℕ → ℕ → Bool) → ((i j k : ℕ) → T (b i j k) → (i < n) × (j < n) × (k < m)) → (bs rest : List ℕ) → bs ≡ writeTable L b ++ rest
+    pub read-lines : (b : ℕ → ℕ → ℕ → Bool) → ((i j k : ℕ) → T (b i j k) → BitIn L i j k) → (bs rest : List ℕ) → bs ≡ writeTable L b ++ rest
         → (i j k : ℕ) → readTable L bs i j k ≡ b i j k
     read-lines b lt bs rest e i j k = go (in-or-off i n)
       where

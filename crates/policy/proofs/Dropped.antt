@@ -12,30 +12,11 @@ use Rattle.policy.specs.Layout.{Layout}
 use Rattle.policy.specs.Tables.{Tables, Unmet, noTok}
 use Rattle.policy.specs.Lookup.{serviceAt, wanted, places, numbers}
 use Rattle.policy.specs.Draft.{callRow, leftBy}
-use Rattle.policy.proofs.Sets.{and-l, and-r, and-i, test, keep-in, in-keep, once-keep, map-in, in-map, once-map, flat-in, in-flat, once-flat, once-append, each-append, once-upto, in-upto}
+use Rattle.policy.proofs.Sets.{and-l, and-r, and-i, test, pairs-in, in-pairs, once-pairs, once-append, each-append, once-upto, in-upto}
 use Rattle.policy.proofs.Equal.{eqb-of}
 use Rattle.policy.proofs.Formed.{Formed, Lawful, Names, Bits, Off, UnmetRows, WaitingRows, grantBit, RowAt, bit, row}
 use Rattle.policy.proofs.Found.{same-place}
-
--- ---- rows g i k for the pairs that pass f
-module _ {B : Type 0} (g : ℕ → ℕ → B) (f : ℕ → ℕ → Bool) (l m : List ℕ) where
-  pub pairs-in : {x : B} → In x (flat (λ i. map (g i) (keep (f i) l)) m) → (i : ℕ) × (k : ℕ) × T (f i k) × (x ≡ g i k)
-  pairs-in h =
-      let p = flat-in (λ i. map (g i) (keep (f i) l)) m h in
-      let q = map-in (g (p .0)) (keep (f (p .0)) l) (p .2) in
-      (p .0, q .0, keep-in (f (p .0)) l (q .1) .1, q .2)
-
-  pub in-pairs : (i k : ℕ) → In i m → In k l → T (f i k) → In (g i k) (flat (λ i. map (g i) (keep (f i) l)) m)
-  in-pairs i k a b h = in-flat (λ i. map (g i) (keep (f i) l)) a (in-map (g i) (in-keep (f i) b h))
-
-  pub once-pairs : NoRepeat l → NoRepeat m → ((i k i′ k′ : ℕ) → T (f i k) → T (f i′ k′) → g i k ≡ g i′ k′ → (i ≡ i′) × (k ≡ k′))
-      → NoRepeat (flat (λ i. map (g i) (keep (f i) l)) m)
-  once-pairs dl dm inj = once-flat (λ i. map (g i) (keep (f i) l)) m dm
-      (λ i _. once-map (g i) (keep (f i) l) (λ k k′ a b e. inj i k i k′ (keep-in (f i) l a .1) (keep-in (f i) l b .1) e .1) (once-keep (f i) l dl))
-      (λ i i′ x _ _ a b.
-      let p = map-in (g i) (keep (f i) l) a in
-      let q = map-in (g i′) (keep (f i′) l) b in
-      inj i (p .0) i′ (q .0) (keep-in (f i) l (p .1) .1) (keep-in (f i′) l (q .1) .1) (sym (p .2) ∙ q .2) .0)
+use Rattle.policy.proofs.Facts.{no-rows, bit-in, need-bits}
 
 -- ---- what the bits of b on the services d of package j leave
 module _ (L : Layout) (t : Tables) (names : Names L (t .used) (t .aid) (t .tok) (t .provides)) (j : ℕ) (d : ℕ → Bool)
@@ -47,8 +28,9 @@ module _ (L : Layout) (t : Tables) (names : Names L (t .used) (t .aid) (t .tok) 
 
   pub in-left-by : (i k : ℕ) → T (b i j k) → T (d k) → In (callRow i (serviceAt t j k)) (leftBy L t b j d)
   in-left-by i k h g =
+      let l = bit-in L t names bits i j k h in
       in-pairs (λ i k. callRow i (serviceAt t j k)) (λ i k. b i j k && d k) (places L t) (numbers L t) i k
-      (in-upto (L .packages) i (names .used-lt i (bits .by-used i j k h))) (in-upto (L .services) k (names .prov-lt j k (bits .of-prov i j k h)))
+      (in-upto (L .packages) i (l .0)) (in-upto (L .services) k (l .2))
       (and-i (b i j k) (d k) h g)
 
   pub once-left : NoRepeat (leftBy L t b j d)
@@ -98,13 +80,6 @@ pub record Dropping (L : Layout) (t t′ : Tables) (j : ℕ) (d : ℕ → Bool) 
 
 none-stay : (t′ : Tables) → RowsStay t′ [] []
 none-stay t′ = record { old = λ u m. m; used = λ u m. absurd (in-nil m); stays = λ u m _. m; once = tt }
-
-pub need-bits : {L : Layout} {t : Tables} → Formed L t → Bits (t .used) (t .provides) (t .needs)
-need-bits fm = record {
-  by-used = λ x y z h. fm .calls .by-used x y z (fm .need-call x y z h);
-  of-prov = λ x y z h. fm .calls .of-prov x y z (fm .need-call x y z h);
-  other = λ x y z h. fm .calls .other x y z (fm .need-call x y z h);
-}
 
 module _ (L : Layout) (t t′ : Tables) (names : Names L (t .used) (t .aid) (t .tok) (t .provides)) (j : ℕ) (d : ℕ → Bool) (w : Without t t′ j d) where
   names-without : Names L (t′ .used) (t′ .aid) (t′ .tok) (t′ .provides)
@@ -211,8 +186,7 @@ module _ (L : Layout) (t t′ : Tables) (j : ℕ) (d : ℕ → Bool) (m : List U
   }
 
   pub lost-dropped : Off (t′ .used) (t′ .aid) (t′ .tok) (t′ .provides) (leftBy L t (t .needs) j d)
-  lost-dropped = off-without L t t′ (fm .names) j d (dr .without) (t .needs) (need-bits fm) [] [] (none-stay t′)
-      (record { off-used = λ u h. absurd (in-nil h); off-card = λ u h. absurd (in-nil h) })
+  lost-dropped = off-without L t t′ (fm .names) j d (dr .without) (t .needs) (need-bits L t fm) [] [] (none-stay t′) (no-rows t)
 
   -- ---- the contract of a package that stays
   pub calls-dropped : (n : ℕ) → T (t′ .used n) → (r : Row) {l : List Row} → (In r l ↔ RowAt t (t .calls) (t .unmet) n r) → In r l ↔ RowAt t′ (t′ .calls) (t′ .unmet) n r
@@ -220,7 +194,7 @@ module _ (L : Layout) (t t′ : Tables) (j : ℕ) (d : ℕ → Bool) (m : List U
       (row-without L t t′ (fm .names) j d (dr .without) (t .calls) (fm .calls) (t .unmet) m (dr .unmet-stay) (t′ .calls) (dr .calls-stay) n u r h)
 
   pub needs-dropped : (n : ℕ) → T (t′ .used n) → (r : Row) {l : List Row} → (In r l ↔ RowAt t (t .needs) [] n r) → In r l ↔ RowAt t′ (t′ .needs) (leftBy L t (t .needs) j d) n r
-  needs-dropped n u r h = row-without L t t′ (fm .names) j d (dr .without) (t .needs) (need-bits fm) [] [] (none-stay t′) (t′ .needs) (dr .needs-stay) n u r h
+  needs-dropped n u r h = row-without L t t′ (fm .names) j d (dr .without) (t .needs) (need-bits L t fm) [] [] (none-stay t′) (t′ .needs) (dr .needs-stay) n u r h
 
   pub lawful-dropped : Lawful t → Lawful t′
   lawful-dropped law x y z h =

@@ -21,12 +21,11 @@ use Rattle.policy.specs.Sound.{sound}
 use Rattle.policy.specs.Draft.{Look, look, draft, numberFor}
 use Rattle.policy.specs.Judge.{Out, refusal, tableCauses, lookCauses, judgeCauses, judged, judgeTables, judge, check, writeEmpty, loadRecord, wrote, readOutTables, readOut}
 use Rattle.policy.specs.Claims.{IsFirst, RefusesWith, AnswersAlways}
-use Rattle.policy.proofs.Sets.{T-true, true-T, false-T, every-in, in-from}
+use Rattle.policy.proofs.Sets.{T-true, true-T, not-false, every-in, in-from, length-keep, length-from}
 use Rattle.policy.proofs.Formed.{Names}
 use Rattle.policy.proofs.Found.{NumberIs, FreeIs, number-is, free-number-is}
 use Rattle.policy.proofs.Answers.{answer-zero, ascends, answer-append-zero, first-is}
 use Rattle.policy.proofs.SoundFacts.{sound-formed}
-use Rattle.policy.proofs.ReadOut.{length-keep, length-from}
 use Rattle.policy.proofs.Step.{judge-ascends}
 
 module _ (L : Layout) where
@@ -60,18 +59,14 @@ module _ (L : Layout) where
   module _ (t : Tables) (a : Aid) where
     -- a package that is installed, or for a load a free number
     abbrev Known : Type 0
-    Known = (isSome (numberOf L t a) ≡ true) ⊎ (isSome (freeNumber L t) ≡ true)
-
-    met : (b : Bool) → not b ≡ false → b ≡ true
-    met true e = refl
-    met false e = absurd (false-T e tt)
+    Known = T (isSome (numberOf L t a)) ⊎ T (isSome (freeNumber L t))
 
     present : (l : List Cause) → answer (5 when not (isSome (numberOf L t a)) ∷ l) ≡ 0 → Known
-    present l e = inl (met (isSome (numberOf L t a)) (answer-zero 4 (not (isSome (numberOf L t a))) l e .0))
+    present l e = inl (not-false (isSome (numberOf L t a)) (answer-zero 4 (not (isSome (numberOf L t a))) l e .0))
 
     known : (c : Change) → answer (tableCauses L t a c) ≡ 0 → Known
     known (load p c g n) e =
-        inr (met (isSome (freeNumber L t)) (answer-zero 6 (not (isSome (freeNumber L t))) [] (answer-zero 3 (isSome (numberOf L t a)) (7 when not (isSome (freeNumber L t)) ∷ []) e .1) .0))
+        inr (not-false (isSome (freeNumber L t)) (answer-zero 6 (not (isSome (freeNumber L t))) [] (answer-zero 3 (isSome (numberOf L t a)) (7 when not (isSome (freeNumber L t)) ∷ []) e .1) .0))
     known remove e = present [] e
     known (addService s l) e = present (tail (tableCauses L t a (addService s l))) e
     known (removeService s) e = present (tail (tableCauses L t a (removeService s))) e
@@ -86,11 +81,11 @@ module _ (L : Layout) where
     unfolding numberFor
     number-lt names = go (numberOf L t a) (number-is L t names a) (freeNumber L t) (free-number-is L t)
       where
-        go : (o : Option ℕ) → NumberIs t a o → (f : Option ℕ) → FreeIs (L .packages) (t .used) f → (isSome o ≡ true) ⊎ (isSome f ≡ true) → orElse o (orElse f 255 (λ n. n)) (λ n. n) < L .packages
+        go : (o : Option ℕ) → NumberIs t a o → (f : Option ℕ) → FreeIs (L .packages) (t .used) f → T (isSome o) ⊎ T (isSome f) → orElse o (orElse f 255 (λ n. n)) (λ n. n) < L .packages
         go (some n) h f i w = names .used-lt n (h .0)
         go none h (some n) i w = i .0
-        go none h none i (inl e) = absurd (true-T e)
-        go none h none i (inr e) = absurd (true-T e)
+        go none h none i (inl e) = absurd e
+        go none h none i (inr e) = absurd e
 
   -- ---- an entry on an image
   module _ {A : Type 0} (P : A → Type 0) (x y : A) where

@@ -17,7 +17,7 @@ use Rattle.policy.specs.Machine.{altered, alter}
 use Rattle.policy.specs.Tables.{Tables, Unmet, Waiting}
 use Rattle.policy.specs.Lookup.{serviceAt, numberOf, freeService, contractAt}
 use Rattle.policy.specs.Draft.{callRow, hasUnmet, asksFor, addServiceAt, kept, draft}
-use Rattle.policy.proofs.Sets.{test, and-l, and-r, and-i, or-l, or-r, or-e, not-i, not-e, false-T}
+use Rattle.policy.proofs.Sets.{none-to, test, and-l, and-r, and-i, or-l, or-r, or-e, not-i, not-e, false-T}
 use Rattle.policy.proofs.Sets.{every-in, keep-in, in-keep, once-keep, in-map, map-in, once-map, once-append, once-snoc, each-append, distinct→once}
 use Rattle.policy.proofs.Equal.{eqAid→, eqAid-refl, eqAid-of, eqb-of, eqTok→, eqTok-of, tok-has, has-aid, aid-has, has-unmet, unmet-has}
 use Rattle.policy.proofs.Formed.{Names, Bits, Formed, ProvidesAt, at, grantBit, RowAt, bit, row, GrantAt, HasContract, Stands, Turns, KindTurns}
@@ -129,11 +129,7 @@ module _ (L : Layout) (t : Tables) (f : Formed L t) (j k : ℕ) (uj : T (t .used
   lone b = not (isSome (numberOf L t b))
 
   lone-off : (b : Aid) → T (lone b) → NumberIs t b none
-  lone-off b h = go (numberOf L t b) (number-is L t (f .names) b) h
-    where
-      go : (o : Option ℕ) → NumberIs t b o → T (not (isSome o)) → NumberIs t b none
-      go none n q = n
-      go (some x) n q = absurd q
+  lone-off b = none-to (NumberIs t b) (numberOf L t b) (number-is L t (f .names) b)
 
   abbrev wait : ℕ → ℕ → Aid → Waiting
   wait n z b = record { caller = b; callee = n; service = z }

@@ -17,21 +17,13 @@ use Rattle.policy.specs.Lookup.{numberOf, numbers, places}
 use Rattle.policy.specs.Draft.{kept, Draft, Look, draft, removeAt}
 use Rattle.policy.specs.Judge.{tableCauses}
 use Rattle.policy.specs.ShortCheck.{fine, shortRemove, shortLook}
-use Rattle.policy.proofs.Sets.{and-l, and-r, and-i, or-l, or-r, not-i, not-e, false-T, T-false, test, keep-in, in-keep, once-keep, map-in, in-map, once-append, each-append, in-upto, once-upto}
+use Rattle.policy.proofs.Sets.{and-l, and-r, and-i, or-l, or-r, not-i, not-e, false-T, T-false, test, keep-in, in-keep, once-keep, map-in, in-map, once-map-keep, once-append, each-append, in-upto, once-upto, pairs-in, in-pairs, once-pairs}
 use Rattle.policy.proofs.Equal.{eqAid→, eqAid-of, eqb-of}
 use Rattle.policy.proofs.Formed.{Formed, Bits, WaitingRows, grantBit, ProvidesAt, at, GrantAt, bit, row, HasContract, Stands, Turns, KindTurns}
 use Rattle.policy.proofs.Found.{NumberIs, number-is}
 use Rattle.policy.proofs.Answers.{answer-zero}
-use Rattle.policy.proofs.Dropped.{pairs-in, in-pairs, once-pairs, Without, BitsStay, RowsStay, Dropping, need-bits, formed-dropped, lost-dropped, calls-dropped, needs-dropped}
-
--- ---- a list of which some stay has no more repetitions, by what is read of each
-once-map-keep : {A B : Type 0} (g : A → B) (f : A → Bool) (l : List A) → NoRepeat (map g l) → NoRepeat (map g (keep f l))
-once-map-keep g f [] d = tt
-once-map-keep g f (x ∷ l) d = go (f x) (once-map-keep g f l (d .1))
-  where
-    go : (b : Bool) → NoRepeat (map g (keep f l)) → NoRepeat (map g (cond b (x ∷ keep f l) (keep f l)))
-    go true h = (λ m. let p = map-in g (keep f l) m in d .0 (in-cast (p .2) (in-map g (keep-in f l (p .1) .0))), h)
-    go false h = h
+use Rattle.policy.proofs.Facts.{place-in, need-bits}
+use Rattle.policy.proofs.Dropped.{Without, BitsStay, RowsStay, Dropping, formed-dropped, lost-dropped, calls-dropped, needs-dropped}
 
 -- neither end of a bit is n
 neither : (p q : Bool) → T (not (p || q)) → (T p → ⊥) × (T q → ⊥)
@@ -117,7 +109,7 @@ module _ (L : Layout) (t : Tables) (fm : Formed L t) (n : ℕ) (un : T (t .used 
   calls-stay = bits-stay (t .calls) (fm .calls) (λ x y. not (eqb x n || eqb y n)) away away-i
 
   needs-stay : BitsStay t′ n (λ z. true) (t .needs) (t′ .needs)
-  needs-stay = bits-stay (t .needs) (need-bits fm) (λ x y. not (eqb x n || eqb y n)) away away-i
+  needs-stay = bits-stay (t .needs) (need-bits L t fm) (λ x y. not (eqb x n || eqb y n)) away away-i
 
   grants-stay : BitsStay t′ n (λ z. true) (grantBit t) (grantBit t′)
   grants-stay = bits-stay (grantBit t) (fm .grants) (λ x y. not (eqb y n || eqb x n)) (λ x y h. let p = away y x h in (p .1, p .0)) (λ x y f g. away-i y x g f)
@@ -197,10 +189,10 @@ module _ (L : Layout) (t : Tables) (fm : Formed L t) (n : ℕ) (un : T (t .used 
         go (inl q) =
             let ei : i ≡ n = eqb→eq i n q in
             let g : T (t .grants m n k) = subst (λ (x : ℕ). T (t .grants m x k)) ei h in
-            let p : T (t .provides m k) = fm .grants .of-prov n m k g in
+            let l = place-in L t (fm .names) m k (fm .grants .of-prov n m k g) in
             row k (in-right stayW (in-cast (λ z. record { caller = (e ∙ ap (t .aid) ei) z; callee = m; service = k })
             (in-pairs waitFor (λ j. t .grants j n) (places L t) (numbers L t) m k
-            (in-upto (L .packages) m (fm .names .used-lt m (fm .names .prov-used m k p))) (in-upto (L .services) k (fm .names .prov-lt m k p)) g)))
+            (in-upto (L .packages) m (l .0)) (in-upto (L .services) k (l .1)) g)))
             (f ∙ sym (tok-same m k ne))
         go (inr q) =
             let ni : i ≡ n → ⊥ = λ x. q (eqb-of x) in

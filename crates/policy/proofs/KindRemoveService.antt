@@ -24,7 +24,8 @@ use Rattle.policy.proofs.Formed.{Formed, Bits, grantBit, ProvidesAt, at
 use Rattle.policy.proofs.Found.{NumberIs, number-is, ServiceIs, service-is}
 use Rattle.policy.proofs.Answers.{answer-zero}
 use Rattle.policy.proofs.Alter.{stands-alter}
-use Rattle.policy.proofs.Dropped.{Without, BitsStay, Dropping, need-bits, formed-dropped, lost-dropped, calls-dropped, needs-dropped}
+use Rattle.policy.proofs.Facts.{need-bits}
+use Rattle.policy.proofs.Dropped.{Without, BitsStay, Dropping, formed-dropped, lost-dropped, calls-dropped, needs-dropped}
 use Rattle.policy.proofs.ContractAt.{provides-at}
 
 module _ (L : Layout) (t : Tables) (fm : Formed L t) (j k : ℕ) (pk : T (t .provides j k)) where
@@ -103,7 +104,7 @@ module _ (L : Layout) (t : Tables) (fm : Formed L t) (j k : ℕ) (pk : T (t .pro
     without = without;
     calls-stay = bits-stay (t .calls) (fm .calls);
     grants-stay = bits-stay (grantBit t) (fm .grants);
-    needs-stay = bits-stay (t .needs) (need-bits fm);
+    needs-stay = bits-stay (t .needs) (need-bits L t fm);
     unmet-stay = record { old = λ u m. m; used = fm .unmet .off .off-used; stays = λ u m _. m; once = fm .unmet .unmet-once };
     unmet-is = refl;
     waiting = record {

@@ -12,7 +12,7 @@ use Rattle.policy.specs.Layout.{Layout}
 use Rattle.policy.specs.Tables.{Tables, Unmet, Waiting}
 use Rattle.policy.specs.Lookup.{Place, numberOf, serviceOf, serverOf, serviceAt}
 use Rattle.policy.specs.Draft.{callRow, loadedNames, notServed, loadedService, loadAt}
-use Rattle.policy.proofs.Sets.{and-i, not-e, map-in, keep-in, once-keep, once-map, once-append, each-append}
+use Rattle.policy.proofs.Sets.{none-to, and-i, not-e, map-in, keep-in, once-keep, once-map, once-append, each-append}
 use Rattle.policy.proofs.Equal.{eqAid-of, tok-has}
 use Rattle.policy.proofs.Formed.{Names, Bits, Off, UnmetRows, WaitingRows, Formed, grantBit, ValidRows}
 use Rattle.policy.proofs.Found.{NumberIs, number-is, ServiceIs, service-is, ServerIs, server-is}
@@ -66,18 +66,10 @@ module _ (L : Layout) (t : Tables) (m : ℕ) (k : Contract) where
     names-on = names-loaded L t m k new valid
 
     not-served : (r : Row) → T (notServed L t m k r) → ServerIs on r none
-    not-served r = go (serverOf L on r) (server-is L on names-on r)
-      where
-        go : (o : Option Place) → ServerIs on r o → T (not (isSome o)) → ServerIs on r none
-        go none h s = h
-        go (some p) h s = absurd s
+    not-served r = none-to (ServerIs on r) (serverOf L on r) (server-is L on names-on r)
 
     not-installed : (r : Row) → T (uninstalled r) → NumberIs t (r .aid) none
-    not-installed r = go (numberOf L t (r .aid)) (number-is L t (new .formed .names) (r .aid))
-      where
-        go : (o : Option ℕ) → NumberIs t (r .aid) o → T (not (isSome o)) → NumberIs t (r .aid) none
-        go none h s = h
-        go (some n) h s = absurd s
+    not-installed r = none-to (NumberIs t (r .aid)) (numberOf L t (r .aid)) (number-is L t (new .formed .names) (r .aid))
 
     -- 'its services take 0, 1, 2 in record order'
     pub service-loaded : {s : Tok} → In s (k .provides) → T (on .provides m (loadedService L t m k s)) × (on .tok m (loadedService L t m k s) ≡ s)

@@ -15,6 +15,7 @@ use Rattle.policy.specs.Layout.{Layout}
 use Rattle.policy.specs.Record.{Change, addCall, removeCall, addGrant, removeGrant, addNeed, removeNeed, Request, Got, got, bad, Reader, andThen, _>>=_, done, given}
 use Rattle.policy.specs.Record.{byte, bytes, number, aid, tokens, aRow, many, counted, aLoad, aService, kinds, change, fields, whole, parse, firstAid}
 use Rattle.policy.specs.Claims.{FirstAidPart}
+use Rattle.policy.proofs.Sets.{each-cons}
 use Rattle.policy.proofs.Formed.{Valid, ValidRows}
 
 -- ---- what was read satisfies P, if anything was
@@ -38,13 +39,6 @@ module _ {A : Type 0} (P : A → Type 0) where
   reads-whole L (got a []) h = h
   reads-whole L (got a (b ∷ s)) h = tt
   reads-whole L bad h = tt
-
-  each-cons : (x : A) (l : List A) → P x → Each l → Each (x ∷ l)
-  each-cons x l h e y m = go (in-cons m)
-    where
-      go : (y ≡ x) ⊎ In y l → P y
-      go (inl q) = subst P (sym q) h
-      go (inr n) = e y n
 
 -- one reader after another
 reads-then : {A B : Type 0} (P : A → Type 0) (Q : B → Type 0) (x : Got A) (f : A → Reader B)

@@ -7,18 +7,18 @@ use mathlib.Core.Path.{_≡_, refl, sym, ap, _∙_}
 use mathlib.Core.Logic.{_⊎_, inl, inr}
 use mathlib.Core.List.{List, [], _∷_, _++_, map, append-assoc, append-nil}
 use mathlib.Core.List.{List·Memᴰ as In, List·Memᴰ·head as here, List·Memᴰ·tail as there}
-use lib.Dec.{T, ltb, ltb→lt, nltb→le}
+use lib.Dec.{T, leb, leb→le, ltb, ltb→lt, nltb→le}
 use lib.ListN.{length, getD, take, drop, replicate, length-append, length-map, length-replicate, replicate-append-replicate, List·getD-eq-default}
 use lib.Seq.{take-at, drop-at}
 use Rattle.policy.specs.Lists.{flat, from, upto}
-use Rattle.policy.specs.Contract.{Aid}
+use Rattle.policy.specs.Contract.{Aid, validAid}
 use Rattle.policy.specs.Layout.{Layout}
 use Rattle.policy.specs.Tables.{Unmet, Waiting, pieces, readAid, writeAid, readTok, writeTok, readUnmet, writeUnmet, readWaiting, writeWaiting, readList, writeList}
-use Rattle.policy.proofs.Sets.{test, not-i, length-from, upto-in}
+use Rattle.policy.proofs.Sets.{test, and-r, not-i, length-from, upto-in}
 
 -- ---- one piece for each element of a list
 module _ {A : Type 0} (g : A → List ℕ) (w : ℕ) where
-  length-flat : (l : List A) → ((x : A) → In x l → length (g x) ≡ w) → length (flat g l) ≡ length l * w
+  pub length-flat : (l : List A) → ((x : A) → In x l → length (g x) ≡ w) → length (flat g l) ≡ length l * w
   length-flat [] h = omega arith
   length-flat (x ∷ l) h = length-append (g x) (flat g l) ∙ rw (h x (here refl), length-flat l (λ y m. h y (there m)), suc-mul (length l) w) (omega arith)
 
@@ -97,6 +97,10 @@ module _ (L : Layout) {A : Type 0} (f : List ℕ → A) (g : A → List ℕ) (w 
       each (x ∷ l) e = λ i. e x (here refl) i ∷ each l (λ y m. e y (there m)) i
 
 -- ---- single places
+-- a valid AID has room in its place
+pub valid-short : (a : Aid) → T (validAid a) → length a ≤ 16
+valid-short a t = leb→le (length a) 16 (and-r (leb 5 (length a)) (leb (length a) 16) t)
+
 pub length-aid : (a : Aid) → length a ≤ 16 → length (writeAid a) ≡ 17
 length-aid a h = ap suc (length-append a (replicate (16 - length a) 0) ∙ rw length-replicate (omega arith))
 

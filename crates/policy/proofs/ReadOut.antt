@@ -17,34 +17,15 @@ use Rattle.policy.specs.Record.{load, notOwn, parse, proper}
 use Rattle.policy.specs.Tables.{Tables}
 use Rattle.policy.specs.Lookup.{numbers, places, serviceAt, wanted, grantAt, contractAt}
 use Rattle.policy.specs.Judge.{loadRecord}
-use Rattle.policy.proofs.Sets.{and-i, not-i, T-false, in-every, once→distinct, in-upto}
+use Rattle.policy.proofs.Sets.{length-keep, length-from, length-flat-le, and-i, not-i, T-false, in-every, once→distinct, in-upto}
 use Rattle.policy.proofs.Equal.{eqAid→, eqTok→, eqTok-refl, eqRow→, eqRow-refl, row-has, tok-has}
 use Rattle.policy.proofs.Formed.{Formed, Fitting, ProvidesAt, at, RowAt, GrantAt, ValidRows}
+use Rattle.policy.proofs.Facts.{need-bits, granted-provided}
 use Rattle.policy.proofs.ContractAt.{provides-at, calls-at, grants-at, needs-at, four-sets-at}
 use Rattle.policy.proofs.Written.{load-parses}
 
 -- ---- lengths
-pub length-keep : {A : Type 0} (f : A → Bool) (l : List A) → length (keep f l) ≤ length l
-length-keep f [] = omega arith
-length-keep {A} f (x ∷ l) = go (f x) (length-keep f l)
-  where
-    go : (b : Bool) → length (keep f l) ≤ length l → length (cond b (x ∷ keep f l) (keep f l)) ≤ suc (length l)
-    go true h = omega arith
-    go false h = omega arith
-
-pub length-from : (i n : ℕ) → length (from i n) ≡ n
-length-from i zero = refl
-length-from i (suc n) = ap suc (length-from (suc i) n)
-
 module _ {A : Type 0} (f : ℕ → List A) (most : ℕ) (each : (x : ℕ) → length (f x) ≤ most) where
-  length-flat : (l : List ℕ) → length (flat f l) ≤ length l * most
-  length-flat [] = omega arith
-  length-flat (x ∷ l) =
-      let a = each x in
-      let b = length-flat l in
-      let e = length-append (f x) (flat f l) in
-      rw (suc-mul (length l) most) (omega arith)
-
   -- one of them is empty
   length-flat-but : (n : ℕ) → f n ≡ [] → (l : List ℕ) → In n l → length (flat f l) ≤ (length l - 1) * most
   length-flat-but n e [] m = absurd (in-nil m)
@@ -64,7 +45,7 @@ module _ {A : Type 0} (f : ℕ → List A) (most : ℕ) (each : (x : ℕ) → le
       go : (n ≡ x) ⊎ In n l → (In n l → length (flat f l) ≤ (length l - 1) * most) → length (f x ++ flat f l) ≤ (suc (length l) - 1) * most
       go (inl q) ih =
           let z : length (f x) ≡ 0 = ap (λ (y : ℕ). length (f y)) (sym q) ∙ ap (λ (y : List A). length y) e in
-          let a = length-flat l in
+          let a = length-flat-le f most l (λ x m. each x) in
           let s = length-append (f x) (flat f l) in
           rw (less l) (omega arith)
       go (inr p) ih = let a = more l p (ih p) in let s = length-append (f x) (flat f l) in rw (less l) (omega arith)
@@ -117,7 +98,7 @@ module _ (L : Layout) (lo : LayoutOk L) (t : Tables) (g : Formed L t) (fit : Fit
   needs-length : length (c .needs) ≤ L .mostRows
   unfolding contractAt
   needs-length =
-      let a = bits-length (serviceAt t) (t .needs n) (λ k h. g .calls .other n n k (g .need-call n n k h) refl) in
+      let a = bits-length (serviceAt t) (t .needs n) (λ k h. need-bits L t g .other n n k h refl) in
       let r = lo .rows-fit in
       omega arith
 
@@ -156,11 +137,7 @@ module _ (L : Layout) (lo : LayoutOk L) (t : Tables) (g : Formed L t) (fit : Fit
       go (GrantAt.row k p f) = (g .waiting .wait-valid _ p, λ q. g .waiting .wait-off _ p n un (sym q))
 
   grant-provided : (r : Row) → In r (c .grants) → In (r .tok) (c .provides)
-  grant-provided r m = go (grants-at L t g n r .0 m)
-    where
-      go : GrantAt t n r → In (r .tok) (c .provides)
-      go (GrantAt.bit i k b e f) = provides-at L t g n (r .tok) .1 (at k (g .grants .of-prov i n k b) f)
-      go (GrantAt.row k p f) = provides-at L t g n (r .tok) .1 (at k (g .waiting .wait-prov _ p) f)
+  grant-provided r m = provides-at L t g n (r .tok) .1 (granted-provided L t g n r (grants-at L t g n r .0 m))
 
   valid-aid : T (validAid (c .aid))
   unfolding contractAt

@@ -19,9 +19,10 @@ use Rattle.policy.specs.Sound.{everyBit}
 use Rattle.policy.specs.Draft.{callRow, leftBy, draft, look, removeAt, removeServiceAt}
 use Rattle.policy.specs.Judge.{tableCauses}
 use Rattle.policy.specs.ShortCheck.{count, sum, ones, shortRemove, shortRemoveService, shortLook}
-use Rattle.policy.proofs.Sets.{T-true, implies-i, in-every, keep-in, in-keep, once-keep, in-map, map-in, once-map, once-upto, in-upto, same-length, length-le}
+use Rattle.policy.proofs.Sets.{T-true, implies-i, in-every, keep-in, in-keep, once-keep, in-map, map-in, once-map, once-upto, in-upto, same-length, length-keep}
 use Rattle.policy.proofs.Formed.{Formed, Bits, Lawful, Fitting, ProvidesAt}
-use Rattle.policy.proofs.Dropped.{left-in, in-left-by, once-left, need-bits, lawful-dropped}
+use Rattle.policy.proofs.Facts.{need-bits, of-lawful}
+use Rattle.policy.proofs.Dropped.{left-in, in-left-by, once-left, lawful-dropped}
 use Rattle.policy.proofs.KindRemove.{dropping as dropping-2, removed}
 use Rattle.policy.proofs.KindRemoveService.{dropping as dropping-4, removed-service}
 
@@ -62,9 +63,7 @@ and-true false = refl
 -- a lawful draft is granted
 granted : (L : Layout) (t : Tables) → Lawful t → everyBit L (λ i j k. implies (t .calls i j k) (t .grants j i k)) ≡ true
 granted L t law = T-true (everyBit L (λ i j k. implies (t .calls i j k) (t .grants j i k)))
-    (in-every (λ i. every (λ j. every (λ k. implies (t .calls i j k) (t .grants j i k)) (upto (L .services))) (upto (L .packages))) (upto (L .packages)) (λ i _.
-    in-every (λ j. every (λ k. implies (t .calls i j k) (t .grants j i k)) (upto (L .services))) (upto (L .packages)) (λ j _.
-    in-every (λ k. implies (t .calls i j k) (t .grants j i k)) (upto (L .services)) (λ k _. implies-i (t .calls i j k) (t .grants j i k) (law i j k)))))
+    (of-lawful L t law)
 
 module _ (L : Layout) (t : Tables) where
   -- ---- how many rows the bits on package j leave
@@ -126,10 +125,10 @@ module _ (L : Layout) (t : Tables) where
       unfolding look
       look-dropped fit j k pk = λ z. record {
         granted = granted L (removeServiceAt L t j k .tables) (lawful-dropped L t (removeServiceAt L t j k .tables) j (λ x. eqb x k) (t .unmet) fm (dropping-4 L t fm j k pk) law) z;
-        needed = (nil-length (leftBy L t (t .needs) j (λ x. eqb x k)) ∙ ap isZero (left-one (t .needs) (need-bits fm) j k) ∙ none-pass (λ i. t .needs i j k) (numbers L t)) z;
+        needed = (nil-length (leftBy L t (t .needs) j (λ x. eqb x k)) ∙ ap isZero (left-one (t .needs) (need-bits L t fm) j k) ∙ none-pass (λ i. t .needs i j k) (numbers L t)) z;
         unmetFits = leb ((length-append (t .unmet) (leftBy L t (t .calls) j (λ x. eqb x k)) ∙ ap (λ (x : ℕ). length (t .unmet) + x) (left-one (t .calls) (fm .calls) j k)) z) (L .capacity);
         waitingFits = T-true (leb (count stays (t .waiting)) (L .capacity)) (le→leb (count stays (t .waiting)) (L .capacity)
-            (le-trans (length-le (keep stays (t .waiting)) (t .waiting) (once-keep stays (t .waiting) (fm .waiting .wait-once)) (λ w m. keep-in stays (t .waiting) m .0)) (fit .waiting-fits))) z;
+            (le-trans (length-keep stays (t .waiting)) (fit .waiting-fits))) z;
       }
         where
           stays : Waiting → Bool

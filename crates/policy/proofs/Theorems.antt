@@ -35,7 +35,7 @@ use Rattle.policy.proofs.RoundTrip.{emptyTables, empty-formed, empty-fi
 use Rattle.policy.proofs.ContractAt.{same-contract, stands-self}
 use Rattle.policy.proofs.Tests.{packages-fit, services-fit}
 use Rattle.policy.proofs.LawfulCard.{calls-granted, needs-present}
-use Rattle.policy.proofs.ReadOut.{length-keep, length-from, read-out-parses, read-out-proper}
+use Rattle.policy.proofs.ReadOut.{read-out-parses, read-out-proper}
 use Rattle.policy.proofs.ParseFacts.{parse-valid}
 use Rattle.policy.proofs.ShortLoad.{short-1, short-3}
 use Rattle.policy.proofs.ShortRemove.{short-2, short-4}

@@ -16,7 +16,9 @@ use Rattle.policy.specs.Layout.{Layout, LayoutOk}
 use Rattle.policy.specs.Record.{Request, Change, load, Got, got, bad, Reader, andThen, given, byte, bytes, numberFrom, number, aid, tokens, aRow, many, counted, aLoad, change, fields, parse}
 use Rattle.policy.specs.Tables.{writeNumber, writeTok}
 use Rattle.policy.specs.Judge.{aidBytes, rowBytes, rowsBytes, loadBody, loadRecord}
-use Rattle.policy.proofs.Sets.{T-true, and-l, and-r, and-i}
+use Rattle.policy.proofs.Sets.{T-true, length-flat-le}
+use Rattle.policy.proofs.Pieces.{length-flat, valid-short}
+use Rattle.policy.proofs.Bits.{length-number}
 use Rattle.policy.proofs.Formed.{ValidRows}
 
 -- ---- numbers
@@ -48,10 +50,6 @@ number-written w n rest h = number-from w n 0 rest h ∙ ap (λ (z : ℕ). got z
   where
     none : (p n : ℕ) → 0 * p + n ≡ n
     none p n = omega arith
-
-pub length-number : (w n : ℕ) (rest : List ℕ) → length (writeNumber w n rest) ≡ w + length rest
-length-number zero n rest = omega arith
-length-number (suc w) n rest = length-number w (n / 256) (n % 256 ∷ rest) ∙ omega arith
 
 number-append : (w n : ℕ) (a b : List ℕ) → writeNumber w n a ++ b ≡ writeNumber w n (a ++ b)
 number-append zero n a b = refl
@@ -108,39 +106,24 @@ module _ (L : Layout) (lo : LayoutOk L) (c : Contract) (va : T (validAid (c .aid
   load-written = rw (toks-written _, rows-written (c .calls) _ nc vc, rows-written (c .grants) _ ng vg, last-written)
 
   -- ---- its length fits two bytes
-  toks-length : (l : List Tok) → length (flat writeTok l) ≡ length l * 2
-  toks-length [] = omega arith
-  toks-length (s ∷ l) = let h = toks-length l in omega arith
-
   row-length : (r : Row) → T (validAid (r .aid)) → length (rowBytes r) ≤ 19
-  row-length r v =
-      let h = leb→le (length (r .aid)) 16 (and-r (leb 5 (length (r .aid))) (leb (length (r .aid)) 16) v) in
-      let e = length-append (r .aid) (writeTok (r .tok)) in
-      omega arith
-
-  flat-length : (l : List Row) → ValidRows l → length (flat rowBytes l) ≤ length l * 19
-  flat-length [] v = omega arith
-  flat-length (r ∷ l) v =
-      let a = row-length r (v r (here refl)) in
-      let b = flat-length l (λ x m. v x (there m)) in
-      let e = length-append (rowBytes r) (flat rowBytes l) in
-      omega arith
+  row-length r v = let h = valid-short (r .aid) v in let e = length-append (r .aid) (writeTok (r .tok)) in omega arith
 
   rows-length : (l : List Row) → length l ≤ L .mostRows → ValidRows l → length (rowsBytes L l) ≤ L .countWidth + L .mostRows * 19
   rows-length l n v =
       let e = length-number (L .countWidth) (length l) (flat rowBytes l) in
-      let a = flat-length l v in
+      let a = length-flat-le rowBytes 19 l (λ r m. row-length r (v r m)) in
       let b : length l * 19 ≤ L .mostRows * 19 = mul-le-mul-right 19 n in
       omega arith
 
   body-length : 4 + length (loadBody L c) < 256 ^ 2
   body-length =
-      let a = leb→le (length (c .aid)) 16 (and-r (leb 5 (length (c .aid))) (leb (length (c .aid)) 16) va) in
+      let a = valid-short (c .aid) va in
       let e1 = length-append (aidBytes (c .aid)) ((length (c .provides) ∷ flat writeTok (c .provides)) ++ (rowsBytes L (c .calls) ++ (rowsBytes L (c .grants) ++ rowsBytes L (c .needs)))) in
       let e2 = length-append (length (c .provides) ∷ flat writeTok (c .provides)) (rowsBytes L (c .calls) ++ (rowsBytes L (c .grants) ++ rowsBytes L (c .needs))) in
       let e3 = length-append (rowsBytes L (c .calls)) (rowsBytes L (c .grants) ++ rowsBytes L (c .needs)) in
       let e4 = length-append (rowsBytes L (c .grants)) (rowsBytes L (c .needs)) in
-      let p = toks-length (c .provides) in
+      let p = length-flat writeTok 2 (c .provides) (λ s m. refl) in
       let x = rows-length (c .calls) nc vc in
       let y = rows-length (c .grants) ng vg in
       let z = rows-length (c .needs) nn vn in
