@@ -1,6 +1,6 @@
--- All ten kinds: each draft is formed, and stands for the contracts that the record would leave.
+-- All ten kinds: each draft is formed and stands for the contracts that the record would leave, and each short check is the full look.
 use Rattle.policy.specs.Record.{Change, load, remove, addService, removeService, addCall, removeCall, addGrant, removeGrant, addNeed, removeNeed}
-use Rattle.policy.proofs.Formed.{KindTurns}
+use Rattle.policy.proofs.Formed.{KindTurns, KindShort}
 use Rattle.policy.proofs.KindLoad.{kind-1}
 use Rattle.policy.proofs.KindRemove.{kind-2}
 use Rattle.policy.proofs.KindAddService.{kind-3}
@@ -8,6 +8,9 @@ use Rattle.policy.proofs.KindRemoveService.{kind-4}
 use Rattle.policy.proofs.KindCall.{kind-5, kind-6}
 use Rattle.policy.proofs.KindGrant.{kind-7, kind-8}
 use Rattle.policy.proofs.KindNeed.{kind-9, kind-10}
+use Rattle.policy.proofs.ShortLoad.{short-1, short-3}
+use Rattle.policy.proofs.ShortRemove.{short-2, short-4}
+use Rattle.policy.proofs.ShortRows.{short-5, short-6, short-7, short-8, short-9, short-10}
 
 pub kinds : (c : Change) → KindTurns c
 kinds (load p c g n) = kind-1 p c g n
@@ -20,3 +23,15 @@ kinds (addGrant r) = kind-7 r
 kinds (removeGrant r) = kind-8 r
 kinds (addNeed r) = kind-9 r
 kinds (removeNeed r) = kind-10 r
+
+pub shorts : (c : Change) → KindShort c
+shorts (load p c g n) = short-1 p c g n
+shorts remove = short-2
+shorts (addService s l) = short-3 s l
+shorts (removeService s) = short-4 s
+shorts (addCall r) = short-5 r
+shorts (removeCall r) = short-6 r
+shorts (addGrant r) = short-7 r
+shorts (removeGrant r) = short-8 r
+shorts (addNeed r) = short-9 r
+shorts (removeNeed r) = short-10 r

@@ -15,7 +15,8 @@ use Rattle.policy.specs.Causes.{answer}
 use Rattle.policy.specs.Machine.{effect}
 use Rattle.policy.specs.Tables.{Tables, Unmet, Waiting, noTok}
 use Rattle.policy.specs.Lookup.{serviceAt, wanted}
-use Rattle.policy.specs.Draft.{Draft, callRow, draft}
+use Rattle.policy.specs.Draft.{Draft, callRow, draft, look}
+use Rattle.policy.specs.ShortCheck.{shortLook}
 use Rattle.policy.specs.Judge.{tableCauses}
 use Rattle.policy.specs.History.{FourSets}
 
@@ -126,3 +127,8 @@ pub record Turns (L : Layout) (d : Draft) (ds : List Contract) : Type 0 where
 abbrev pub KindTurns : Change → Type 0
 KindTurns c = (L : Layout) (t : Tables) (cs : List Contract) (a : Aid) → Formed L t → Stands t [] cs → T (validAid a) → Valid L c → T (proper a c)
     → answer (tableCauses L t a c) ≡ 0 → Turns L (draft L t a c) (effect cs a c)
+
+-- and its short check says what the full look at its draft says, where the tables are lawful and fit
+abbrev pub KindShort : Change → Type 0
+KindShort c = (L : Layout) (t : Tables) (a : Aid) → Formed L t → Lawful t → Fitting L t → Valid L c → T (proper a c) → answer (tableCauses L t a c) ≡ 0
+    → look L (draft L t a c) ≡ shortLook L t a c

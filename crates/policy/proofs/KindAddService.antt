@@ -26,7 +26,8 @@ use Rattle.policy.proofs.Answers.{answer-zero}
 use Rattle.policy.proofs.Alter.{stands-alter}
 use Rattle.policy.proofs.Put2.{NewPlace, new-place}
 use Rattle.policy.proofs.Grown.{More, more-others, more-own}
-use Rattle.policy.proofs.Reach.{last-no, granted-provided, at-package}
+use Rattle.policy.proofs.Reach.{reach-3}
+use Rattle.policy.proofs.Facts.{no-rows, granted-provided}
 use Rattle.policy.proofs.ContractAt.{provides-at}
 
 module _ (L : Layout) (t : Tables) (f : Formed L t) (j k : ℕ) (uj : T (t .used j)) (k< : k < L .services) (free : T (t .provides j k) → ⊥)
@@ -305,7 +306,7 @@ module _ (L : Layout) (t : Tables) (f : Formed L t) (j k : ℕ) (uj : T (t .used
   service-turns : (cs : List Contract) (a : Aid) → Stands t [] cs → t .aid j ≡ a → Turns L (addServiceAt L t j k s l) (alter a (altered (addService s l)) cs)
   service-turns cs a st aj = record {
     formed = formed;
-    lost-off = record { off-used = λ u m. absurd (in-nil m); off-card = λ u m. absurd (in-nil m) };
+    lost-off = no-rows after;
     stands = stands-alter L t after [] cs a (altered (addService s l)) j (f .names) st uj aj refl refl (λ c. refl)
         (λ n c u ne h. has n c (c .provides) (c .grants) h
         (more-others (ProvidesAt t) (ProvidesAt after) j (s ∷ []) more-provided n ne (c .provides) (h .provides))
@@ -323,20 +324,11 @@ module _ (L : Layout) (t : Tables) (f : Formed L t) (j k : ℕ) (uj : T (t .used
   }
 
 pub kind-3 : (s : Tok) (l : List Aid) → KindTurns (addService s l)
-unfolding draft proper
-kind-3 s l L t cs a f st va vl pr e =
-    at-package L t (f .names) (λ d. Turns L d (alter a (altered (addService s l)) cs)) (λ j. orElse (freeService L t j) (kept t) (λ k. addServiceAt L t j k s l)) a
-    (λ o. 6 when orElse o false (λ i. hasTok s (contractAt L t i .provides)) ∷ 7 when orElse o false (λ j. not (isSome (freeService L t j))) ∷ []) e
-    (λ j uj aj q.
-    let p = answer-zero 5 (hasTok s (contractAt L t j .provides)) (7 when not (isSome (freeService L t j)) ∷ []) q in
-    at-free j uj aj (λ h. false-T (p .0) (tok-has (provides-at L t f j s .1 h))) (freeService L t j) (free-service-is L t j) (p .1))
+unfolding proper
+kind-3 s l L t cs a f st va vl pr =
+    reach-3 L t f a (λ d _. Turns L d (alter a (altered (addService s l)) cs)) s l (λ j k uj aj fresh free.
+    service-turns L t f j k uj (free .0) (free .1) s fresh l vl (λ b m e. apart b m (e ∙ aj))
+    (distinct→once eqAid eqAid→ eqAid-refl l (and-r (every (λ b. not (eqAid b a)) l) (distinct eqAid l) pr)) cs a st aj)
   where
     apart : (b : Aid) → In b l → b ≡ a → ⊥
     apart b m e = not-e (eqAid b a) (every-in (λ b. not (eqAid b a)) l (and-l (every (λ b. not (eqAid b a)) l) (distinct eqAid l) pr) m) (eqAid-of e)
-
-    at-free : (j : ℕ) → T (t .used j) → t .aid j ≡ a → (ProvidesAt t j s → ⊥) → (o : Option ℕ) → FreeIs (L .services) (t .provides j) o
-        → answer (7 when not (isSome o) ∷ []) ≡ 0 → Turns L (orElse o (kept t) (λ k. addServiceAt L t j k s l)) (alter a (altered (addService s l)) cs)
-    at-free j uj aj fresh none h q = absurd (last-no 6 true q tt)
-    at-free j uj aj fresh (some k) h q =
-        service-turns L t f j k uj (h .0) (h .1) s fresh l vl (λ b m e. apart b m (e ∙ aj))
-        (distinct→once eqAid eqAid→ eqAid-refl l (and-r (every (λ b. not (eqAid b a)) l) (distinct eqAid l) pr)) cs a st aj

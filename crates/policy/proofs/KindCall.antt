@@ -24,7 +24,7 @@ use Rattle.policy.proofs.Found.{ServerIs, server-is}
 use Rattle.policy.proofs.Answers.{answer-zero}
 use Rattle.policy.proofs.Put.{At, put3-cases, put3-keep, put3-less}
 use Rattle.policy.proofs.ContractAt.{calls-at}
-use Rattle.policy.proofs.AtNumber.{at-number}
+use Rattle.policy.proofs.Reach.{reach-5, reach-6}
 use Rattle.policy.proofs.Rows.{row-same, row-more, row-less, bit-more, bit-less, turned-same, turned-more, turned-less, after, stands-rows, no-lost, is-service, no-bit, one-bit, no-row}
 
 -- ---- bits with one more or one less
@@ -153,21 +153,10 @@ module _ (L : Layout) (t : Tables) (cs : List Contract) (a : Aid) (fo : Formed L
             (turned-less i r (bit-less t t′ (λ y z. refl) (t .needs) [] i r j k (is-service t r p s) (one-bit L t fo (t .needs) (fo .need-call) j k (s .0) i) in-nil));
       }
 
-not-own : (r : Row) (a : Aid) → T (not (eqAid (r .aid) a)) → r .aid ≡ a → ⊥
-not-own r a h e = not-e (eqAid (r .aid) a) h (eqAid-of e)
-
 pub kind-5 : (r : Row) → KindTurns (addCall r)
-unfolding draft proper
-kind-5 r L t cs a fo st va vr own ans =
-    at-number L t (fo .names) a (λ o. Turns L (orElse o (kept t) (λ i. addCallAt L t i r (serverOf L t r))) (effect cs a (addCall r)))
-    (λ o. 6 when orElse o false (λ i. hasRow r (contractAt L t i .calls)) ∷ []) ans
-    (λ i ui ai six.
-    let h = false-T (answer-zero 5 (hasRow r (contractAt L t i .calls)) [] six .0) in
-    more-call L t cs a fo st r i ui ai vr (not-own r a own) (λ m. h (row-has (calls-at L t fo i r .1 m))) (serverOf L t r) (server-is L t (fo .names) r))
+unfolding proper
+kind-5 r L t cs a fo st va vr own =
+    reach-5 L t fo a (λ d _. Turns L d (alter a (altered (addCall r)) cs)) r (λ i ui ai. more-call L t cs a fo st r i ui ai vr (λ e. not-e (eqAid (r .aid) a) own (eqAid-of e)))
 
 pub kind-6 : (r : Row) → KindTurns (removeCall r)
-unfolding draft
-kind-6 r L t cs a fo st va vr own ans =
-    at-number L t (fo .names) a (λ o. Turns L (orElse o (kept t) (λ i. removeCallAt L t i r (serverOf L t r))) (effect cs a (removeCall r)))
-    (λ o. 6 when not (orElse o false (λ i. hasRow r (contractAt L t i .calls))) ∷ []) ans
-    (λ i ui ai six. less-call L t cs a fo st r i ui ai (serverOf L t r) (server-is L t (fo .names) r))
+kind-6 r L t cs a fo st va vr own = reach-6 L t fo a (λ d _. Turns L d (alter a (altered (removeCall r)) cs)) r (less-call L t cs a fo st r)

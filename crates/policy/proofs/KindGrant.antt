@@ -25,7 +25,7 @@ use Rattle.policy.proofs.Found.{NumberIs, number-is}
 use Rattle.policy.proofs.Alter.{stands-alter}
 use Rattle.policy.proofs.Put.{At, put3-new, put3-keep, put3-cases, put3-less}
 use Rattle.policy.proofs.Grown.{More, more-others, more-own}
-use Rattle.policy.proofs.Reach.{last-no, not-no, granted-provided, at-place}
+use Rattle.policy.proofs.Reach.{reach-7, reach-8}
 use Rattle.policy.proofs.ContractAt.{provides-at, grants-at}
 
 -- ---- tables with other grants, and all else as it was
@@ -265,27 +265,11 @@ module _ (L : Layout) (t : Tables) (f : Formed L t) (r : Row) (j k : ℕ) (pk : 
 
 -- ---- the two kinds
 pub kind-7 : (r : Row) → KindTurns (addGrant r)
-unfolding draft proper
-kind-7 r L t cs a f st va vr pr e =
-    at-place L t (f .names) (λ d. Turns L d (alter a (altered (addGrant r)) cs)) (λ j k. addGrantAt L t j (r .aid) k (numberOf L t (r .aid))) a (r .tok)
-    (λ o. 6 when (not (orElse o false (λ i. hasTok (r .tok) (contractAt L t i .provides))) || orElse o false (λ i. hasRow r (contractAt L t i .grants))) ∷ []) e
-    (λ j q. provides-at L t f j (r .tok) .0 (has-tok (r .tok) (contractAt L t j .provides)
-    (not-no (has j) (λ h. last-no 5 (not (has j) || had j) q (or-l (not (has j)) (had j) h)))))
-    (λ j k aj q pk ek. add-turns L t f r j k pk ek cs st a aj vr (λ o. not-e (eqAid (r .aid) a) pr (eqAid-of o))
-    (λ g. last-no 5 (not (has j) || had j) q (or-r (not (has j)) (had j) (row-has (grants-at L t f j r .1 g))))
-    (numberOf L t (r .aid)) (number-is L t (f .names) (r .aid)))
-  where
-    has : ℕ → Bool
-    has j = hasTok (r .tok) (contractAt L t j .provides)
-
-    had : ℕ → Bool
-    had j = hasRow r (contractAt L t j .grants)
+unfolding proper
+kind-7 r L t cs a f st va vr own =
+    reach-7 L t f a (λ d _. Turns L d (alter a (altered (addGrant r)) cs)) r
+    (λ j k p aj ek. add-turns L t f r j k p ek cs st a aj vr (λ e. not-e (eqAid (r .aid) a) own (eqAid-of e)))
 
 pub kind-8 : (r : Row) → KindTurns (removeGrant r)
-unfolding draft
-kind-8 r L t cs a f st va vr pr e =
-    at-place L t (f .names) (λ d. Turns L d (alter a (altered (removeGrant r)) cs)) (λ j k. removeGrantAt L t j (r .aid) k (numberOf L t (r .aid))) a (r .tok)
-    (λ o. 6 when not (orElse o false (λ i. hasRow r (contractAt L t i .grants))) ∷ []) e
-    (λ j q. let had = hasRow r (contractAt L t j .grants) in
-    granted-provided L t f j r (grants-at L t f j r .0 (has-row r (contractAt L t j .grants) (not-no had (last-no 5 (not had) q)))))
-    (λ j k aj q pk ek. remove-turns L t f r j k pk ek cs st a aj (numberOf L t (r .aid)) (number-is L t (f .names) (r .aid)))
+kind-8 r L t cs a f st va vr own =
+    reach-8 L t f a (λ d _. Turns L d (alter a (altered (removeGrant r)) cs)) r (λ j k p aj ek. remove-turns L t f r j k p ek cs st a aj)

@@ -20,7 +20,7 @@ use Rattle.policy.proofs.Sets.{and-l, and-r, test, not-i, in-map, map-i
 use Rattle.policy.proofs.Equal.{eqAid→, has-tok}
 use Rattle.policy.proofs.Formed.{ProvidesAt, at, RowAt, GrantAt, HasContract, Stands, Turns, KindTurns}
 use Rattle.policy.proofs.Found.{NumberIs, number-is, ServerIs, server-is}
-use Rattle.policy.proofs.LoadNames.{row-path, Newcomer, Loaded, loaded, service-old, tok-in, in-tok, by-number, load-draft}
+use Rattle.policy.proofs.LoadNames.{row-path, Newcomer, Loaded, loaded, service-old, tok-in, in-tok, by-number, load-reached}
 use Rattle.policy.proofs.LoadBits.{Named, CallIs, GrantIs, call-is, grant-is, need-new, need-old}
 use Rattle.policy.proofs.LoadFormed.{unmetStill, waitsStill, leftOff, uninstalled, waitingFor, each-left, names-on, service-loaded, left-off, each-unmet, each-waiting, load-formed}
 
@@ -225,9 +225,9 @@ module _ (L : Layout) (t : Tables) (m : ℕ) (k : Contract) (new : Newcomer L t 
       four c (inr i) = st .four-sets c i
 
 pub kind-1 : (p : List Tok) (c g n : List Row) → KindTurns (load p c g n)
-kind-1 p c g n L t cs a f st va v pr an =
+kind-1 p c g n L t cs a f st va v pr =
     let k : Contract = record { aid = a; provides = p; calls = c; grants = g; needs = n } in
-    load-draft L t a p c g n (λ (d : Draft). Turns L d (k ∷ cs)) f (v .0) pr an
+    load-reached L t a p c g n (λ d _. Turns L d (k ∷ cs)) f (v .0) pr
     (λ m new. record {
       formed = load-formed L t m k new va (v .1) (v .2);
       lost-off = left-off L t m k new va n;

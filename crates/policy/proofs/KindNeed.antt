@@ -22,7 +22,7 @@ use Rattle.policy.proofs.Formed.{Off, Formed, RowAt, bit, row, Stands, 
 use Rattle.policy.proofs.Found.{ServerIs, server-is}
 use Rattle.policy.proofs.Put.{At, put3-cases, put3-less}
 use Rattle.policy.proofs.ContractAt.{calls-at, needs-at}
-use Rattle.policy.proofs.AtNumber.{at-number, asked-and-new}
+use Rattle.policy.proofs.Reach.{reach-9, reach-10}
 use Rattle.policy.proofs.Rows.{row-same, row-more, row-less, bit-more, bit-less, turned-same, turned-more, turned-less, after, stands-rows, no-lost, is-service, no-bit, one-bit, no-row}
 
 module _ (L : Layout) (t : Tables) (cs : List Contract) (a : Aid) (fo : Formed L t) (st : Stands t [] cs) (r : Row)
@@ -104,18 +104,7 @@ module _ (L : Layout) (t : Tables) (cs : List Contract) (a : Aid) (fo : Formed L
       }
 
 pub kind-9 : (r : Row) → KindTurns (addNeed r)
-unfolding draft
-kind-9 r L t cs a fo st va vr own ans =
-    at-number L t (fo .names) a (λ o. Turns L (orElse o (kept t) (λ i. addNeedAt L t i r (serverOf L t r))) (effect cs a (addNeed r)))
-    (λ o. 6 when (not (orElse o false (λ i. hasRow r (contractAt L t i .calls))) || orElse o false (λ i. hasRow r (contractAt L t i .needs))) ∷ []) ans
-    (λ i ui ai six.
-    let h = asked-and-new (hasRow r (contractAt L t i .calls)) (hasRow r (contractAt L t i .needs)) six in
-    more-need L t cs a fo st r i ui ai (calls-at L t fo i r .0 (has-row r (contractAt L t i .calls) (h .0))) (λ m. h .1 (row-has (needs-at L t fo i r .1 m)))
-    (serverOf L t r) (server-is L t (fo .names) r))
+kind-9 r L t cs a fo st va vr own = reach-9 L t fo a (λ d _. Turns L d (alter a (altered (addNeed r)) cs)) r (more-need L t cs a fo st r)
 
 pub kind-10 : (r : Row) → KindTurns (removeNeed r)
-unfolding draft
-kind-10 r L t cs a fo st va vr own ans =
-    at-number L t (fo .names) a (λ o. Turns L (orElse o (kept t) (λ i. removeNeedAt L t i r (serverOf L t r))) (effect cs a (removeNeed r)))
-    (λ o. 6 when not (orElse o false (λ i. hasRow r (contractAt L t i .needs))) ∷ []) ans
-    (λ i ui ai six. less-need L t cs a fo st r i ui ai (serverOf L t r) (server-is L t (fo .names) r))
+kind-10 r L t cs a fo st va vr own = reach-10 L t fo a (λ d _. Turns L d (alter a (altered (removeNeed r)) cs)) r (less-need L t cs a fo st r)

@@ -22,6 +22,7 @@ use Rattle.policy.proofs.Equal.{eqAid→, eqAid-of, eqb-of}
 use Rattle.policy.proofs.Formed.{Formed, Bits, WaitingRows, grantBit, ProvidesAt, at, GrantAt, bit, row, HasContract, Stands, Turns, KindTurns}
 use Rattle.policy.proofs.Found.{NumberIs, number-is}
 use Rattle.policy.proofs.Answers.{answer-zero}
+use Rattle.policy.proofs.Reach.{reach-2}
 use Rattle.policy.proofs.Facts.{place-in, need-bits}
 use Rattle.policy.proofs.Dropped.{Without, BitsStay, RowsStay, Dropping, formed-dropped, lost-dropped, calls-dropped, needs-dropped}
 
@@ -254,15 +255,5 @@ module _ (L : Layout) (t : Tables) (fm : Formed L t) (n : ℕ) (un : T (t .used 
       stands = stands′;
     }
 
--- where cause 5 does not apply, the package is found
-pub removed : (L : Layout) (t : Tables) → Formed L t → (a : Aid) → answer (tableCauses L t a remove) ≡ 0 → (P : Draft → Look → Type 0)
-    → ((n : ℕ) → T (t .used n) → t .aid n ≡ a → P (removeAt L t n) (shortRemove L t n)) → P (draft L t a remove) (shortLook L t a remove)
-unfolding draft shortLook
-removed L t fm a ans P f = go (numberOf L t a) (number-is L t (fm .names) a) ans
-  where
-    go : (o : Option ℕ) → NumberIs t a o → answer (5 when not (isSome o) ∷ []) ≡ 0 → P (orElse o (kept t) (removeAt L t)) (orElse o fine (shortRemove L t))
-    go none h e = absurd (false-T (answer-zero 4 true [] e .0) tt)
-    go (some n) h e = f n (h .0) (h .1)
-
 pub kind-2 : KindTurns remove
-kind-2 L t cs a fm st _ _ _ ans = removed L t fm a ans (λ d _. Turns L d (keep (λ k. not (eqAid (k .aid) a)) cs)) (λ n u e. turns L t fm n u cs a e st)
+kind-2 L t cs a fm st _ _ _ = reach-2 L t fm a (λ d _. Turns L d (keep (λ k. not (eqAid (k .aid) a)) cs)) (λ n u e. turns L t fm n u cs a e st)

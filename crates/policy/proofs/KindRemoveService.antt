@@ -24,6 +24,7 @@ use Rattle.policy.proofs.Formed.{Formed, Bits, grantBit, ProvidesAt, at
 use Rattle.policy.proofs.Found.{NumberIs, number-is, ServiceIs, service-is}
 use Rattle.policy.proofs.Answers.{answer-zero}
 use Rattle.policy.proofs.Alter.{stands-alter}
+use Rattle.policy.proofs.Reach.{reach-4}
 use Rattle.policy.proofs.Facts.{need-bits}
 use Rattle.policy.proofs.Dropped.{Without, BitsStay, Dropping, formed-dropped, lost-dropped, calls-dropped, needs-dropped}
 use Rattle.policy.proofs.ContractAt.{provides-at}
@@ -194,32 +195,6 @@ module _ (L : Layout) (t : Tables) (fm : Formed L t) (j k : ℕ) (pk : T (t .pro
           });
     }
 
--- where causes 5 and 6 do not apply, the package and its service are found
-pub removed-service : (s : Tok) (L : Layout) (t : Tables) → Formed L t → (a : Aid) → answer (tableCauses L t a (removeService s)) ≡ 0 → (P : Draft → Look → Type 0)
-    → ((j k : ℕ) → T (t .provides j k) → t .aid j ≡ a → t .tok j k ≡ s → P (removeServiceAt L t j k) (shortRemoveService L t j k))
-    → P (draft L t a (removeService s)) (shortLook L t a (removeService s))
-unfolding draft shortLook
-removed-service s L t fm a ans P f = go (numberOf L t a) (number-is L t (fm .names) a) ans
-  where
-    has : ℕ → Bool
-    has j = hasTok s (contractAt L t j .provides)
-
-    provided : (b : Bool) → not b ≡ false → T b
-    provided true e = tt
-    provided false e = false-T e tt
-
-    apart : (j : ℕ) → ServiceIs t j s none → ProvidesAt t j s → ⊥
-    apart j h (at k p e) = h k p (sym e)
-
-    inner : (j : ℕ) → t .aid j ≡ a → not (has j) ≡ false → (o : Option ℕ) → ServiceIs t j s o → P (orElse o (kept t) (removeServiceAt L t j)) (orElse o fine (shortRemoveService L t j))
-    inner j ea e none h = absurd (apart j h (provides-at L t fm j s .0 (has-tok s (contractAt L t j .provides) (provided (has j) e))))
-    inner j ea e (some k) h = f j k (h .0) ea (h .1)
-
-    go : (o : Option ℕ) → NumberIs t a o → answer (5 when not (isSome o) ∷ 6 when not (orElse o false has) ∷ []) ≡ 0
-        → P (orElse o (kept t) (λ j. orElse (serviceOf L t j s) (kept t) (removeServiceAt L t j))) (orElse o fine (λ j. orElse (serviceOf L t j s) fine (shortRemoveService L t j)))
-    go none h e = absurd (false-T (answer-zero 4 true (6 when true ∷ []) e .0) tt)
-    go (some j) h e = inner j (h .1) (answer-zero 5 (not (has j)) [] (answer-zero 4 false (6 when not (has j) ∷ []) e .1) .0) (serviceOf L t j s) (service-is L t (fm .names) j s)
-
 pub kind-4 : (s : Tok) → KindTurns (removeService s)
-kind-4 s L t cs a fm st _ _ _ ans =
-    removed-service s L t fm a ans (λ d _. Turns L d (alter a (altered (removeService s)) cs)) (λ j k p ea es. turns L t fm j k p s es cs a ea st)
+kind-4 s L t cs a fm st _ _ _ =
+    reach-4 L t fm a (λ d _. Turns L d (alter a (altered (removeService s)) cs)) s (λ j k p ea es. turns L t fm j k p s es cs a ea st)

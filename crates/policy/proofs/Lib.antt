@@ -14,12 +14,12 @@ pub mod Bits
 pub mod Pieces
 pub mod RoundTrip
 pub mod Tests
-pub mod AtNumber
+pub mod Reach
+pub mod Short
 pub mod Put
 pub mod Put2
 pub mod Rows
 pub mod Grown
-pub mod Reach
 pub mod KindCall
 pub mod KindNeed
 pub mod KindGrant

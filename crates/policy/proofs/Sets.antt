@@ -391,6 +391,9 @@ module _ {B : Type 0} (g : ℕ → ℕ → B) (f : ℕ → ℕ → Bool) (l m : 
       inj i (p .0) i′ (q .0) (keep-in (f i) l (p .1) .1) (keep-in (f i′) l (q .1) .1) (sym (p .2) ∙ q .2) .0)
 
 -- ---- upto
+pub length-snoc : {A : Type 0} (l : List A) (x : A) → length (l ++ (x ∷ [])) ≡ suc (length l)
+length-snoc l x = length-append l (x ∷ []) ∙ omega arith
+
 pub length-from : (i n : ℕ) → length (from i n) ≡ n
 length-from i zero = refl
 length-from i (suc n) = ap suc (length-from (suc i) n)

@@ -37,9 +37,7 @@ use Rattle.policy.proofs.Tests.{packages-fit, services-fit}
 use Rattle.policy.proofs.LawfulCard.{calls-granted, needs-present}
 use Rattle.policy.proofs.ReadOut.{read-out-parses, read-out-proper}
 use Rattle.policy.proofs.ParseFacts.{parse-valid}
-use Rattle.policy.proofs.ShortLoad.{short-1, short-3}
-use Rattle.policy.proofs.ShortRemove.{short-2, short-4}
-use Rattle.policy.proofs.ShortRows.{short-5, short-6, short-7, short-8, short-9, short-10}
+use Rattle.policy.proofs.AllKinds.{shorts}
 use Rattle.policy.proofs.Step.{stands-of, image-stands, step}
 
 -- ---- 2. one record
@@ -245,23 +243,9 @@ module _ (L : Layout) (lo : LayoutOk L) where
   accepted-exactly img s cs q f e pr free = (fits-if-accepted img s cs q f e pr free, accepted-if-fits img s cs q f e pr free)
 
 -- ---- 5. short check = full look
-module _ (L : Layout) where
-  short-look : (t : Tables) → Formed L t → Lawful t → Fitting L t → (a : Aid) (c : Change) → Valid L c → T (proper a c)
-      → answer (tableCauses L t a c) ≡ 0 → look L (draft L t a c) ≡ shortLook L t a c
-  short-look t g w fit a (load p c d n) v pr e = short-1 p c d n L t g w fit a (v .0) pr e
-  short-look t g w fit a remove v pr e = short-2 L t g w fit a e
-  short-look t g w fit a (addService s l) v pr e = short-3 s l L t g w fit a pr e
-  short-look t g w fit a (removeService s) v pr e = short-4 s L t g w fit a e
-  short-look t g w fit a (addCall r) v pr e = short-5 L t g w fit a r e
-  short-look t g w fit a (removeCall r) v pr e = short-6 L t g w fit a r e
-  short-look t g w fit a (addGrant r) v pr e = short-7 L t g w fit a r e
-  short-look t g w fit a (removeGrant r) v pr e = short-8 L t g w fit a r e
-  short-look t g w fit a (addNeed r) v pr e = short-9 L t g w fit a r e
-  short-look t g w fit a (removeNeed r) v pr e = short-10 L t g w fit a r e
-
-  pub short-is-full : ShortIsFull L
-  short-is-full img s q ok e pr z =
-      short-look (decode L img) (sound-formed L img ok) (sound-lawful L img ok) (sound-fitting L img ok) (q .aid) (q .change) (parse-valid L s q e .1) pr z
+pub short-is-full : (L : Layout) → ShortIsFull L
+short-is-full L img s q ok e =
+    shorts (q .change) L (decode L img) (q .aid) (sound-formed L img ok) (sound-lawful L img ok) (sound-fitting L img ok) (parse-valid L s q e .1)
 
 -- ---- 6. reading out
 module _ (L : Layout) (lo : LayoutOk L) where
