@@ -169,9 +169,6 @@ module _ (L : Layout) (t t′ : Tables) (names : Names L (t .used) (t .aid) (t .
                 let p = left-in L t names j d b bits g in
                 bit j (p .1) (subst (λ (x : ℕ). T (b x j (p .1))) (sym (ap (λ (u : Unmet). u .caller) (p .4))) (p .2)) (ap (λ (u : Unmet). wanted u) (p .4))
 
-        row-without : {l′ : List Row} → (In r l′ ↔ RowAt t b l n r) → In r l′ ↔ RowAt t′ b′ rows′ n r
-        row-without h = (λ x. row-stays (h .0 x), λ x. h .1 (row-old x))
-
 module _ (L : Layout) (t t′ : Tables) (j : ℕ) (d : ℕ → Bool) (m : List Unmet) (fm : Formed L t) (dr : Dropping L t t′ j d m) where
   pub formed-dropped : Formed L t′
   formed-dropped = record {
@@ -189,12 +186,17 @@ module _ (L : Layout) (t t′ : Tables) (j : ℕ) (d : ℕ → Bool) (m : List U
   lost-dropped = off-without L t t′ (fm .names) j d (dr .without) (t .needs) (need-bits L t fm) [] [] (none-stay t′) (no-rows t)
 
   -- ---- the contract of a package that stays
-  pub calls-dropped : (n : ℕ) → T (t′ .used n) → (r : Row) {l : List Row} → (In r l ↔ RowAt t (t .calls) (t .unmet) n r) → In r l ↔ RowAt t′ (t′ .calls) (t′ .unmet) n r
-  calls-dropped n u r {l} h = subst (λ (x : List Unmet). In r l ↔ RowAt t′ (t′ .calls) x n r) (sym (dr .unmet-is))
-      (row-without L t t′ (fm .names) j d (dr .without) (t .calls) (fm .calls) (t .unmet) m (dr .unmet-stay) (t′ .calls) (dr .calls-stay) n u r h)
+  pub calls-dropped : (n : ℕ) → T (t′ .used n) → (r : Row) → RowAt t (t .calls) (t .unmet) n r ↔ RowAt t′ (t′ .calls) (t′ .unmet) n r
+  calls-dropped n u r = subst (λ (x : List Unmet). RowAt t (t .calls) (t .unmet) n r ↔ RowAt t′ (t′ .calls) x n r) (sym (dr .unmet-is)) (
+    row-stays L t t′ (fm .names) j d (dr .without) (t .calls) (fm .calls) (t .unmet) m (dr .unmet-stay) (t′ .calls) (dr .calls-stay) n u r,
+    row-old L t t′ (fm .names) j d (dr .without) (t .calls) (fm .calls) (t .unmet) m (dr .unmet-stay) (t′ .calls) (dr .calls-stay) n u r,
+  )
 
-  pub needs-dropped : (n : ℕ) → T (t′ .used n) → (r : Row) {l : List Row} → (In r l ↔ RowAt t (t .needs) [] n r) → In r l ↔ RowAt t′ (t′ .needs) (leftBy L t (t .needs) j d) n r
-  needs-dropped n u r h = row-without L t t′ (fm .names) j d (dr .without) (t .needs) (need-bits L t fm) [] [] (none-stay t′) (t′ .needs) (dr .needs-stay) n u r h
+  pub needs-dropped : (n : ℕ) → T (t′ .used n) → (r : Row) → RowAt t (t .needs) [] n r ↔ RowAt t′ (t′ .needs) (leftBy L t (t .needs) j d) n r
+  needs-dropped n u r = (
+    row-stays L t t′ (fm .names) j d (dr .without) (t .needs) (need-bits L t fm) [] [] (none-stay t′) (t′ .needs) (dr .needs-stay) n u r,
+    row-old L t t′ (fm .names) j d (dr .without) (t .needs) (need-bits L t fm) [] [] (none-stay t′) (t′ .needs) (dr .needs-stay) n u r,
+  )
 
   pub lawful-dropped : Lawful t → Lawful t′
   lawful-dropped law x y z h =

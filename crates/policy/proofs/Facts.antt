@@ -1,6 +1,7 @@
 -- What follows at once from the facts: where bits stand, lawful tables by their test, no rows, and the contract of a number.
 use Prim.Native.Nat.{ℕ, _<_}
 use mathlib.Core.Path.{_≡_, sym, _∙_, subst}
+use mathlib.Core.Logic.{_⊎_, inl, inr}
 use mathlib.Core.Bool.{Bool}
 use mathlib.Core.List.{List, []}
 use mathlib.Core.List.{List·Memᴰ as In, List·Memᴰ·not-nil as in-nil}
@@ -13,6 +14,35 @@ use Rattle.policy.proofs.EveryBit.{BitIn, among, among-to, among-back}
 
 pub no-rows : (t : Tables) → Off (t .used) (t .aid) (t .tok) (t .provides) []
 no-rows t = record { off-used = λ u m. absurd (in-nil m); off-card = λ u m. absurd (in-nil m) }
+
+-- some of the bits
+pub bits-sub : {used : ℕ → Bool} {provides : ℕ → ℕ → Bool} {b b′ : ℕ → ℕ → ℕ → Bool} → Bits used provides b → ((i j k : ℕ) → T (b′ i j k) → T (b i j k)) → Bits used provides b′
+bits-sub h sub = record {
+  by-used = λ i j k m. h .by-used i j k (sub i j k m);
+  of-prov = λ i j k m. h .of-prov i j k (sub i j k m);
+  other = λ i j k m. h .other i j k (sub i j k m);
+}
+
+-- and one more
+pub bits-more : {used : ℕ → Bool} {provides : ℕ → ℕ → Bool} {b b′ : ℕ → ℕ → ℕ → Bool} (i j k : ℕ) → Bits used provides b → T (used i) → T (provides j k) → (i ≡ j → ⊥)
+    → ((x y z : ℕ) → T (b′ x y z) → ((x ≡ i) × (y ≡ j) × (z ≡ k)) ⊎ T (b x y z)) → Bits used provides b′
+bits-more {used} {provides} {b} i j k h ui p ne cases = record {
+  by-used = λ x y z m. by x y z (cases x y z m);
+  of-prov = λ x y z m. prov x y z (cases x y z m);
+  other = λ x y z m. differ x y z (cases x y z m);
+}
+  where
+    by : (x y z : ℕ) → ((x ≡ i) × (y ≡ j) × (z ≡ k)) ⊎ T (b x y z) → T (used x)
+    by x y z (inl e) = rw (e .0) ui
+    by x y z (inr m) = h .by-used x y z m
+
+    prov : (x y z : ℕ) → ((x ≡ i) × (y ≡ j) × (z ≡ k)) ⊎ T (b x y z) → T (provides y z)
+    prov x y z (inl e) = rw (e .1, e .2) p
+    prov x y z (inr m) = h .of-prov x y z m
+
+    differ : (x y z : ℕ) → ((x ≡ i) × (y ≡ j) × (z ≡ k)) ⊎ T (b x y z) → x ≡ y → ⊥
+    differ x y z (inl e) q = ne (sym (e .0) ∙ q ∙ e .1)
+    differ x y z (inr m) q = h .other x y z m q
 
 module _ (L : Layout) (t : Tables) where
   module _ (names : Names L (t .used) (t .aid) (t .tok) (t .provides)) where
@@ -37,11 +67,7 @@ module _ (L : Layout) (t : Tables) where
   module _ (f : Formed L t) where
     -- needs are calls
     pub need-bits : Bits (t .used) (t .provides) (t .needs)
-    need-bits = record {
-      by-used = λ x y z h. f .calls .by-used x y z (f .need-call x y z h);
-      of-prov = λ x y z h. f .calls .of-prov x y z (f .need-call x y z h);
-      other = λ x y z h. f .calls .other x y z (f .need-call x y z h);
-    }
+    need-bits = bits-sub (f .calls) (f .need-call)
 
     -- a granted service is provided
     pub granted-provided : (n : ℕ) (r : Row) → GrantAt t n r → ProvidesAt t n (r .tok)

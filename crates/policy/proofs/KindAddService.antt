@@ -23,9 +23,8 @@ use Rattle.policy.proofs.Equal.{eqAid→, eqAid-refl, eqAid-of, eqb-of,
 use Rattle.policy.proofs.Formed.{Names, Bits, Formed, ProvidesAt, at, grantBit, RowAt, bit, row, GrantAt, HasContract, Stands, Turns, KindTurns}
 use Rattle.policy.proofs.Found.{NumberIs, number-is, FreeIs, free-service-is}
 use Rattle.policy.proofs.Answers.{answer-zero}
-use Rattle.policy.proofs.Alter.{stands-alter}
+use Rattle.policy.proofs.Alter.{More, turned-same, turned-one, turned-more, stands-turned}
 use Rattle.policy.proofs.Put2.{NewPlace, new-place}
-use Rattle.policy.proofs.Grown.{More, more-others, more-own}
 use Rattle.policy.proofs.Reach.{reach-3}
 use Rattle.policy.proofs.Facts.{no-rows, granted-provided}
 use Rattle.policy.proofs.ContractAt.{provides-at}
@@ -192,31 +191,24 @@ module _ (L : Layout) (t : Tables) (f : Formed L t) (j k : ℕ) (uj : T (t .used
   service-as : (x y : ℕ) → T (t .provides x y) → serviceAt after x y ≡ serviceAt t x y
   service-as x y p = λ i. record { aid = t .aid x; tok = place .old-tok x y p i }
 
-  more-provided : More (ProvidesAt t) (ProvidesAt after) j (s ∷ [])
+  more-provided : More j (λ x. x ≡ s) (ProvidesAt t) (ProvidesAt after)
   more-provided n x = (cases, back)
     where
-      which : (z : ℕ) → x ≡ after .tok n z → ((n ≡ j) × (z ≡ k)) ⊎ T (t .provides n z) → ProvidesAt t n x ⊎ ((n ≡ j) × In x (s ∷ []))
-      which z e (inl q) = inr (q .0, here (e ∙ tok-new n z (q .0) (q .1)))
+      which : (z : ℕ) → x ≡ after .tok n z → ((n ≡ j) × (z ≡ k)) ⊎ T (t .provides n z) → ProvidesAt t n x ⊎ ((n ≡ j) × (x ≡ s))
+      which z e (inl q) = inr (q .0, e ∙ tok-new n z (q .0) (q .1))
       which z e (inr p) = inl (at z p (e ∙ place .old-tok n z p))
 
-      cases : ProvidesAt after n x → ProvidesAt t n x ⊎ ((n ≡ j) × In x (s ∷ []))
+      cases : ProvidesAt after n x → ProvidesAt t n x ⊎ ((n ≡ j) × (x ≡ s))
       cases (at z p e) = which z e (place .prov-cases n z p)
 
-      old : ProvidesAt t n x → ProvidesAt after n x
-      old (at z p e) = at z (place .old-prov n z p) (e ∙ sym (place .old-tok n z p))
-
-      new : n ≡ j → (x ≡ s) ⊎ In x [] → ProvidesAt after n x
-      new en (inl e) = at k (rw en (place .new-prov)) (e ∙ sym (tok-new n k en refl))
-      new en (inr m) = absurd (in-nil m)
-
-      back : ProvidesAt t n x ⊎ ((n ≡ j) × In x (s ∷ [])) → ProvidesAt after n x
-      back (inl p) = old p
-      back (inr p) = new (p .0) (in-cons (p .1))
+      back : ProvidesAt t n x ⊎ ((n ≡ j) × (x ≡ s)) → ProvidesAt after n x
+      back (inl (at z p e)) = at z (place .old-prov n z p) (e ∙ sym (place .old-tok n z p))
+      back (inr q) = at k (rw (q .0) (place .new-prov)) (q .1 ∙ sym (tok-new n k (q .0) refl))
 
   abbrev grantTo : Aid → Row
   grantTo b = record { aid = b; tok = s }
 
-  more-granted : More (GrantAt t) (GrantAt after) j (map grantTo l)
+  more-granted : More j (λ x. In x (map grantTo l)) (GrantAt t) (GrantAt after)
   more-granted n x = (cases, back)
     where
       -- a grant at the new place to an AID of l
@@ -297,30 +289,17 @@ module _ (L : Layout) (t : Tables) (f : Formed L t) (j k : ℕ) (uj : T (t .used
       back (bit y z b e) = bit y z b (e ∙ service-as y z (prov y z b))
       back (row m) = row m
 
-  -- ---- the package's contract gets the service and its grants, every other one stays
-  has : (n : ℕ) (c : Contract) (p : List Tok) (g : List Row) → HasContract t [] n c → ((x : Tok) → In x p ↔ ProvidesAt after n x) → ((x : Row) → In x g ↔ GrantAt after n x)
-      → HasContract after [] n (record { aid = c .aid; provides = p; calls = c .calls; grants = g; needs = c .needs })
-  has n c p g h e q = record
-      { aid = h .aid; provides = e; calls = λ r. Iff·trans (h .calls r) (calls-as n r); grants = q; needs = λ r. Iff·trans (h .needs r) (needs-as n r) }
-
+  -- ---- the package's contract gets the service and its grants
   service-turns : (cs : List Contract) (a : Aid) → Stands t [] cs → t .aid j ≡ a → Turns L (addServiceAt L t j k s l) (alter a (altered (addService s l)) cs)
   service-turns cs a st aj = record {
     formed = formed;
     lost-off = no-rows after;
-    stands = stands-alter L t after [] cs a (altered (addService s l)) j (f .names) st uj aj refl refl (λ c. refl)
-        (λ n c u ne h. has n c (c .provides) (c .grants) h
-        (more-others (ProvidesAt t) (ProvidesAt after) j (s ∷ []) more-provided n ne (c .provides) (h .provides))
-        (more-others (GrantAt t) (GrantAt after) j (map grantTo l) more-granted n ne (c .grants) (h .grants)))
-        (λ c h. has j c (c .provides ++ (s ∷ [])) (c .grants ++ map grantTo l) h
-        (more-own (ProvidesAt t) (ProvidesAt after) j (s ∷ []) more-provided (c .provides) (h .provides))
-        (more-own (GrantAt t) (GrantAt after) j (map grantTo l) more-granted (c .grants) (h .grants)))
-        (λ c h d. record {
-          provides = once-snoc (c .provides) s (d .provides) (λ m. fresh (h .provides s .0 m));
-          calls = d .calls;
-          grants = once-append (c .grants) (map grantTo l) (d .grants) (once-map grantTo l (λ x y m n e. ap (λ (v : Row). v .aid) e) once)
-              (λ x m n. fresh (subst (ProvidesAt t j) (ap (λ (v : Row). v .tok) (map-in grantTo l n .2)) (granted-provided L t f j x (h .grants x .0 m))));
-          needs = d .needs;
-        });
+    stands = stands-turned L t after [] cs a j (f .names) st uj aj refl refl
+        (turned-one s more-provided fresh)
+        (turned-same uj (λ n _. calls-as n))
+        (turned-more (λ x. In x (map grantTo l)) (map grantTo l) (λ x. (λ m. m, λ m. m)) (once-map grantTo l (λ x y m n e. ap (λ (v : Row). v .aid) e) once) more-granted
+        (λ x m g. fresh (subst (ProvidesAt t j) (ap (λ (v : Row). v .tok) (map-in grantTo l m .2)) (granted-provided L t f j x g))))
+        (turned-same uj (λ n _. needs-as n));
   }
 
 pub kind-3 : (s : Tok) (l : List Aid) → KindTurns (addService s l)

@@ -1,7 +1,7 @@
 -- Kind 2: a package goes; calls on it are unmet, and grants to it wait.
 use Prim.Native.Nat.{ℕ}
 use mathlib.Core.Path.{_≡_, refl, sym, ap, _∙_, subst}
-use mathlib.Core.Logic.{_⊎_, inl, inr}
+use mathlib.Core.Logic.{_⊎_, inl, inr, Iff·trans}
 use mathlib.Core.Bool.{Bool, true, false, not, _&&_, _||_, cond}
 use mathlib.Core.List.{List, [], _∷_, map}
 use mathlib.Core.List.{List·Memᴰ as In, Memᴰ·append-left as in-left, Memᴰ·append-right as in-right, List·Memᴰ·append-cases as in-append, Memᴰ·cast as in-cast}
@@ -220,10 +220,10 @@ module _ (L : Layout) (t : Tables) (fm : Formed L t) (n : ℕ) (un : T (t .used 
       let ne : m ≡ n → ⊥ = used-e m u .0 in
       record {
         aid = h .aid ∙ sym (aid-same m ne);
-        provides = λ s. (λ x. provides-stays m ne s (h .provides s .0 x), λ x. h .provides s .1 (provides-old m ne s x));
-        calls = λ r. calls-dropped L t t′ n (λ z. true) stayU fm dropping m u r (h .calls r);
-        grants = λ r. (λ x. grant-stays m ne r (h .grants r .0 x), λ x. h .grants r .1 (grant-old m ne r x));
-        needs = λ r. needs-dropped L t t′ n (λ z. true) stayU fm dropping m u r (h .needs r);
+        provides = λ s. Iff·trans (h .provides s) (provides-stays m ne s, provides-old m ne s);
+        calls = λ r. Iff·trans (h .calls r) (calls-dropped L t t′ n (λ z. true) stayU fm dropping m u r);
+        grants = λ r. Iff·trans (h .grants r) (grant-stays m ne r, grant-old m ne r);
+        needs = λ r. Iff·trans (h .needs r) (needs-dropped L t t′ n (λ z. true) stayU fm dropping m u r);
       }
 
   module _ (cs : List Contract) (a : Aid) (ea : t .aid n ≡ a) (st : Stands t [] cs) where

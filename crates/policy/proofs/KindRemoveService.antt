@@ -18,12 +18,12 @@ use Rattle.policy.specs.Lookup.{numberOf, serviceOf, contractAt}
 use Rattle.policy.specs.Draft.{Draft, Look, kept, draft, removeServiceAt}
 use Rattle.policy.specs.Judge.{tableCauses}
 use Rattle.policy.specs.ShortCheck.{fine, shortRemoveService, shortLook}
-use Rattle.policy.proofs.Sets.{and-l, and-r, and-i, not-i, not-e, false-T, T-false, keep-in, in-keep, once-keep}
-use Rattle.policy.proofs.Equal.{eqTok→, eqTok-of, eqb-of, has-tok}
+use Rattle.policy.proofs.Sets.{and-l, and-r, and-i, not-i, not-e, false-T, T-false, differs, keep-in, in-keep, once-keep}
+use Rattle.policy.proofs.Equal.{eqTok→, eqTok-refl, eqb-of}
 use Rattle.policy.proofs.Formed.{Formed, Bits, grantBit, ProvidesAt, at, GrantAt, bit, row, HasContract, Stands, Turns, KindTurns}
 use Rattle.policy.proofs.Found.{NumberIs, number-is, ServiceIs, service-is}
 use Rattle.policy.proofs.Answers.{answer-zero}
-use Rattle.policy.proofs.Alter.{stands-alter}
+use Rattle.policy.proofs.Alter.{turned-same, turned-less, stands-turned}
 use Rattle.policy.proofs.Reach.{reach-4}
 use Rattle.policy.proofs.Facts.{need-bits}
 use Rattle.policy.proofs.Dropped.{Without, BitsStay, Dropping, formed-dropped, lost-dropped, calls-dropped, needs-dropped}
@@ -119,15 +119,15 @@ module _ (L : Layout) (t : Tables) (fm : Formed L t) (j k : ℕ) (pk : T (t .pro
   -- ---- what package n provides and grants: all but the service of package j with tokens s
   module _ (s : Tok) (es : t .tok j k ≡ s) (n : ℕ) where
     abbrev Stay : Tok → Type 0
-    Stay x = n ≡ j → x ≡ s → ⊥
+    Stay x = (n ≡ j) × (x ≡ s) → ⊥
 
     -- by the place of tokens x
     stay-away : (z : ℕ) (x : Tok) → x ≡ t .tok n z → Stay x → Away n z
-    stay-away z x e h q f = h q (e ∙ (λ i. t .tok (q i) (eqb→eq z k f i)) ∙ es)
+    stay-away z x e h q f = h (q, e ∙ (λ i. t .tok (q i) (eqb→eq z k f i)) ∙ es)
 
     away-stay : (z : ℕ) (x : Tok) → T (t .provides n z) → x ≡ t .tok n z → Away n z → Stay x
-    away-stay z x p e h q f =
-        h q (eqb-of (fm .names .tok-inj j z k (subst (λ (y : ℕ). T (t .provides y z)) q p) pk (ap (λ (y : ℕ). t .tok y z) (sym q) ∙ sym e ∙ f ∙ sym es)))
+    away-stay z x p e h q =
+        h (q .0) (eqb-of (fm .names .tok-inj j z k (subst (λ (y : ℕ). T (t .provides y z)) (q .0) p) pk (ap (λ (y : ℕ). t .tok y z) (sym (q .0)) ∙ sym e ∙ q .1 ∙ sym es)))
 
     provides-stays : (x : Tok) → ProvidesAt t n x → Stay x → ProvidesAt t′ n x
     provides-stays x (at z p e) h = let ne = stay-away z x e h in at z (prov-i n z p ne) (e ∙ sym (tok-same n z ne))
@@ -153,47 +153,18 @@ module _ (L : Layout) (t : Tables) (fm : Formed L t) (j k : ℕ) (pk : T (t .pro
         let g = f ∙ tok-same n z (p .1) in
         (row z (p .0) g, away-stay z (r .tok) (fm .waiting .wait-prov _ (p .0)) g (p .1))
 
-    -- its contract, with those of its services p and grants g that stay
-    has′ : (c : Contract) (p : List Tok) (g : List Row) → T (t .used n) → HasContract t [] n c
-        → ((x : Tok) → In x p ↔ (In x (c .provides) × Stay x)) → ((r : Row) → In r g ↔ (In r (c .grants) × Stay (r .tok)))
-        → HasContract t′ (removeServiceAt L t j k .lost) n (record { aid = c .aid; provides = p; calls = c .calls; grants = g; needs = c .needs })
-    has′ c p g u h ps gs = record {
-      aid = h .aid;
-      provides = λ x. (λ m. let q = ps x .0 m in provides-stays x (h .provides x .0 (q .0)) (q .1), λ y. let q = provides-old x y in ps x .1 (h .provides x .1 (q .0), q .1));
-      calls = λ r. calls-dropped L t t′ j d (t .unmet) fm dropping n u r (h .calls r);
-      grants = λ r. (λ m. let q = gs r .0 m in grant-stays r (h .grants r .0 (q .0)) (q .1), λ y. let q = grant-old r y in gs r .1 (h .grants r .1 (q .0), q .1));
-      needs = λ r. needs-dropped L t t′ j d (t .unmet) fm dropping n u r (h .needs r);
-    }
-
-  module _ (s : Tok) (es : t .tok j k ≡ s) (cs : List Contract) (a : Aid) (ea : t .aid j ≡ a) (st : Stands t [] cs) where
-    uj : T (t .used j)
-    uj = fm .names .prov-used j k pk
-
-    others : (n : ℕ) (c : Contract) → T (t .used n) → (n ≡ j → ⊥) → HasContract t [] n c → HasContract t′ (removeServiceAt L t j k .lost) n c
-    others n c u ne h = has′ s es n c (c .provides) (c .grants) u h (λ x. (λ m. (m, λ e _. ne e), λ q. q .0)) (λ r. (λ m. (m, λ e _. ne e), λ q. q .0))
-
-    -- the members of the package's own lists that stay
-    own-in : {A : Type 0} (tok : A → Tok) (l : List A) (x : A) → In x (keep (λ y. not (eqTok s (tok y))) l) ↔ (In x l × (j ≡ j → tok x ≡ s → ⊥))
-    own-in {A} tok l x = (
-      λ m. let p = keep-in (λ y. not (eqTok s (tok y))) l m in (p .0, λ _ e. not-e (eqTok s (tok x)) (p .1) (eqTok-of (sym e))),
-      λ q. in-keep (λ y. not (eqTok s (tok y))) (q .0) (not-i (eqTok s (tok x)) (λ e. q .1 refl (sym (eqTok→ s (tok x) e)))),
-    )
-
-    own : (c : Contract) → HasContract t [] j c → HasContract t′ (removeServiceAt L t j k .lost) j (altered (removeService s) c)
-    own c h = has′ s es j c _ _ uj h (own-in (λ x. x) (c .provides)) (own-in (λ r. r .tok) (c .grants))
-
-    turns : Turns L (removeServiceAt L t j k) (alter a (altered (removeService s)) cs)
-    turns = record {
-      formed = formed-dropped L t t′ j d (t .unmet) fm dropping;
-      lost-off = lost-dropped L t t′ j d (t .unmet) fm dropping;
-      stands = stands-alter L t t′ (removeServiceAt L t j k .lost) cs a (altered (removeService s)) j (fm .names) st uj ea refl refl (λ c. refl) others own
-          (λ c _ f. record {
-            provides = once-keep (λ x. not (eqTok s x)) (c .provides) (f .provides);
-            calls = f .calls;
-            grants = once-keep (λ x. not (eqTok s (x .tok))) (c .grants) (f .grants);
-            needs = f .needs;
-          });
-    }
+  turns : (s : Tok) → t .tok j k ≡ s → (cs : List Contract) (a : Aid) → t .aid j ≡ a → Stands t [] cs → Turns L (removeServiceAt L t j k) (alter a (altered (removeService s)) cs)
+  turns s es cs a ea st =
+      let uj = fm .names .prov-used j k pk in
+      record {
+        formed = formed-dropped L t t′ j d (t .unmet) fm dropping;
+        lost-off = lost-dropped L t t′ j d (t .unmet) fm dropping;
+        stands = stands-turned L t t′ (removeServiceAt L t j k .lost) cs a j (fm .names) st uj ea refl refl
+            (turned-less (λ x. x ≡ s) (λ x. not (eqTok s x)) (differs eqTok eqTok→ eqTok-refl s) (λ n x. (provides-old s es n x, λ q. provides-stays s es n x (q .0) (q .1))))
+            (turned-same uj (calls-dropped L t t′ j d (t .unmet) fm dropping))
+            (turned-less (λ r. r .tok ≡ s) (λ r. not (eqTok s (r .tok))) (λ r. differs eqTok eqTok→ eqTok-refl s (r .tok)) (λ n r. (grant-old s es n r, λ q. grant-stays s es n r (q .0) (q .1))))
+            (turned-same uj (needs-dropped L t t′ j d (t .unmet) fm dropping));
+      }
 
 pub kind-4 : (s : Tok) → KindTurns (removeService s)
 kind-4 s L t cs a fm st _ _ _ =

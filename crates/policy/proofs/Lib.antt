@@ -19,7 +19,6 @@ pub mod Short
 pub mod Put
 pub mod Put2
 pub mod Rows
-pub mod Grown
 pub mod KindCall
 pub mod KindNeed
 pub mod KindGrant

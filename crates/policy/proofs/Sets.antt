@@ -349,6 +349,9 @@ module _ {A : Type 0} where
     pub in-has : {x : A} {l : List A} → In x l → T (exists (eq x) l)
     in-has {x} m = in-exists (eq x) m (eq-refl x)
 
+    pub differs : (x y : A) → T (not (eq x y)) ↔ (y ≡ x → ⊥)
+    differs x y = (λ h e. not-e (eq x y) h (subst (λ (z : A). T (eq x z)) (sym e) (eq-refl x)), λ n. not-i (eq x y) (λ h. n (sym (eq→ x y h))))
+
     pub distinct→once : (l : List A) → T (distinct eq l) → NoRepeat l
     distinct→once [] t = tt
     distinct→once (x ∷ l) t = (λ m. not-e (exists (eq x) l) (and-l (not (exists (eq x) l)) (distinct eq l) t) (in-has m), distinct→once l (and-r (not (exists (eq x) l)) (distinct eq l) t))
