@@ -7,14 +7,14 @@ use mathlib.Core.List.{List, [], _++_, map}
 use mathlib.Core.List.{List·Memᴰ as In, List·Memᴰ·not-nil as in-nil}
 use mathlib.Core.List.{Memᴰ·append-left as in-left, Memᴰ·append-right as in-right, List·Memᴰ·append-cases as in-append, Memᴰ·cast as in-cast}
 use lib.Dec.{T, eqb, eqb→eq, eqb-refl}
-use Rattle.policy.specs.Lists.{NoRepeat, keep, flat}
+use Rattle.policy.specs.Lists.{NoRepeat, keep}
 use Rattle.policy.specs.Contract.{Tok, Row, Contract}
 use Rattle.policy.specs.Layout.{Layout}
 use Rattle.policy.specs.Tables.{Tables, Unmet, Waiting}
 use Rattle.policy.specs.Lookup.{numbers, places, usedNumbers, serviceAt, wanted, grantAt, contractAt}
 use Rattle.policy.specs.Draft.{callRow}
 use Rattle.policy.specs.History.{SameContract, FourSets}
-use Rattle.policy.proofs.Sets.{in-keep, keep-in, once-keep, in-map, map-in, once-map, in-flat, flat-in, once-append, in-upto, once-upto, pairs, pairs-in, in-pairs, once-pairs}
+use Rattle.policy.proofs.Sets.{in-keep, keep-in, once-keep, in-map, map-in, once-map, once-append, in-upto, once-upto, pairs, pairs-in, in-pairs, once-pairs}
 use Rattle.policy.proofs.Found.{same-place}
 use Rattle.policy.proofs.Facts.{place-in, bit-in, need-bits}
 use Rattle.policy.proofs.Formed.{Names, Bits, Formed, ProvidesAt, RowAt, GrantAt, HasContract, Stands}

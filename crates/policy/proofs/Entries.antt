@@ -1,7 +1,7 @@
 -- Demand 1: every entry's answer and second number are of document 01's table, and a refusal leaves what was lent.
-use Prim.Native.Nat.{ℕ, zero, suc, _+_, _-_, _≤_, _<_}
+use Prim.Native.Nat.{ℕ, zero, suc, _≤_, _<_}
 use native.Mathlib.Omega.{arith}
-use mathlib.Core.Path.{_≡_, refl, sym, ap, _∙_, subst}
+use mathlib.Core.Path.{_≡_, refl, _∙_}
 use mathlib.Core.Logic.{_⊎_, inl, inr}
 use mathlib.Core.Bool.{Bool, true, false, not, _&&_, cond}
 use mathlib.Core.List.{List, [], _∷_, _++_, tail}
@@ -16,12 +16,12 @@ use Rattle.policy.specs.Layout.{Layout, size}
 use Rattle.policy.specs.Record.{Request, Change, load, remove, addService, removeService, addCall, removeCall, addGrant, removeGrant, addNeed, removeNeed, parse, proper}
 use Rattle.policy.specs.Causes.{Cause, _when_, answer}
 use Rattle.policy.specs.Tables.{Tables, decode, emptyImage}
-use Rattle.policy.specs.Lookup.{numbers, usedNumbers, numberOf, freeNumber, contractAt}
+use Rattle.policy.specs.Lookup.{numbers, numberOf, freeNumber, contractAt}
 use Rattle.policy.specs.Sound.{sound}
 use Rattle.policy.specs.Draft.{Look, look, draft, numberFor}
-use Rattle.policy.specs.Judge.{Out, refusal, tableCauses, lookCauses, judgeCauses, judged, judgeTables, judge, check, writeEmpty, loadRecord, wrote, readOutTables, readOut}
+use Rattle.policy.specs.Judge.{Out, refusal, tableCauses, lookCauses, judgeCauses, judged, judgeTables, judge, check, writeEmpty, loadRecord, readOut}
 use Rattle.policy.specs.Claims.{IsFirst, RefusesWith, AnswersAlways}
-use Rattle.policy.proofs.Sets.{T-true, true-T, not-false, every-in, in-from, length-keep, length-from}
+use Rattle.policy.proofs.Sets.{not-false, every-in, in-from, length-keep, length-from}
 use Rattle.policy.proofs.Formed.{Names}
 use Rattle.policy.proofs.Found.{NumberIs, FreeIs, number-is, free-number-is}
 use Rattle.policy.proofs.Answers.{answer-zero, ascends, answer-append-zero, first-is}

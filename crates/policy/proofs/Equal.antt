@@ -1,11 +1,11 @@
 -- The equality tests of AIDs, tokens and rows, read as equations.
 use Prim.Native.Nat.{ℕ}
-use mathlib.Core.Path.{_≡_, refl, sym, ap, _∙_, subst}
-use mathlib.Core.Bool.{Bool, true, false, _&&_}
-use mathlib.Core.List.{List, [], _∷_}
+use mathlib.Core.Path.{_≡_, subst}
+use mathlib.Core.Bool.{_&&_}
+use mathlib.Core.List.{List}
 use mathlib.Core.List.{List·Memᴰ as In}
 use lib.Dec.{T, eqb, eqb→eq, eqb-refl}
-use Rattle.policy.specs.Lists.{exists, NoRepeat, eqBytes}
+use Rattle.policy.specs.Lists.{exists}
 use Rattle.policy.specs.Contract.{Aid, eqAid, Tok, eqTok, Row, eqRow, hasTok, hasRow}
 use Rattle.policy.specs.Tables.{Unmet, Waiting}
 use Rattle.policy.specs.Sound.{eqUnmet, eqWaiting}

@@ -3,7 +3,7 @@ use Prim.Native.Nat.{ℕ, _≤_, _<_}
 use mathlib.Core.Path.{_≡_}
 use mathlib.Core.Logic.{_↔_}
 use mathlib.Core.Bool.{Bool}
-use mathlib.Core.List.{List, [], _∷_, map}
+use mathlib.Core.List.{List, [], map}
 use mathlib.Core.List.{List·Memᴰ as In}
 use lib.Dec.{T}
 use lib.ListN.{length}
@@ -14,7 +14,7 @@ use Rattle.policy.specs.Record.{Change, load, remove, addService, remove
 use Rattle.policy.specs.Causes.{answer}
 use Rattle.policy.specs.Machine.{effect}
 use Rattle.policy.specs.Tables.{Tables, Unmet, Waiting, noTok}
-use Rattle.policy.specs.Lookup.{serviceAt, wanted}
+use Rattle.policy.specs.Lookup.{serviceAt}
 use Rattle.policy.specs.Draft.{Draft, callRow, draft, look}
 use Rattle.policy.specs.ShortCheck.{shortLook}
 use Rattle.policy.specs.Judge.{tableCauses}

@@ -1,33 +1,30 @@
 -- Kind 3: a service added with its grants. Unmet calls on it become bits; a grant is a bit where its caller is installed, else it waits.
 use Prim.Native.Nat.{ℕ, _<_}
 use mathlib.Core.Path.{_≡_, refl, sym, ap, _∙_, subst}
-use mathlib.Core.Logic.{_⊎_, inl, inr, _↔_, Iff·trans}
-use mathlib.Core.Bool.{Bool, true, false, not, _&&_, _||_}
-use mathlib.Core.List.{List, [], _∷_, _++_, map}
-use mathlib.Core.List.{List·Memᴰ as In, List·Memᴰ·head as here, List·Memᴰ·cases-cons as in-cons, List·Memᴰ·not-nil as in-nil}
+use mathlib.Core.Logic.{_⊎_, inl, inr, _↔_}
+use mathlib.Core.Bool.{Bool, not, _&&_, _||_}
+use mathlib.Core.List.{List, [], map}
+use mathlib.Core.List.{List·Memᴰ as In}
 use mathlib.Core.List.{Memᴰ·append-left as in-left, Memᴰ·append-right as in-right, List·Memᴰ·append-cases as in-append, Memᴰ·cast as in-cast}
 use mathlib.Core.Option.{Option, none, some}
 use lib.Dec.{T, eqb, eqb→eq}
-use Rattle.policy.specs.Lists.{every, exists, keep, isSome, orElse, distinct, NoRepeat}
-use Rattle.policy.specs.Contract.{Aid, eqAid, Tok, eqTok, Row, Contract, validAid, hasTok}
+use Rattle.policy.specs.Lists.{every, exists, keep, isSome, distinct, NoRepeat}
+use Rattle.policy.specs.Contract.{Aid, eqAid, Tok, eqTok, Row, Contract, validAid}
 use Rattle.policy.specs.Layout.{Layout}
 use Rattle.policy.specs.Record.{addService, proper}
-use Rattle.policy.specs.Causes.{_when_, answer}
 use Rattle.policy.specs.Machine.{altered, alter}
 use Rattle.policy.specs.Tables.{Tables, Unmet, Waiting}
-use Rattle.policy.specs.Lookup.{serviceAt, numberOf, freeService, contractAt}
-use Rattle.policy.specs.Draft.{callRow, hasUnmet, asksFor, addServiceAt, kept, draft}
-use Rattle.policy.proofs.Sets.{none-to, test, and-l, and-r, and-i, or-l, or-r, or-e, not-i, not-e, false-T}
-use Rattle.policy.proofs.Sets.{every-in, keep-in, in-keep, once-keep, in-map, map-in, once-map, once-append, once-snoc, each-append, distinct→once}
-use Rattle.policy.proofs.Equal.{eqAid→, eqAid-refl, eqAid-of, eqb-of, eqTok→, eqTok-of, tok-has, has-aid, aid-has, has-unmet, unmet-has}
-use Rattle.policy.proofs.Formed.{Names, Bits, Formed, ProvidesAt, at, grantBit, RowAt, bit, row, GrantAt, HasContract, Stands, Turns, KindTurns}
-use Rattle.policy.proofs.Found.{NumberIs, number-is, FreeIs, free-service-is}
-use Rattle.policy.proofs.Answers.{answer-zero}
+use Rattle.policy.specs.Lookup.{serviceAt, numberOf}
+use Rattle.policy.specs.Draft.{callRow, hasUnmet, asksFor, addServiceAt}
+use Rattle.policy.proofs.Sets.{none-to, test, and-l, and-r, and-i, or-l, or-r, or-e, not-i, not-e}
+use Rattle.policy.proofs.Sets.{every-in, keep-in, in-keep, once-keep, in-map, map-in, once-map, once-append, each-append, distinct→once}
+use Rattle.policy.proofs.Equal.{eqAid→, eqAid-refl, eqAid-of, eqb-of, eqTok→, eqTok-of, has-aid, aid-has, has-unmet, unmet-has}
+use Rattle.policy.proofs.Formed.{Names, Bits, Formed, ProvidesAt, at, grantBit, RowAt, bit, row, GrantAt, Stands, Turns, KindTurns}
+use Rattle.policy.proofs.Found.{NumberIs, number-is}
 use Rattle.policy.proofs.Alter.{More, turned-same, turned-one, turned-more, stands-turned}
 use Rattle.policy.proofs.Put2.{NewPlace, new-place}
 use Rattle.policy.proofs.Reach.{reach-3}
 use Rattle.policy.proofs.Facts.{no-rows, granted-provided}
-use Rattle.policy.proofs.ContractAt.{provides-at}
 
 module _ (L : Layout) (t : Tables) (f : Formed L t) (j k : ℕ) (uj : T (t .used j)) (k< : k < L .services) (free : T (t .provides j k) → ⊥)
     (s : Tok) (fresh : ProvidesAt t j s → ⊥) (l : List Aid) (valid : (b : Aid) → In b l → T (validAid b)) (others : (b : Aid) → In b l → b ≡ t .aid j → ⊥) (once : NoRepeat l) where

@@ -1,29 +1,25 @@
 -- Kinds 5 and 6: a call of package i added or removed.
 use Prim.Native.Nat.{ℕ}
-use mathlib.Core.Path.{_≡_, refl, sym, ap, _∙_, subst}
-use mathlib.Core.Logic.{_⊎_, inl, inr}
+use mathlib.Core.Path.{_≡_, refl, sym, ap, _∙_}
 use mathlib.Core.Bool.{Bool, true, false, not}
 use mathlib.Core.List.{List, [], _∷_, _++_}
 use mathlib.Core.List.{List·Memᴰ as In, List·Memᴰ·not-nil as in-nil}
 use mathlib.Core.Option.{Option, none, some}
 use lib.Dec.{T}
-use Rattle.policy.specs.Lists.{keep, orElse}
-use Rattle.policy.specs.Contract.{Aid, eqAid, Row, Contract, hasRow, validAid}
+use Rattle.policy.specs.Lists.{keep}
+use Rattle.policy.specs.Contract.{Aid, eqAid, Row, Contract, validAid}
 use Rattle.policy.specs.Layout.{Layout}
 use Rattle.policy.specs.Record.{addCall, removeCall, proper}
-use Rattle.policy.specs.Causes.{_when_}
-use Rattle.policy.specs.Machine.{alter, altered, effect, withoutRow}
+use Rattle.policy.specs.Machine.{alter, altered}
 use Rattle.policy.specs.Tables.{Tables, Unmet}
-use Rattle.policy.specs.Lookup.{Place, serverOf, contractAt}
+use Rattle.policy.specs.Lookup.{Place}
 use Rattle.policy.specs.Sound.{eqUnmet}
-use Rattle.policy.specs.Draft.{callRow, put3, addCallAt, removeCallAt, kept, draft}
-use Rattle.policy.proofs.Sets.{false-T, not-e, each-snoc, keep-in, once-snoc, once-keep}
-use Rattle.policy.proofs.Equal.{eqAid-of, row-has}
-use Rattle.policy.proofs.Formed.{Bits, UnmetRows, Formed, RowAt, row, Stands, Turns, KindTurns}
-use Rattle.policy.proofs.Found.{ServerIs, server-is}
-use Rattle.policy.proofs.Answers.{answer-zero}
-use Rattle.policy.proofs.Put.{At, put3-cases, put3-keep, put3-less}
-use Rattle.policy.proofs.ContractAt.{calls-at}
+use Rattle.policy.specs.Draft.{callRow, put3, addCallAt, removeCallAt}
+use Rattle.policy.proofs.Sets.{not-e, each-snoc, keep-in, once-snoc, once-keep}
+use Rattle.policy.proofs.Equal.{eqAid-of}
+use Rattle.policy.proofs.Formed.{UnmetRows, Formed, RowAt, row, Stands, Turns, KindTurns}
+use Rattle.policy.proofs.Found.{ServerIs}
+use Rattle.policy.proofs.Put.{put3-cases, put3-keep, put3-less}
 use Rattle.policy.proofs.Reach.{reach-5, reach-6}
 use Rattle.policy.proofs.Facts.{no-rows, bits-sub, bits-more, need-bits}
 use Rattle.policy.proofs.Alter.{turned-same, turned-one}

@@ -1,33 +1,30 @@
 -- Kinds 7 and 8: a grant added, a grant removed. It is a bit where its caller is installed, else a row that waits.
 use Prim.Native.Nat.{ℕ}
 use mathlib.Core.Path.{_≡_, refl, sym, ap, _∙_, subst}
-use mathlib.Core.Logic.{_⊎_, inl, inr, _↔_, Iff·trans}
-use mathlib.Core.Bool.{Bool, true, false, not, _||_}
+use mathlib.Core.Logic.{_⊎_, inl, inr}
+use mathlib.Core.Bool.{true, false, not}
 use mathlib.Core.List.{List, [], _∷_, _++_}
-use mathlib.Core.List.{List·Memᴰ as In, List·Memᴰ·head as here, List·Memᴰ·cases-cons as in-cons, List·Memᴰ·not-nil as in-nil}
+use mathlib.Core.List.{List·Memᴰ as In, List·Memᴰ·head as here}
 use mathlib.Core.List.{Memᴰ·append-left as in-left, Memᴰ·append-right as in-right, List·Memᴰ·append-cases as in-append}
 use mathlib.Core.Option.{Option, none, some}
 use lib.Dec.{T}
-use Rattle.policy.specs.Lists.{keep, orElse, NoRepeat}
-use Rattle.policy.specs.Contract.{Aid, eqAid, Tok, Row, eqRow, Contract, validAid, hasTok, hasRow}
+use Rattle.policy.specs.Lists.{keep}
+use Rattle.policy.specs.Contract.{Aid, eqAid, Row, Contract, validAid}
 use Rattle.policy.specs.Layout.{Layout}
 use Rattle.policy.specs.Record.{addGrant, removeGrant, proper}
-use Rattle.policy.specs.Causes.{_when_}
-use Rattle.policy.specs.Machine.{withoutRow, altered, alter}
-use Rattle.policy.specs.Tables.{Tables, Unmet, Waiting}
-use Rattle.policy.specs.Lookup.{numberOf, contractAt}
+use Rattle.policy.specs.Machine.{altered, alter}
+use Rattle.policy.specs.Tables.{Tables, Waiting}
 use Rattle.policy.specs.Sound.{eqWaiting}
-use Rattle.policy.specs.Draft.{kept, withGrants, put3, addGrantAt, removeGrantAt, draft}
-use Rattle.policy.proofs.Sets.{not-i, not-e, or-l, or-r, keep-in, in-keep, once-keep, once-snoc, each-one, each-snoc}
-use Rattle.policy.proofs.Equal.{eqAid-of, eqRow→, eqRow-refl, eqWaiting→, eqWaiting-refl, has-tok, has-row, row-has}
-use Rattle.policy.proofs.Formed.{Bits, WaitingRows, Formed, ProvidesAt, at, RowAt, bit, row, GrantAt, HasContract, Stands, Turns, KindTurns}
-use Rattle.policy.proofs.Found.{NumberIs, number-is}
+use Rattle.policy.specs.Draft.{put3, addGrantAt, removeGrantAt}
+use Rattle.policy.proofs.Sets.{not-i, not-e, keep-in, in-keep, once-keep, once-snoc, each-one, each-snoc}
+use Rattle.policy.proofs.Equal.{eqAid-of, eqWaiting→, eqWaiting-refl}
+use Rattle.policy.proofs.Formed.{Formed, bit, row, GrantAt, Stands, Turns, KindTurns}
+use Rattle.policy.proofs.Found.{NumberIs}
 use Rattle.policy.proofs.Facts.{bits-sub, bits-more}
 use Rattle.policy.proofs.Alter.{More, Less, turned-one}
 use Rattle.policy.proofs.Rows.{turned-without, turns-grants}
 use Rattle.policy.proofs.Put.{At, put3-new, put3-keep, put3-cases, put3-less}
 use Rattle.policy.proofs.Reach.{reach-7, reach-8}
-use Rattle.policy.proofs.ContractAt.{provides-at, grants-at}
 
 -- ---- the grant r of service k of package j
 module _ (L : Layout) (t : Tables) (f : Formed L t) (r : Row) (j k : ℕ) (pk : T (t .provides j k)) (ek : t .tok j k ≡ r .tok) where

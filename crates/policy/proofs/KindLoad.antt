@@ -14,7 +14,7 @@ use Rattle.policy.specs.Layout.{Layout}
 use Rattle.policy.specs.Record.{load}
 use Rattle.policy.specs.Tables.{Tables, Unmet, Waiting}
 use Rattle.policy.specs.Lookup.{Place, serviceAt, numberOf, serverOf}
-use Rattle.policy.specs.Draft.{Draft, callRow, loadedNames, notServed, loadedService, loadAt}
+use Rattle.policy.specs.Draft.{callRow, loadedNames, notServed, loadedService, loadAt}
 use Rattle.policy.specs.History.{FourSets}
 use Rattle.policy.proofs.Sets.{and-l, and-r, test, not-i, in-map, map-in, keep-in, in-keep}
 use Rattle.policy.proofs.Equal.{eqAid→, has-tok}

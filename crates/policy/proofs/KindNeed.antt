@@ -2,26 +2,22 @@
 use Prim.Native.Nat.{ℕ}
 use mathlib.Core.Path.{_≡_, refl, sym, _∙_, subst}
 use mathlib.Core.Logic.{_⊎_, inl, inr}
-use mathlib.Core.Bool.{Bool, true, false, not, _||_}
-use mathlib.Core.List.{List, [], _∷_, _++_}
+use mathlib.Core.Bool.{Bool, true, false}
+use mathlib.Core.List.{List, [], _∷_}
 use mathlib.Core.List.{List·Memᴰ·not-nil as in-nil}
 use mathlib.Core.Option.{Option, none, some}
 use lib.Dec.{T}
-use Rattle.policy.specs.Lists.{orElse}
-use Rattle.policy.specs.Contract.{Aid, Row, Contract, hasRow}
+use Rattle.policy.specs.Contract.{Aid, Row, Contract}
 use Rattle.policy.specs.Layout.{Layout}
 use Rattle.policy.specs.Record.{addNeed, removeNeed}
-use Rattle.policy.specs.Causes.{_when_}
-use Rattle.policy.specs.Machine.{alter, altered, effect, withoutRow}
+use Rattle.policy.specs.Machine.{alter, altered}
 use Rattle.policy.specs.Tables.{Tables}
-use Rattle.policy.specs.Lookup.{Place, serverOf, contractAt}
-use Rattle.policy.specs.Draft.{callRow, put3, withNeeds, addNeedAt, removeNeedAt, kept, draft}
+use Rattle.policy.specs.Lookup.{Place}
+use Rattle.policy.specs.Draft.{callRow, put3, withNeeds, addNeedAt, removeNeedAt, kept}
 use Rattle.policy.proofs.Sets.{each-one}
-use Rattle.policy.proofs.Equal.{has-row, row-has}
 use Rattle.policy.proofs.Formed.{Off, Formed, RowAt, bit, row, Stands, Turns, KindTurns}
-use Rattle.policy.proofs.Found.{ServerIs, server-is}
+use Rattle.policy.proofs.Found.{ServerIs}
 use Rattle.policy.proofs.Put.{At, put3-cases, put3-less}
-use Rattle.policy.proofs.ContractAt.{calls-at, needs-at}
 use Rattle.policy.proofs.Reach.{reach-9, reach-10}
 use Rattle.policy.proofs.Facts.{no-rows, need-bits}
 use Rattle.policy.proofs.Alter.{Turned, turned-same, turned-one}

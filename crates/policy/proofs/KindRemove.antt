@@ -3,25 +3,19 @@ use Prim.Native.Nat.{ℕ}
 use mathlib.Core.Path.{_≡_, refl, sym, ap, _∙_, subst}
 use mathlib.Core.Logic.{_⊎_, inl, inr, Iff·trans}
 use mathlib.Core.Bool.{Bool, true, false, not, _&&_, _||_, cond}
-use mathlib.Core.List.{List, [], _∷_, map}
+use mathlib.Core.List.{List, [], map}
 use mathlib.Core.List.{List·Memᴰ as In, Memᴰ·append-left as in-left, Memᴰ·append-right as in-right, List·Memᴰ·append-cases as in-append, Memᴰ·cast as in-cast}
-use mathlib.Core.Option.{Option, none, some}
 use lib.Dec.{T, eqb, eqb→eq}
-use Rattle.policy.specs.Lists.{keep, flat, isSome, orElse, NoRepeat}
+use Rattle.policy.specs.Lists.{keep, flat}
 use Rattle.policy.specs.Contract.{Aid, eqAid, Tok, Row, Contract, validAid}
 use Rattle.policy.specs.Layout.{Layout}
 use Rattle.policy.specs.Record.{remove}
-use Rattle.policy.specs.Causes.{_when_, answer}
 use Rattle.policy.specs.Tables.{Tables, Unmet, Waiting, noTok}
-use Rattle.policy.specs.Lookup.{numberOf, numbers, places}
-use Rattle.policy.specs.Draft.{kept, Draft, Look, draft, removeAt}
-use Rattle.policy.specs.Judge.{tableCauses}
-use Rattle.policy.specs.ShortCheck.{fine, shortRemove, shortLook}
-use Rattle.policy.proofs.Sets.{and-l, and-r, and-i, or-l, or-r, not-i, not-e, false-T, T-false, test, keep-in, in-keep, once-keep, map-in, in-map, once-map-keep, once-append, each-append, in-upto, once-upto, pairs-in, in-pairs, once-pairs}
+use Rattle.policy.specs.Lookup.{numbers, places}
+use Rattle.policy.specs.Draft.{removeAt}
+use Rattle.policy.proofs.Sets.{and-l, and-r, and-i, or-l, or-r, not-i, not-e, false-T, T-false, test, keep-in, in-keep, once-keep, once-map-keep, once-append, each-append, in-upto, once-upto, pairs-in, in-pairs, once-pairs}
 use Rattle.policy.proofs.Equal.{eqAid→, eqAid-of, eqb-of}
 use Rattle.policy.proofs.Formed.{Formed, Bits, WaitingRows, grantBit, ProvidesAt, at, GrantAt, bit, row, HasContract, Stands, Turns, KindTurns}
-use Rattle.policy.proofs.Found.{NumberIs, number-is}
-use Rattle.policy.proofs.Answers.{answer-zero}
 use Rattle.policy.proofs.Reach.{reach-2}
 use Rattle.policy.proofs.Facts.{place-in, need-bits}
 use Rattle.policy.proofs.Dropped.{Without, BitsStay, RowsStay, Dropping, formed-dropped, lost-dropped, calls-dropped, needs-dropped}

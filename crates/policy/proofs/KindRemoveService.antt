@@ -1,33 +1,23 @@
 -- Kind 4: a service goes, and its grants; calls on it are unmet.
 use Prim.Native.Nat.{ℕ}
 use mathlib.Core.Path.{_≡_, refl, sym, ap, _∙_, subst}
-use mathlib.Core.Logic.{_↔_}
 use mathlib.Core.Bool.{Bool, true, false, not, _&&_, cond}
-use mathlib.Core.List.{List, [], _∷_}
+use mathlib.Core.List.{List, []}
 use mathlib.Core.List.{List·Memᴰ as In}
-use mathlib.Core.Option.{Option, none, some}
 use lib.Dec.{T, eqb, eqb→eq}
-use Rattle.policy.specs.Lists.{keep, isSome, orElse}
-use Rattle.policy.specs.Contract.{Aid, Tok, eqTok, Row, Contract, hasTok}
+use Rattle.policy.specs.Contract.{Aid, Tok, eqTok, Row, Contract}
 use Rattle.policy.specs.Layout.{Layout}
 use Rattle.policy.specs.Record.{removeService}
-use Rattle.policy.specs.Causes.{_when_, answer}
 use Rattle.policy.specs.Machine.{alter, altered}
 use Rattle.policy.specs.Tables.{Tables, Waiting, noTok}
-use Rattle.policy.specs.Lookup.{numberOf, serviceOf, contractAt}
-use Rattle.policy.specs.Draft.{Draft, Look, kept, draft, removeServiceAt}
-use Rattle.policy.specs.Judge.{tableCauses}
-use Rattle.policy.specs.ShortCheck.{fine, shortRemoveService, shortLook}
+use Rattle.policy.specs.Draft.{removeServiceAt}
 use Rattle.policy.proofs.Sets.{and-l, and-r, and-i, not-i, not-e, false-T, T-false, differs, keep-in, in-keep, once-keep}
 use Rattle.policy.proofs.Equal.{eqTok→, eqTok-refl, eqb-of}
-use Rattle.policy.proofs.Formed.{Formed, Bits, grantBit, ProvidesAt, at, GrantAt, bit, row, HasContract, Stands, Turns, KindTurns}
-use Rattle.policy.proofs.Found.{NumberIs, number-is, ServiceIs, service-is}
-use Rattle.policy.proofs.Answers.{answer-zero}
+use Rattle.policy.proofs.Formed.{Formed, Bits, grantBit, ProvidesAt, at, GrantAt, bit, row, Stands, Turns, KindTurns}
 use Rattle.policy.proofs.Alter.{turned-same, turned-less, stands-turned}
 use Rattle.policy.proofs.Reach.{reach-4}
 use Rattle.policy.proofs.Facts.{need-bits}
 use Rattle.policy.proofs.Dropped.{Without, BitsStay, Dropping, formed-dropped, lost-dropped, calls-dropped, needs-dropped}
-use Rattle.policy.proofs.ContractAt.{provides-at}
 
 module _ (L : Layout) (t : Tables) (fm : Formed L t) (j k : ℕ) (pk : T (t .provides j k)) where
   abbrev t′ : Tables

@@ -1,10 +1,10 @@
 -- Lawful tables stand for lawful contracts: every met call is granted by its provider, every need is met.
 use Prim.Native.Nat.{ℕ}
-use mathlib.Core.Path.{_≡_, refl, sym, ap, _∙_, subst}
+use mathlib.Core.Path.{_≡_, sym, ap, _∙_}
 use mathlib.Core.List.{List, []}
-use mathlib.Core.List.{List·Memᴰ as In, List·Memᴰ·not-nil as in-nil, Memᴰ·cast as in-cast}
+use mathlib.Core.List.{List·Memᴰ as In, List·Memᴰ·not-nil as in-nil}
 use lib.Dec.{T}
-use Rattle.policy.specs.Contract.{Tok, Row, Contract}
+use Rattle.policy.specs.Contract.{Row, Contract}
 use Rattle.policy.specs.Layout.{Layout}
 use Rattle.policy.specs.Tables.{Tables}
 use Rattle.policy.specs.Claims.{CallsGranted, NeedsPresent}

@@ -10,7 +10,7 @@ use Rattle.policy.specs.Lists.{keep, isSome, orElse}
 use Rattle.policy.specs.Contract.{eqAid, Tok, Row, Contract, hasTok, validAid}
 use Rattle.policy.specs.Layout.{Layout}
 use Rattle.policy.specs.Tables.{Tables, Unmet, Waiting}
-use Rattle.policy.specs.Lookup.{Place, numberOf, serviceOf, serverOf, serviceAt}
+use Rattle.policy.specs.Lookup.{numberOf, serviceOf, serverOf, serviceAt}
 use Rattle.policy.specs.Draft.{callRow, loadedNames, notServed, loadedService, loadAt}
 use Rattle.policy.proofs.Sets.{none-to, and-i, not-e, map-in, keep-in, once-keep, once-map, once-append, each-append}
 use Rattle.policy.proofs.Equal.{eqAid-of, tok-has}

@@ -4,24 +4,24 @@ use native.Mathlib.Omega.{arith}
 use native.Mathlib.Nat.{not-suc-le-zero, le-of-suc-le-suc}
 use mathlib.Core.Path.{_≡_, refl, sym, ap, _∙_, subst}
 use mathlib.Core.Logic.{_⊎_, inl, inr}
-use mathlib.Core.Bool.{Bool, true, false, not, _&&_, cond}
+use mathlib.Core.Bool.{Bool, true, not, _&&_, cond}
 use mathlib.Core.List.{List, [], _∷_}
 use mathlib.Core.List.{List·Memᴰ as In, List·Memᴰ·head as here, List·Memᴰ·tail as there, Memᴰ·cast as in-cast}
-use mathlib.Core.Option.{Option, none, some}
+use mathlib.Core.Option.{none, some}
 use lib.Dec.{T, eqb, ltb, eqb→eq, eqb-refl, ltb→lt, lt→ltb, nltb→le}
 use lib.ListN.{length, getD, List·getD-eq-default}
-use Rattle.policy.specs.Lists.{every, distinct, isSome, orElse, NoRepeat}
+use Rattle.policy.specs.Lists.{every, distinct, NoRepeat}
 use Rattle.policy.specs.Contract.{Aid, eqAid, Tok, eqTok, Row, eqRow, Contract, hasTok, hasRow, validAid}
 use Rattle.policy.specs.Layout.{Layout}
 use Rattle.policy.specs.Record.{load, notOwn, proper}
-use Rattle.policy.specs.Causes.{_when_, answer}
+use Rattle.policy.specs.Causes.{answer}
 use Rattle.policy.specs.Tables.{Tables, noTok}
-use Rattle.policy.specs.Lookup.{serviceAt, numberOf, freeNumber}
+use Rattle.policy.specs.Lookup.{serviceAt}
 use Rattle.policy.specs.Draft.{Draft, Look, loadedNames, loadAt, draft}
 use Rattle.policy.specs.ShortCheck.{shortLoad, shortLook}
 use Rattle.policy.specs.Judge.{tableCauses}
 use Rattle.policy.specs.History.{FourSets}
-use Rattle.policy.proofs.Sets.{T-true, T-false, false-T, and-l, and-r, test, not-i, not-e, every-in, distinct→once}
+use Rattle.policy.proofs.Sets.{T-true, T-false, and-l, and-r, test, not-i, not-e, every-in, distinct→once}
 use Rattle.policy.proofs.Equal.{eqAid-of, eqb-of, eqTok→, eqTok-refl, eqRow→, eqRow-refl, has-tok, has-row}
 use Rattle.policy.proofs.Formed.{Names, Formed}
 use Rattle.policy.proofs.Found.{NumberIs, FreeIs}

@@ -1,10 +1,9 @@
 -- What reading a record gives: valid AIDs, at most as many services as a package has numbers for, and where the first AID stands.
 use Prim.Native.Nat.{ℕ, zero, suc, _+_, _*_, _≤_}
 use mathlib.Core.Path.{_≡_, refl, sym, ap, subst}
-use mathlib.Core.Logic.{_⊎_, inl, inr}
 use mathlib.Core.Bool.{Bool, true, false, _&&_}
 use mathlib.Core.List.{List, [], _∷_}
-use mathlib.Core.List.{List·Memᴰ as In, List·Memᴰ·cases-cons as in-cons, List·Memᴰ·not-nil as in-nil}
+use mathlib.Core.List.{List·Memᴰ as In, List·Memᴰ·not-nil as in-nil}
 use mathlib.Core.Option.{Option, none, some}
 use lib.Dec.{T, eqb, leb, leb→le}
 use lib.ListN.{length, getD, take, drop}

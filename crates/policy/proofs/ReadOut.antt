@@ -1,17 +1,17 @@
 -- The contract of a number, read out: it fits a record, has no cause 3, and is read as itself.
-use Prim.Native.Nat.{ℕ, zero, suc, _+_, _*_, _-_, _≤_, _<_}
+use Prim.Native.Nat.{ℕ, suc, _+_, _*_, _-_, _≤_}
 use native.Mathlib.Omega.{arith}
 use native.Mathlib.Nat.{suc-mul}
 use mathlib.Core.Path.{_≡_, refl, sym, ap, _∙_, subst}
 use mathlib.Core.Logic.{_⊎_, inl, inr}
-use mathlib.Core.Bool.{Bool, true, false, not, _&&_, cond}
+use mathlib.Core.Bool.{Bool, not, _&&_, cond}
 use mathlib.Core.List.{List, [], _∷_, _++_, map}
-use mathlib.Core.List.{List·Memᴰ as In, List·Memᴰ·head as here, List·Memᴰ·tail as there, List·Memᴰ·cases-cons as in-cons, List·Memᴰ·not-nil as in-nil}
+use mathlib.Core.List.{List·Memᴰ as In, List·Memᴰ·cases-cons as in-cons, List·Memᴰ·not-nil as in-nil}
 use mathlib.Core.Option.{some}
 use lib.Dec.{T, eqb}
 use lib.ListN.{length, length-append, length-map}
-use Rattle.policy.specs.Lists.{every, keep, flat, from, upto, distinct}
-use Rattle.policy.specs.Contract.{Aid, eqAid, Tok, eqTok, Row, eqRow, Contract, hasTok, hasRow, validAid}
+use Rattle.policy.specs.Lists.{every, keep, flat, distinct}
+use Rattle.policy.specs.Contract.{Aid, eqAid, eqTok, Row, eqRow, Contract, hasTok, hasRow, validAid}
 use Rattle.policy.specs.Layout.{Layout, LayoutOk}
 use Rattle.policy.specs.Record.{load, notOwn, parse, proper}
 use Rattle.policy.specs.Tables.{Tables}
@@ -19,7 +19,7 @@ use Rattle.policy.specs.Lookup.{numbers, places, serviceAt, wanted, gran
 use Rattle.policy.specs.Judge.{loadRecord}
 use Rattle.policy.proofs.Sets.{length-keep, length-from, length-flat-le, and-i, not-i, T-false, in-every, once→distinct, in-upto}
 use Rattle.policy.proofs.Equal.{eqAid→, eqTok→, eqTok-refl, eqRow→, eqRow-refl, row-has, tok-has}
-use Rattle.policy.proofs.Formed.{Formed, Fitting, ProvidesAt, at, RowAt, GrantAt, ValidRows}
+use Rattle.policy.proofs.Formed.{Formed, Fitting, RowAt, GrantAt}
 use Rattle.policy.proofs.Facts.{need-bits, granted-provided}
 use Rattle.policy.proofs.ContractAt.{provides-at, calls-at, grants-at, needs-at, four-sets-at}
 use Rattle.policy.proofs.Written.{load-parses}

@@ -8,7 +8,7 @@ use mathlib.Core.List.{List·Memᴰ as In, List·Memᴰ·head as here, List·Mem
 use mathlib.Core.List.{Memᴰ·append-left as in-left, Memᴰ·append-right as in-right, List·Memᴰ·append-cases as in-append, Memᴰ·cast as in-cast}
 use mathlib.Core.Option.{none, some}
 use lib.Dec.{T}
-use Rattle.policy.specs.Lists.{keep, NoRepeat}
+use Rattle.policy.specs.Lists.{keep}
 use Rattle.policy.specs.Contract.{Aid, Tok, Row, eqRow, Contract}
 use Rattle.policy.specs.Layout.{Layout}
 use Rattle.policy.specs.Machine.{alter, withoutRow}

@@ -11,7 +11,7 @@ use mathlib.Core.List.{Memᴰ·map, Memᴰ·of-map, Memᴰ·append-left as in-le
 use mathlib.Core.Option.{Option, none, some}
 use lib.Dec.{T, eqb, eqb→eq, eqb-refl}
 use lib.ListN.{length, length-append}
-use Rattle.policy.specs.Lists.{implies, every, exists, keep, first, flat, from, upto, isNil, isSome, orElse, NoRepeat, distinct, eqBytes}
+use Rattle.policy.specs.Lists.{implies, every, exists, keep, first, flat, from, upto, isNil, isSome, NoRepeat, distinct, eqBytes}
 
 -- ---- tests
 pub T-eq : (a b : Bool) → (T a → T b) → (T b → T a) → a ≡ b

@@ -1,5 +1,5 @@
 -- The short check is the full look for kind 1 (load) and kind 3 (a service added).
-use Prim.Native.Nat.{ℕ, suc, _+_, _≤_, _<_}
+use Prim.Native.Nat.{ℕ, _+_, _≤_}
 use native.Mathlib.Omega.{arith}
 use mathlib.Core.Path.{_≡_, refl, sym, ap, _∙_, subst}
 use mathlib.Core.Logic.{_⊎_, inl, inr}
@@ -7,23 +7,20 @@ use mathlib.Core.Bool.{Bool, true, false, not, _&&_, cond}
 use mathlib.Core.List.{List, [], _∷_, _++_, map}
 use mathlib.Core.List.{List·Memᴰ as In, List·Memᴰ·head as here, List·Memᴰ·tail as there, Memᴰ·cast as in-cast}
 use mathlib.Core.Option.{Option, none, some}
-use lib.Dec.{T, eqb, leb, eqb-refl, le→leb}
+use lib.Dec.{T, eqb, eqb-refl}
 use lib.ListN.{length, length-append, length-map}
 use Rattle.policy.specs.Lists.{implies, every, exists, keep, first, upto, isNil, isSome, orElse}
 use Rattle.policy.specs.Contract.{Aid, eqAid, Tok, eqTok, Row, Contract, hasTok, hasRow}
 use Rattle.policy.specs.Layout.{Layout}
-use Rattle.policy.specs.Record.{load, addService, proper}
-use Rattle.policy.specs.Causes.{_when_, answer}
+use Rattle.policy.specs.Record.{load, addService}
 use Rattle.policy.specs.Tables.{Tables, Unmet, Waiting}
-use Rattle.policy.specs.Lookup.{Place, serviceAt, numberOf, serviceOf, serverOf, freeService}
-use Rattle.policy.specs.Sound.{everyBit}
-use Rattle.policy.specs.Draft.{kept, Draft, callRow, hasUnmet, hasWaiting, asksFor, addServiceAt, loadedNames, notServed, loadedService, loadAt, draft, Look, look}
-use Rattle.policy.specs.ShortCheck.{count, fine, notInstalled, newcomerRights, nowMet, othersRights, shortLoad, shortAddService, shortLook}
-use Rattle.policy.specs.Judge.{absent, holds, tableCauses}
-use Rattle.policy.proofs.Sets.{length-keep, T-eq, T-true, false-T, and-l, and-r, and-i, or-l, or-r, or-e, implies-i, implies-e, every-in, in-every, in-upto}
+use Rattle.policy.specs.Lookup.{Place, serviceAt, numberOf, serviceOf, serverOf}
+use Rattle.policy.specs.Draft.{kept, callRow, hasUnmet, hasWaiting, asksFor, addServiceAt, loadedNames, notServed, loadedService, loadAt, look}
+use Rattle.policy.specs.ShortCheck.{count, notInstalled, newcomerRights, nowMet, othersRights, shortLoad, shortAddService}
+use Rattle.policy.proofs.Sets.{length-keep, T-eq, and-l, and-r, and-i, or-l, or-r, or-e, implies-i, implies-e, every-in, in-every}
 use Rattle.policy.proofs.Equal.{eqAid→, eqAid-of, eqTok→, has-tok, tok-has, has-row, row-has, eqAid-refl, eqTok-refl, has-unmet, unmet-has, waiting-has, has-waiting}
 use Rattle.policy.proofs.Formed.{grantBit, Formed, Lawful, Fitting, KindShort}
-use Rattle.policy.proofs.Found.{NumberIs, number-is, FreeIs, free-service-is, ServerIs, server-is, same-place}
+use Rattle.policy.proofs.Found.{NumberIs, number-is, FreeIs, ServerIs, server-is, same-place}
 use Rattle.policy.proofs.EveryBit.{BitIn, among, among-to, among-back}
 use Rattle.policy.proofs.Facts.{place-in}
 use Rattle.policy.proofs.Reach.{reach-3}

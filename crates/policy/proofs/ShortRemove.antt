@@ -2,28 +2,24 @@
 use Prim.Native.Nat.{ℕ, zero, suc, _+_}
 use native.Mathlib.Nat.{zero-add, suc-add, le-trans}
 use mathlib.Core.Path.{_≡_, refl, ap, _∙_, subst}
-use mathlib.Core.Logic.{_↔_}
 use mathlib.Core.Bool.{Bool, true, false, not, _&&_, cond}
 use mathlib.Core.List.{List, [], _∷_, map}
 use mathlib.Core.List.{List·Memᴰ as In, Memᴰ·cast as in-cast}
-use lib.Dec.{T, eqb, eqb→eq, eqb-refl, leb, le→leb}
+use lib.Dec.{T, eqb, eqb→eq, eqb-refl}
 use lib.ListN.{length, length-append, length-map}
-use Rattle.policy.specs.Lists.{implies, every, keep, flat, upto, isNil}
-use Rattle.policy.specs.Contract.{Aid, Tok}
+use Rattle.policy.specs.Lists.{every, keep, isNil}
+use Rattle.policy.specs.Contract.{Tok}
 use Rattle.policy.specs.Layout.{Layout}
 use Rattle.policy.specs.Record.{remove, removeService}
-use Rattle.policy.specs.Causes.{answer}
 use Rattle.policy.specs.Tables.{Tables, Unmet, Waiting}
-use Rattle.policy.specs.Lookup.{serviceAt, numbers, places, contractAt}
-use Rattle.policy.specs.Sound.{everyBit}
-use Rattle.policy.specs.Draft.{callRow, leftBy, draft, look, removeAt, removeServiceAt}
-use Rattle.policy.specs.Judge.{tableCauses}
-use Rattle.policy.specs.ShortCheck.{count, sum, ones, shortRemove, shortRemoveService, shortLook}
-use Rattle.policy.proofs.Sets.{T-true, implies-i, in-every, keep-in, in-keep, once-keep, in-map, map-in, once-map, once-upto, in-upto, same-length, length-keep, pairs}
+use Rattle.policy.specs.Lookup.{serviceAt, numbers, places}
+use Rattle.policy.specs.Draft.{callRow, leftBy, look, removeAt, removeServiceAt}
+use Rattle.policy.specs.ShortCheck.{count, sum, ones, shortRemove, shortRemoveService}
+use Rattle.policy.proofs.Sets.{keep-in, in-keep, once-keep, in-map, map-in, once-map, once-upto, in-upto, same-length, length-keep, pairs}
 use Rattle.policy.proofs.Formed.{Formed, Bits, Lawful, Fitting, KindShort}
 use Rattle.policy.proofs.Short.{look-is, fits, fits-as, granted}
 use Rattle.policy.proofs.Reach.{reach-2, reach-4}
-use Rattle.policy.proofs.Facts.{need-bits, of-lawful}
+use Rattle.policy.proofs.Facts.{need-bits}
 use Rattle.policy.proofs.Dropped.{left-in, in-left-by, once-left, lawful-dropped}
 use Rattle.policy.proofs.KindRemove.{dropping as dropping-2}
 use Rattle.policy.proofs.KindRemoveService.{dropping as dropping-4}

@@ -1,21 +1,20 @@
 -- Kinds 5 to 10, one call, grant or need: the short check says what the full look at the draft says.
-use Prim.Native.Nat.{ℕ, suc, _≤_}
+use Prim.Native.Nat.{ℕ, _≤_}
 use native.Mathlib.Nat.{le-trans}
-use mathlib.Core.Path.{_≡_, refl, sym, ap}
+use mathlib.Core.Path.{_≡_, refl, sym}
 use mathlib.Core.Logic.{_⊎_, inl, inr}
 use mathlib.Core.Bool.{Bool, true, false, not}
-use mathlib.Core.List.{List}
 use mathlib.Core.Option.{Option, none, some}
-use lib.Dec.{T, leb}
+use lib.Dec.{T}
 use lib.ListN.{length}
 use Rattle.policy.specs.Lists.{isNil}
 use Rattle.policy.specs.Contract.{Aid, Row}
 use Rattle.policy.specs.Layout.{Layout}
 use Rattle.policy.specs.Record.{addCall, removeCall, addGrant, removeGrant, addNeed, removeNeed}
-use Rattle.policy.specs.Tables.{Tables, Unmet, Waiting}
+use Rattle.policy.specs.Tables.{Tables}
 use Rattle.policy.specs.Lookup.{Place}
 use Rattle.policy.specs.Sound.{eqUnmet, eqWaiting}
-use Rattle.policy.specs.Draft.{Draft, kept, callRow, put3, withCalls, withGrants, addCallAt, removeCallAt, addGrantAt, removeGrantAt, addNeedAt, removeNeedAt, look}
+use Rattle.policy.specs.Draft.{Draft, callRow, put3, addCallAt, removeCallAt, addGrantAt, removeGrantAt, addNeedAt, removeNeedAt, look}
 use Rattle.policy.specs.ShortCheck.{fine, shortAddCall, shortAddGrant, shortRemoveGrant, shortAddNeed}
 use Rattle.policy.proofs.Sets.{T-eq, not-i, not-e, length-keep, length-snoc}
 use Rattle.policy.proofs.Formed.{grantBit, Formed, Lawful, Fitting, KindShort}

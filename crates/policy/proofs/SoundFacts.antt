@@ -1,12 +1,10 @@
 -- A sound image's tables satisfy the facts, and tables that satisfy the facts pass the tests of a sound image.
-use Prim.Native.Nat.{ℕ, zero, suc, _<_, _%_, _^_, _*_, zero-le, suc-le-suc}
-use native.Mathlib.Nat.{zero-div}
-use mathlib.Core.Path.{_≡_, refl, sym, ap, _∙_, subst}
+use Prim.Native.Nat.{ℕ, zero, suc, _<_, _*_, zero-le, suc-le-suc}
+use mathlib.Core.Path.{_≡_, refl, sym, _∙_, subst}
 use mathlib.Core.Logic.{_⊎_, inl, inr}
 use mathlib.Core.Bool.{Bool, true, false, not, _&&_, _||_}
 use mathlib.Core.List.{List, [], _∷_, map}
-use mathlib.Core.List.{List·Memᴰ as In, List·Memᴰ·cases-cons as in-cons, List·Memᴰ·not-nil as in-nil, Memᴰ·cast as in-cast}
-use mathlib.Core.Option.{Option, none, some}
+use mathlib.Core.List.{List·Memᴰ as In}
 use lib.Dec.{T, eqb, leb, ltb, eqb→eq, ltb→lt, leb→le, le→leb}
 use lib.ListN.{length, getD, take, drop, length-map}
 use Rattle.policy.specs.Lists.{implies, every, keep, distinct, isNil, isSome, upto, eqBytes, NoRepeat}
@@ -14,11 +12,11 @@ use Rattle.policy.specs.Contract.{eqAid, validAid, Tok, eqTok}
 use Rattle.policy.specs.Layout.{Layout, size, aidSize, usedAt, aidsAt, tokensAt, providesAt, callsAt, grantsAt, needsAt}
 use Rattle.policy.specs.Tables.{Tables, Unmet, Waiting, noTok, bit, readNumber, readAid, readTok, pieces, bitOf, readTable, decode, encode}
 use Rattle.policy.specs.Lookup.{numbers, places, usedNumbers, numberOf, serverOf, wanted}
-use Rattle.policy.specs.Sound.{eqUnmet, eqWaiting, everyBit, unmetOk, waitingOk}
+use Rattle.policy.specs.Sound.{eqUnmet, eqWaiting, unmetOk, waitingOk}
 use Rattle.policy.specs.Sound.{aidsOk, tokensOk, blanksOk, entriesOk, bitsProvided, needsCalled, bitsGranted, listsOk, rowsOk, soundTables, sound}
 use Rattle.policy.proofs.Sets.{and-l, and-r, and-i, or-l, or-r, or-e, implies-i, implies-e, not-i, not-e}
 use Rattle.policy.proofs.Sets.{false-T, none-to, none-back, nil-is, is-nil, map-inj, below-in, in-below}
-use Rattle.policy.proofs.Sets.{every-in, in-every, keep-in, in-keep, once-keep, in-map, once-map, distinct→once, once→distinct, in-upto, once-upto, eqBytes-refl}
+use Rattle.policy.proofs.Sets.{every-in, in-every, keep-in, in-keep, once-keep, once-map, distinct→once, once→distinct, in-upto, once-upto, eqBytes-refl}
 use Rattle.policy.proofs.Equal.{eqAid→, eqAid-refl, eqAid-of, eqb-of, eqTok→, eqTok-refl, eqTok-of, eqUnmet→, eqUnmet-refl, eqWaiting→, eqWaiting-refl}
 use Rattle.policy.proofs.Formed.{Names, Bits, UnmetRows, WaitingRows, grantBit, Formed, Lawful, Fitting}
 use Rattle.policy.proofs.Found.{NumberIs, ServerIs, number-is, server-is}

@@ -1,28 +1,24 @@
 -- One record: the engine's definition and the plain machine answer alike, and what they leave stands for each other.
-use Prim.Native.Nat.{ℕ, zero, suc, _≤_, _<_}
-use native.Mathlib.Omega.{arith}
+use Prim.Native.Nat.{ℕ, zero, suc}
 use mathlib.Core.Path.{_≡_, refl, sym, ap, _∙_, subst}
-use mathlib.Core.Logic.{_⊎_, inl, inr, _↔_}
-use mathlib.Core.Bool.{Bool, true, false, not, cond}
-use mathlib.Core.List.{List, [], _∷_, _++_, map}
-use mathlib.Core.List.{List·Memᴰ as In}
+use mathlib.Core.Bool.{Bool, not, cond}
+use mathlib.Core.List.{List, [], _∷_, _++_}
 use mathlib.Core.Option.{Option, none, some}
-use lib.Dec.{T, leb, leb→le}
-use lib.ListN.{length, take}
-use Rattle.policy.specs.Lists.{implies, every, upto, isNil, NoRepeat}
+use lib.Dec.{T, leb→le}
+use lib.ListN.{length}
 use Rattle.policy.specs.Contract.{Aid, Contract, validAid}
-use Rattle.policy.specs.Layout.{Layout, LayoutOk, size}
+use Rattle.policy.specs.Layout.{Layout, LayoutOk}
 use Rattle.policy.specs.Record.{Request, Change, load, remove, addService, removeService, addCall, removeCall, addGrant, removeGrant, addNeed, removeNeed, parse, proper}
 use Rattle.policy.specs.Causes.{Cause, _when_, answer}
-use Rattle.policy.specs.Machine.{Held, held, effect, causes4to7, causes8to11, causes3to11, machine}
+use Rattle.policy.specs.Machine.{Held, held, effect, causes8to11, causes3to11, machine}
 use Rattle.policy.specs.Tables.{Tables, Unmet, decode, encode}
 use Rattle.policy.specs.Lookup.{contractAt}
-use Rattle.policy.specs.Sound.{everyBit, sound}
+use Rattle.policy.specs.Sound.{sound}
 use Rattle.policy.specs.Draft.{Draft, look, draft, numberFor}
 use Rattle.policy.specs.Judge.{Out, refusal, tableCauses, lookCauses, judgeCauses, judged, judgeTables, judge}
-use Rattle.policy.specs.History.{SameContract, FourSets, StandsFor}
+use Rattle.policy.specs.History.{SameContract, StandsFor}
 use Rattle.policy.proofs.Sets.{T-true, not-false, nil-is}
-use Rattle.policy.proofs.Formed.{Formed, Lawful, Fitting, Off, HasContract, Stands, Turns, KindTurns, Valid}
+use Rattle.policy.proofs.Formed.{Formed, Lawful, Fitting, Stands, Turns, Valid}
 use Rattle.policy.proofs.Facts.{lawful-of}
 use Rattle.policy.proofs.SoundFacts.{sound-formed, sound-image}
 use Rattle.policy.proofs.RoundTrip.{round-trip, length-encode, header-encode}

@@ -1,35 +1,30 @@
 -- The theorems of specs/Claims.antt, for every layout that is ok, and at the card of 1,094 bytes.
-use Prim.Native.Nat.{ℕ, zero, suc, _+_, _≤_, _<_, zero-le}
+use Prim.Native.Nat.{ℕ, zero, suc, _<_}
 use native.Mathlib.Omega.{arith}
 use mathlib.Core.Path.{_≡_, refl, sym, ap, _∙_, subst}
-use mathlib.Core.Logic.{_⊎_, inl, inr, _↔_}
-use mathlib.Core.Bool.{Bool, true, false, not, _&&_, _||_, cond}
+use mathlib.Core.Logic.{_⊎_, inl, inr}
+use mathlib.Core.Bool.{Bool, true, false, not, _&&_, cond}
 use mathlib.Core.List.{List, [], _∷_, _++_, map}
 use mathlib.Core.List.{List·Memᴰ as In, List·Memᴰ·head as here, List·Memᴰ·tail as there, List·Memᴰ·cases-cons as in-cons, List·Memᴰ·not-nil as in-nil}
 use mathlib.Core.List.{List·Memᴰ·append-cases as in-append, Memᴰ·cast as in-cast}
 use mathlib.Core.Option.{Option, none, some}
-use lib.Dec.{T, eqb, eqb→eq, leb, leb→le, le→leb, ltb, ltb→lt, lit≤}
-use lib.ListN.{length, drop, length-append}
-use lib.Seq.{drop-append-seam}
-use Rattle.policy.specs.Lists.{every, exists, keep, orElse, isSome}
+use lib.Dec.{T, leb, leb→le, le→leb, ltb, ltb→lt, lit≤}
+use lib.ListN.{length, length-append}
+use Rattle.policy.specs.Lists.{every, orElse}
 use Rattle.policy.specs.Contract.{Aid, eqAid, Tok, Contract, under, lawful, callsGranted, needsMet, unmetCalls, waitingGrants}
 use Rattle.policy.specs.Layout.{Layout, LayoutOk, small, aidsAt, tokensAt, providesAt, callsAt, grantsAt, needsAt, unmetAt, waitingAt, size}
 use Rattle.policy.specs.Record.{Request, Change, load, remove, addService, removeService, addCall, removeCall, addGrant, removeGrant, addNeed, removeNeed, parse, proper}
 use Rattle.policy.specs.Causes.{Cause, _when_, answer}
-use Rattle.policy.specs.Machine.{Held, held, effect, alter, altered, causes4to7, causes8to11, causes3to11, machine}
-use Rattle.policy.specs.Tables.{Tables, decode, encode, emptyImage}
-use Rattle.policy.specs.Lookup.{usedNumbers, numbers, contractAt}
+use Rattle.policy.specs.Machine.{Held, held, effect, altered, causes4to7, causes8to11, causes3to11, machine}
+use Rattle.policy.specs.Tables.{decode, emptyImage}
+use Rattle.policy.specs.Lookup.{usedNumbers, contractAt}
 use Rattle.policy.specs.Sound.{sound}
-use Rattle.policy.specs.Draft.{Draft, look, draft}
-use Rattle.policy.specs.ShortCheck.{shortLook}
-use Rattle.policy.specs.Judge.{Out, refusal, tableCauses, lookCauses, judgeCauses, judged, judgeTables, judge, check, writeEmpty, loadRecord, wrote, readOutTables, readOut}
+use Rattle.policy.specs.Judge.{Out, refusal, judgeTables, judge, loadRecord}
 use Rattle.policy.specs.History.{SameContract, StandsFor, answers, imageAfter, machineAnswers, contractsAfter}
 use Rattle.policy.specs.Marked.{Case, cases}
-use Rattle.policy.specs.Claims.{MarkedCases, Agreement, HistoryOf, History, FitsLimits, AcceptedExactly, allCauses, IsFirst, FirstCause, SoundStands, ShortIsFull, ReadsOut, ReadOutAgain, RefusesWith, AnswersAlways}
-use Rattle.policy.proofs.Sets.{T-true, T-false, true-T, false-T, and-l, and-r, and-i, not-i, not-e, test, every-in, in-from, exists-in, in-map, keep-in}
-use Rattle.policy.proofs.Equal.{eqAid→}
-use Rattle.policy.proofs.Formed.{Formed, Lawful, Fitting, Valid}
-use Rattle.policy.proofs.Answers.{ascends, ascends-lt, ascends-front, answer-append-zero, first-is, none-of-four, four-none}
+use Rattle.policy.specs.Claims.{MarkedCases, Agreement, History, FitsLimits, AcceptedExactly, IsFirst, FirstCause, SoundStands, ShortIsFull, ReadOutAgain}
+use Rattle.policy.proofs.Sets.{T-true, T-false, and-l, and-r, and-i, not-e, test, every-in, exists-in, in-map}
+use Rattle.policy.proofs.Answers.{ascends, ascends-front, answer-append-zero, first-is, none-of-four, four-none}
 use Rattle.policy.proofs.SoundFacts.{sound-formed, sound-lawful, sound-fitting}
 use Rattle.policy.proofs.RoundTrip.{emptyTables, empty-formed, empty-fitting, empty-encode}
 use Rattle.policy.proofs.ContractAt.{same-contract, stands-self}

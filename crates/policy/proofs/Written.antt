@@ -1,19 +1,18 @@
 -- A contract written as a load record is read as that contract again.
 use Prim.Native.Nat.{ℕ, zero, suc, _+_, _*_, _/_, _%_, _^_, _≤_, _<_}
 use native.Mathlib.Omega.{arith}
-use native.Mathlib.Nat.{div-add-mod', div-lt-iff-lt-mul, pow-suc, zero-lt-suc, mul-le-mul-right, le-trans}
+use native.Mathlib.Nat.{div-add-mod', div-lt-iff-lt-mul, pow-suc, zero-lt-suc, mul-le-mul-right}
 use mathlib.Core.Path.{_≡_, refl, sym, ap, _∙_, subst}
-use mathlib.Core.Bool.{Bool, true, false, _&&_}
 use mathlib.Core.List.{List, [], _∷_, _++_, append-assoc, append-nil}
 use mathlib.Core.List.{List·Memᴰ as In, List·Memᴰ·head as here, List·Memᴰ·tail as there}
-use mathlib.Core.Option.{Option, none, some}
-use lib.Dec.{T, eqb, eqb-refl, leb, leb→le, le→leb}
-use lib.ListN.{length, take, drop, length-append}
+use mathlib.Core.Option.{none, some}
+use lib.Dec.{T, eqb, eqb-refl, leb, le→leb}
+use lib.ListN.{length, length-append}
 use lib.Seq.{take-append-seam, drop-append-seam}
 use Rattle.policy.specs.Lists.{flat}
 use Rattle.policy.specs.Contract.{Aid, Tok, Row, Contract, validAid}
 use Rattle.policy.specs.Layout.{Layout, LayoutOk}
-use Rattle.policy.specs.Record.{Request, Change, load, Got, got, bad, Reader, andThen, given, byte, bytes, numberFrom, number, aid, tokens, aRow, many, counted, aLoad, change, fields, parse}
+use Rattle.policy.specs.Record.{load, Got, got, Reader, andThen, byte, bytes, numberFrom, number, aid, tokens, aRow, many, counted, aLoad, change, fields, parse}
 use Rattle.policy.specs.Tables.{writeNumber, writeTok}
 use Rattle.policy.specs.Judge.{aidBytes, rowBytes, rowsBytes, loadBody, loadRecord}
 use Rattle.policy.proofs.Sets.{T-true, length-flat-le}
