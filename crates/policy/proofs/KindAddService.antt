@@ -2,12 +2,12 @@
 use Prim.Native.Nat.{ℕ, _<_}
 use mathlib.Core.Path.{_≡_, refl, sym, ap, _∙_, subst}
 use mathlib.Core.Logic.{_⊎_, inl, inr, _↔_}
-use mathlib.Core.Bool.{Bool, not, _&&_, _||_}
+use mathlib.Core.Bool.{Bool, not, _&&_}
 use mathlib.Core.List.{List, [], map}
 use mathlib.Core.List.{List·Memᴰ as In}
 use mathlib.Core.List.{Memᴰ·append-left as in-left, Memᴰ·append-right as in-right, List·Memᴰ·append-cases as in-append, Memᴰ·cast as in-cast}
 use mathlib.Core.Option.{Option, none, some}
-use lib.Dec.{T, eqb, eqb→eq}
+use lib.Dec.{T}
 use Rattle.policy.specs.Lists.{every, exists, keep, isSome, distinct, NoRepeat}
 use Rattle.policy.specs.Contract.{Aid, eqAid, Tok, eqTok, Row, Contract, validAid}
 use Rattle.policy.specs.Layout.{Layout}
@@ -16,13 +16,13 @@ use Rattle.policy.specs.Machine.{altered, alter}
 use Rattle.policy.specs.Tables.{Tables, Unmet, Waiting}
 use Rattle.policy.specs.Lookup.{serviceAt, numberOf}
 use Rattle.policy.specs.Draft.{callRow, hasUnmet, asksFor, addServiceAt}
-use Rattle.policy.proofs.Sets.{none-to, test, and-l, and-r, and-i, or-l, or-r, or-e, not-i, not-e}
+use Rattle.policy.proofs.Sets.{none-to, test, and-l, and-r, and-i, not-i, not-e}
 use Rattle.policy.proofs.Sets.{every-in, keep-in, in-keep, once-keep, in-map, map-in, once-map, once-append, each-append, distinct→once}
-use Rattle.policy.proofs.Equal.{eqAid→, eqAid-refl, eqAid-of, eqb-of, eqTok→, eqTok-of, has-aid, aid-has, has-unmet, unmet-has}
+use Rattle.policy.proofs.Equal.{eqAid→, eqAid-refl, eqAid-of, eqTok→, eqTok-of, has-aid, aid-has, has-unmet, unmet-has}
 use Rattle.policy.proofs.Formed.{Names, Bits, Formed, ProvidesAt, at, grantBit, RowAt, bit, row, GrantAt, Stands, Turns, KindTurns}
 use Rattle.policy.proofs.Found.{NumberIs, number-is}
 use Rattle.policy.proofs.Alter.{More, turned-same, turned-one, turned-more, stands-turned}
-use Rattle.policy.proofs.Put2.{NewPlace, new-place}
+use Rattle.policy.proofs.Put.{NewPlace, new-place, orNew, OldOrNew, old-or-new}
 use Rattle.policy.proofs.Reach.{reach-3}
 use Rattle.policy.proofs.Facts.{no-rows, granted-provided}
 
@@ -65,43 +65,23 @@ module _ (L : Layout) (t : Tables) (f : Formed L t) (j k : ℕ) (uj : T (t .used
       inj x y z e (inr p) (inl b) = absurd (clash x z y (b .0) (b .1) p (sym e))
       inj x y z e (inr p) (inr q) = f .names .tok-inj x y z p q (sym (place .old-tok x y p) ∙ e ∙ place .old-tok x z q)
 
-  -- ---- a bit that was set, or one of the new service with a caller of c
-  abbrev orNew : (ℕ → ℕ → ℕ → Bool) → (ℕ → Bool) → ℕ → ℕ → ℕ → Bool
-  orNew b c x y z = b x y z || (eqb y j && eqb z k && c x)
-
   module _ (b : ℕ → ℕ → ℕ → Bool) (c : ℕ → Bool) where
-    abbrev OldOrNew : ℕ → ℕ → ℕ → Type 0
-    OldOrNew x y z = T (b x y z) ⊎ ((y ≡ j) × (z ≡ k) × T (c x))
-
-    bit-is : (x y z : ℕ) → T (orNew b c x y z) ↔ OldOrNew x y z
-    bit-is x y z = (λ h. out (or-e (b x y z) (eqb y j && eqb z k && c x) h), into)
-      where
-        out : T (b x y z) ⊎ T (eqb y j && eqb z k && c x) → OldOrNew x y z
-        out (inl h) = inl h
-        out (inr h) =
-            let yz : T (eqb y j && eqb z k) = and-l (eqb y j && eqb z k) (c x) h in
-            inr (eqb→eq y j (and-l (eqb y j) (eqb z k) yz), eqb→eq z k (and-r (eqb y j) (eqb z k) yz), and-r (eqb y j && eqb z k) (c x) h)
-
-        into : OldOrNew x y z → T (orNew b c x y z)
-        into (inl h) = or-l (b x y z) (eqb y j && eqb z k && c x) h
-        into (inr h) = or-r (b x y z) (eqb y j && eqb z k && c x) (and-i (eqb y j && eqb z k) (c x) (and-i (eqb y j) (eqb z k) (eqb-of (h .0)) (eqb-of (h .1))) (h .2))
-
-    bits : Bits (t .used) (t .provides) b → ((x : ℕ) → T (c x) → T (t .used x)) → ((x : ℕ) → T (c x) → x ≡ j → ⊥) → Bits (t .used) (after .provides) (orNew b c)
+    bits : Bits (t .used) (t .provides) b → ((x : ℕ) → T (c x) → T (t .used x)) → ((x : ℕ) → T (c x) → x ≡ j → ⊥) → Bits (t .used) (after .provides) (orNew j k b c)
     bits old u ne = record {
-      by-used = λ x y z h. used x y z (bit-is x y z .0 h);
-      of-prov = λ x y z h. prov x y z (bit-is x y z .0 h);
-      other = λ x y z h. apart x y z (bit-is x y z .0 h);
+      by-used = λ x y z h. used x y z (old-or-new j k b c x y z .0 h);
+      of-prov = λ x y z h. prov x y z (old-or-new j k b c x y z .0 h);
+      other = λ x y z h. apart x y z (old-or-new j k b c x y z .0 h);
     }
       where
-        used : (x y z : ℕ) → OldOrNew x y z → T (t .used x)
+        used : (x y z : ℕ) → OldOrNew j k b c x y z → T (t .used x)
         used x y z (inl h) = old .by-used x y z h
         used x y z (inr h) = u x (h .2)
 
-        prov : (x y z : ℕ) → OldOrNew x y z → T (after .provides y z)
+        prov : (x y z : ℕ) → OldOrNew j k b c x y z → T (after .provides y z)
         prov x y z (inl h) = place .old-prov y z (old .of-prov x y z h)
         prov x y z (inr h) = rw (h .0, h .1) (place .new-prov)
 
-        apart : (x y z : ℕ) → OldOrNew x y z → x ≡ y → ⊥
+        apart : (x y z : ℕ) → OldOrNew j k b c x y z → x ≡ y → ⊥
         apart x y z (inl h) e = old .other x y z h e
         apart x y z (inr h) e = ne x (h .2) (e ∙ h .0)
 
@@ -150,7 +130,7 @@ module _ (L : Layout) (t : Tables) (f : Formed L t) (j k : ℕ) (uj : T (t .used
         (λ x h e. f .unmet .unmet-other (asks x) (was-asked x h) (ap (t .aid) (sym e)));
     grants = bits (grantBit t) granted (f .grants) (λ x h. and-l (t .used x) (exists (eqAid (t .aid x)) l) h)
         (λ x h e. others (t .aid x) (in-l x h) (ap (t .aid) e));
-    need-call = λ x y z h. bit-is (t .calls) asked x y z .1 (inl (f .need-call x y z h));
+    need-call = λ x y z h. old-or-new j k (t .calls) asked x y z .1 (inl (f .need-call x y z h));
     unmet = record {
       off = record {
         off-used = λ u m. f .unmet .off .off-used u (was-unmet u m .0);
@@ -212,7 +192,7 @@ module _ (L : Layout) (t : Tables) (f : Formed L t) (j k : ℕ) (uj : T (t .used
       is-new : (z : ℕ) → n ≡ j → z ≡ k → x .tok ≡ after .tok n z → In (x .aid) l → (n ≡ j) × In x (map grantTo l)
       is-new z en ez q m = let e : x .tok ≡ s = q ∙ tok-new n z en ez in (en, in-cast (λ i. record { aid = x .aid; tok = e i }) (in-map grantTo m))
 
-      by-bit : (i z : ℕ) → x .aid ≡ t .aid i → x .tok ≡ after .tok n z → OldOrNew (grantBit t) granted i n z → GrantAt t n x ⊎ ((n ≡ j) × In x (map grantTo l))
+      by-bit : (i z : ℕ) → x .aid ≡ t .aid i → x .tok ≡ after .tok n z → OldOrNew j k (grantBit t) granted i n z → GrantAt t n x ⊎ ((n ≡ j) × In x (map grantTo l))
       by-bit i z e q (inl b) = inl (bit i z b e (q ∙ place .old-tok n z (f .grants .of-prov i n z b)))
       by-bit i z e q (inr h) = inr (is-new z (h .0) (h .1) q (in-cast e (in-l i (h .2))))
 
@@ -224,11 +204,11 @@ module _ (L : Layout) (t : Tables) (f : Formed L t) (j k : ℕ) (uj : T (t .used
           inr (is-new z (ap (λ (v : Waiting). v .callee) (p .3)) (ap (λ (v : Waiting). v .service) (p .3)) q (in-cast (ap (λ (v : Waiting). v .caller) (p .3)) (p .1)))
 
       cases : GrantAt after n x → GrantAt t n x ⊎ ((n ≡ j) × In x (map grantTo l))
-      cases (bit i z b e q) = by-bit i z e q (bit-is (grantBit t) granted i n z .0 b)
+      cases (bit i z b e q) = by-bit i z e q (old-or-new j k (grantBit t) granted i n z .0 b)
       cases (row z m q) = by-row z q (in-append (t .waiting) m)
 
       old : GrantAt t n x → GrantAt after n x
-      old (bit i z b e q) = bit i z (bit-is (grantBit t) granted i n z .1 (inl b)) e (q ∙ sym (place .old-tok n z (f .grants .of-prov i n z b)))
+      old (bit i z b e q) = bit i z (old-or-new j k (grantBit t) granted i n z .1 (inl b)) e (q ∙ sym (place .old-tok n z (f .grants .of-prov i n z b)))
       old (row z m q) = row z (in-left (map waits (keep lone l)) m) (q ∙ sym (place .old-tok n z (f .waiting .wait-prov (wait n z (x .aid)) m)))
 
       -- by whether the caller is installed
@@ -236,7 +216,7 @@ module _ (L : Layout) (t : Tables) (f : Formed L t) (j k : ℕ) (uj : T (t .used
       new b m none h g = row k (in-right (t .waiting) (in-map waits (in-keep lone m (g tt)))) (sym (place .new-tok))
       new b m (some i) h g =
           let q : T (granted i) = and-i (t .used i) (exists (eqAid (t .aid i)) l) (h .0) (aid-has (in-cast (h .1) m)) in
-          bit i k (bit-is (grantBit t) granted i j k .1 (inr (refl, refl, q))) (sym (h .1)) (sym (place .new-tok))
+          bit i k (old-or-new j k (grantBit t) granted i j k .1 (inr (refl, refl, q))) (sym (h .1)) (sym (place .new-tok))
 
       back : GrantAt t n x ⊎ ((n ≡ j) × In x (map grantTo l)) → GrantAt after n x
       back (inl p) = old p
@@ -254,14 +234,14 @@ module _ (L : Layout) (t : Tables) (f : Formed L t) (j k : ℕ) (uj : T (t .used
           let es : r .tok ≡ s = eqTok→ (r .tok) s (and-r (eqAid (r .aid) (t .aid j)) (eqTok (r .tok) s) h) in
           let e : r .tok ≡ after .tok j k = es ∙ sym (place .new-tok) in
           let h : T (asked n) = unmet-has (in-cast (λ i. record { callee = sym ea i; tok = sym es i; caller = n }) m) in
-          bit j k (bit-is (t .calls) asked n j k .1 (inr (refl, refl, h))) (λ i. record { aid = ea i; tok = e i })
+          bit j k (old-or-new j k (t .calls) asked n j k .1 (inr (refl, refl, h))) (λ i. record { aid = ea i; tok = e i })
       met m (inr h) = row (in-keep (λ v. not (asksFor L t (t .aid j) s v)) m (not-i (asksFor L t (t .aid j) s (callRow n r)) h))
 
       there : RowAt t (t .calls) (t .unmet) n r → RowAt after (after .calls) (after .unmet) n r
-      there (bit y z b e) = bit y z (bit-is (t .calls) asked n y z .1 (inl b)) (e ∙ sym (service-as y z (f .calls .of-prov n y z b)))
+      there (bit y z b e) = bit y z (old-or-new j k (t .calls) asked n y z .1 (inl b)) (e ∙ sym (service-as y z (f .calls .of-prov n y z b)))
       there (row m) = met m (test (asksFor L t (t .aid j) s (callRow n r)))
 
-      was : (y z : ℕ) → r ≡ serviceAt after y z → OldOrNew (t .calls) asked n y z → RowAt t (t .calls) (t .unmet) n r
+      was : (y z : ℕ) → r ≡ serviceAt after y z → OldOrNew j k (t .calls) asked n y z → RowAt t (t .calls) (t .unmet) n r
       was y z e (inl b) = bit y z b (e ∙ service-as y z (f .calls .of-prov n y z b))
       was y z e (inr h) =
           let es : r .tok ≡ s = ap (λ (v : Row). v .tok) e ∙ tok-new y z (h .0) (h .1) in
@@ -269,7 +249,7 @@ module _ (L : Layout) (t : Tables) (f : Formed L t) (j k : ℕ) (uj : T (t .used
           row (in-cast (λ i. record { callee = ea i; tok = es i; caller = n }) (was-asked n (h .2)))
 
       back : RowAt after (after .calls) (after .unmet) n r → RowAt t (t .calls) (t .unmet) n r
-      back (bit y z b e) = was y z e (bit-is (t .calls) asked n y z .0 b)
+      back (bit y z b e) = was y z e (old-or-new j k (t .calls) asked n y z .0 b)
       back (row m) = row (was-unmet (callRow n r) m .0)
 
   needs-as : (n : ℕ) (r : Row) → RowAt t (t .needs) [] n r ↔ RowAt after (t .needs) [] n r

@@ -2,7 +2,7 @@
 use Prim.Native.Nat.{ℕ}
 use mathlib.Core.Path.{_≡_, refl, sym, ap, _∙_, subst}
 use mathlib.Core.Logic.{_⊎_, inl, inr, Iff·trans}
-use mathlib.Core.Bool.{Bool, true, false, not, _&&_, _||_, cond}
+use mathlib.Core.Bool.{Bool, true, false, not, _&&_, _||_}
 use mathlib.Core.List.{List, [], map}
 use mathlib.Core.List.{List·Memᴰ as In, Memᴰ·append-left as in-left, Memᴰ·append-right as in-right, List·Memᴰ·append-cases as in-append, Memᴰ·cast as in-cast}
 use lib.Dec.{T, eqb, eqb→eq}
@@ -13,9 +13,10 @@ use Rattle.policy.specs.Record.{remove}
 use Rattle.policy.specs.Tables.{Tables, Unmet, Waiting, noTok}
 use Rattle.policy.specs.Lookup.{numbers, places}
 use Rattle.policy.specs.Draft.{removeAt}
-use Rattle.policy.proofs.Sets.{and-l, and-r, and-i, or-l, or-r, not-i, not-e, false-T, T-false, test, keep-in, in-keep, once-keep, once-map-keep, once-append, each-append, in-upto, once-upto, pairs-in, in-pairs, once-pairs}
+use Rattle.policy.proofs.Sets.{cond-either, cond-off, and-l, and-r, and-i, or-l, or-r, not-i, not-e, test, keep-in, in-keep, once-keep, once-map-keep, once-append, each-append, in-upto, once-upto, pairs-in, in-pairs, once-pairs}
 use Rattle.policy.proofs.Equal.{eqAid→, eqAid-of, eqb-of}
 use Rattle.policy.proofs.Formed.{Formed, Bits, WaitingRows, grantBit, ProvidesAt, at, GrantAt, bit, row, HasContract, Stands, Turns, KindTurns}
+use Rattle.policy.proofs.Put.{at-old}
 use Rattle.policy.proofs.Reach.{reach-2}
 use Rattle.policy.proofs.Facts.{place-in, need-bits}
 use Rattle.policy.proofs.Dropped.{Without, BitsStay, RowsStay, Dropping, formed-dropped, lost-dropped, calls-dropped, needs-dropped}
@@ -32,42 +33,24 @@ module _ (L : Layout) (t : Tables) (fm : Formed L t) (n : ℕ) (un : T (t .used 
   abbrev t′ : Tables
   t′ = removeAt L t n .tables
 
-  not-n : (x : ℕ) → (x ≡ n → ⊥) → eqb x n ≡ false
-  not-n x ne = T-false (eqb x n) (λ h. ne (eqb→eq x n h))
-
   -- a package that stays is another one
   used-e : (x : ℕ) → T (t′ .used x) → (x ≡ n → ⊥) × T (t .used x)
-  used-e x u = go (eqb x n) refl u
-    where
-      go : (b : Bool) → eqb x n ≡ b → T (cond b false (t .used x)) → (x ≡ n → ⊥) × T (t .used x)
-      go true e h = absurd h
-      go false e h = (λ f. false-T e (eqb-of f), h)
-
-  at-other : {A : Type 0} (x : ℕ) (v w : A) → (x ≡ n → ⊥) → cond (eqb x n) v w ≡ w
-  at-other {A} x v w ne = ap (λ (b : Bool). cond {A = A} b v w) (not-n x ne)
+  used-e x u = let p = cond-off (eqb x n) (t .used x) u in (λ e. p .1 (eqb-of e), p .0)
 
   used-i : (x : ℕ) → T (t .used x) → (x ≡ n → ⊥) → T (t′ .used x)
-  used-i x u ne = rw (at-other x false (t .used x) ne) u
+  used-i x u ne = rw (at-old n false (t .used x) x ne) u
 
   aid-same : (x : ℕ) → (x ≡ n → ⊥) → t′ .aid x ≡ t .aid x
-  aid-same x ne = at-other x [] (t .aid x) ne
+  aid-same x ne = at-old n [] (t .aid x) x ne
 
   tok-same : (y z : ℕ) → (y ≡ n → ⊥) → t′ .tok y z ≡ t .tok y z
-  tok-same y z ne = at-other y noTok (t .tok y z) ne
+  tok-same y z ne = at-old n noTok (t .tok y z) y ne
 
   prov-e : (y z : ℕ) → T (t′ .provides y z) → T (t .provides y z) × (y ≡ n → ⊥)
   prov-e y z p = (and-l (t .provides y z) (not (eqb y n)) p, λ e. not-e (eqb y n) (and-r (t .provides y z) (not (eqb y n)) p) (eqb-of e))
 
   prov-i : (y z : ℕ) → T (t .provides y z) → (y ≡ n → ⊥) → T (t′ .provides y z)
   prov-i y z p ne = and-i (t .provides y z) (not (eqb y n)) p (not-i (eqb y n) (λ h. ne (eqb→eq y n h)))
-
-  -- what stands at number n, or at another
-  blank : {A : Type 0} (x : ℕ) (v w : A) → ((x ≡ n → ⊥) → w ≡ v) → cond (eqb x n) v w ≡ v
-  blank {A} x v w h = go (eqb x n) refl
-    where
-      go : (b : Bool) → eqb x n ≡ b → cond b v w ≡ v
-      go true e = refl
-      go false e = h (λ f. false-T e (eqb-of f))
 
   without : Without t t′ n (λ z. true)
   without = record {
@@ -79,8 +62,8 @@ module _ (L : Layout) (t : Tables) (fm : Formed L t) (n : ℕ) (un : T (t .used 
     prov-used = λ y z p. let q = prov-e y z p in used-i y (fm .names .prov-used y z (q .0)) (q .1);
     aid-same = λ x u. aid-same x (used-e x u .0);
     tok-same = λ y z p. tok-same y z (prov-e y z p .1);
-    aid-blank = λ x h. blank x [] (t .aid x) (λ ne. fm .names .aid-blank x (λ u. h (used-i x u ne)));
-    tok-blank = λ y z h. blank y noTok (t .tok y z) (λ ne. fm .names .tok-blank y z (λ p. h (prov-i y z p ne)));
+    aid-blank = λ x h. cond-either (eqb x n) [] (t .aid x) (λ f. fm .names .aid-blank x (λ u. h (used-i x u (λ e. f (eqb-of e)))));
+    tok-blank = λ y z h. cond-either (eqb y n) noTok (t .tok y z) (λ f. fm .names .tok-blank y z (λ p. h (prov-i y z p (λ e. f (eqb-of e)))));
   }
 
   -- ---- bits with n at one end go

@@ -1,7 +1,7 @@
 -- Kind 4: a service goes, and its grants; calls on it are unmet.
 use Prim.Native.Nat.{ℕ}
 use mathlib.Core.Path.{_≡_, refl, sym, ap, _∙_, subst}
-use mathlib.Core.Bool.{Bool, true, false, not, _&&_, cond}
+use mathlib.Core.Bool.{Bool, false, not, _&&_}
 use mathlib.Core.List.{List, []}
 use mathlib.Core.List.{List·Memᴰ as In}
 use lib.Dec.{T, eqb, eqb→eq}
@@ -11,7 +11,7 @@ use Rattle.policy.specs.Record.{removeService}
 use Rattle.policy.specs.Machine.{alter, altered}
 use Rattle.policy.specs.Tables.{Tables, Waiting, noTok}
 use Rattle.policy.specs.Draft.{removeServiceAt}
-use Rattle.policy.proofs.Sets.{and-l, and-r, and-i, not-i, not-e, false-T, T-false, differs, keep-in, in-keep, once-keep}
+use Rattle.policy.proofs.Sets.{cond-false, cond-either, cond-off, and-l, and-r, and-i, not-i, not-e, differs, keep-in, in-keep, once-keep}
 use Rattle.policy.proofs.Equal.{eqTok→, eqTok-refl, eqb-of}
 use Rattle.policy.proofs.Formed.{Formed, Bits, grantBit, ProvidesAt, at, GrantAt, bit, row, Stands, Turns, KindTurns}
 use Rattle.policy.proofs.Alter.{turned-same, turned-less, stands-turned}
@@ -36,28 +36,17 @@ module _ (L : Layout) (t : Tables) (fm : Formed L t) (j k : ℕ) (pk : T (t .pro
   away-i : (y z : ℕ) → Away y z → T (eqb y j && eqb z k) → ⊥
   away-i y z h f = h (eqb→eq y j (and-l (eqb y j) (eqb z k) f)) (and-r (eqb y j) (eqb z k) f)
 
-  at-other : {A : Type 0} (y z : ℕ) (v w : A) → Away y z → cond (eqb y j && eqb z k) v w ≡ w
-  at-other {A} y z v w ne = ap (λ (b : Bool). cond {A = A} b v w) (T-false (eqb y j && eqb z k) (away-i y z ne))
-
   prov-e : (y z : ℕ) → T (t′ .provides y z) → T (t .provides y z) × Away y z
-  prov-e y z p = go (eqb y j && eqb z k) refl p
-    where
-      go : (b : Bool) → eqb y j && eqb z k ≡ b → T (cond b false (t .provides y z)) → T (t .provides y z) × Away y z
-      go true e h = absurd h
-      go false e h = (h, away y z (false-T e))
+  prov-e y z p = let q = cond-off (eqb y j && eqb z k) (t .provides y z) p in (q .0, away y z (q .1))
 
   prov-i : (y z : ℕ) → T (t .provides y z) → Away y z → T (t′ .provides y z)
-  prov-i y z p ne = rw (at-other y z false (t .provides y z) ne) p
+  prov-i y z p ne = rw (cond-false (eqb y j && eqb z k) false (t .provides y z) (away-i y z ne)) p
 
   tok-same : (y z : ℕ) → Away y z → t′ .tok y z ≡ t .tok y z
-  tok-same y z ne = at-other y z noTok (t .tok y z) ne
+  tok-same y z ne = cond-false (eqb y j && eqb z k) noTok (t .tok y z) (away-i y z ne)
 
   tok-blank : (y z : ℕ) → (T (t′ .provides y z) → ⊥) → t′ .tok y z ≡ noTok
-  tok-blank y z h = go (eqb y j && eqb z k) refl
-    where
-      go : (b : Bool) → eqb y j && eqb z k ≡ b → cond b noTok (t .tok y z) ≡ noTok
-      go true e = refl
-      go false e = fm .names .tok-blank y z (λ p. h (prov-i y z p (away y z (false-T e))))
+  tok-blank y z h = cond-either (eqb y j && eqb z k) noTok (t .tok y z) (λ f. fm .names .tok-blank y z (λ p. h (prov-i y z p (away y z f))))
 
   without : Without t t′ j d
   without = record {

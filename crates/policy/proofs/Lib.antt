@@ -17,7 +17,6 @@ pub mod Tests
 pub mod Reach
 pub mod Short
 pub mod Put
-pub mod Put2
 pub mod Rows
 pub mod KindCall
 pub mod KindNeed

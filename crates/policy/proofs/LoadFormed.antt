@@ -16,7 +16,8 @@ use Rattle.policy.proofs.Sets.{none-to, and-i, not-e, map-in, keep-in, 
 use Rattle.policy.proofs.Equal.{eqAid-of, tok-has}
 use Rattle.policy.proofs.Formed.{Names, Bits, Off, UnmetRows, WaitingRows, Formed, grantBit, ValidRows}
 use Rattle.policy.proofs.Found.{NumberIs, number-is, ServiceIs, service-is, ServerIs, server-is}
-use Rattle.policy.proofs.LoadNames.{Newcomer, Loaded, loaded, names-loaded, tok-in, in-tok, by-number}
+use Rattle.policy.proofs.Put.{by-number}
+use Rattle.policy.proofs.LoadNames.{Newcomer, Loaded, loaded, names-loaded, tok-in, in-tok}
 use Rattle.policy.proofs.LoadBits.{CallIs, GrantIs, call-is, grant-is, need-new, need-old}
 
 module _ (L : Layout) (t : Tables) (m : ℕ) (k : Contract) where

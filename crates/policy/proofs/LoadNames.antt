@@ -3,12 +3,11 @@ use Prim.Native.Nat.{ℕ, zero, suc, _≤_, _<_, zero-le, suc-le-suc}
 use native.Mathlib.Omega.{arith}
 use native.Mathlib.Nat.{not-suc-le-zero, le-of-suc-le-suc}
 use mathlib.Core.Path.{_≡_, refl, sym, ap, _∙_, subst}
-use mathlib.Core.Logic.{_⊎_, inl, inr}
-use mathlib.Core.Bool.{Bool, true, not, _&&_, cond}
+use mathlib.Core.Bool.{true, not, _&&_}
 use mathlib.Core.List.{List, [], _∷_}
 use mathlib.Core.List.{List·Memᴰ as In, List·Memᴰ·head as here, List·Memᴰ·tail as there, Memᴰ·cast as in-cast}
 use mathlib.Core.Option.{none, some}
-use lib.Dec.{T, eqb, ltb, eqb→eq, eqb-refl, ltb→lt, lt→ltb, nltb→le}
+use lib.Dec.{T, ltb, ltb→lt, lt→ltb, nltb→le}
 use lib.ListN.{length, getD, List·getD-eq-default}
 use Rattle.policy.specs.Lists.{every, distinct, NoRepeat}
 use Rattle.policy.specs.Contract.{Aid, eqAid, Tok, eqTok, Row, eqRow, Contract, hasTok, hasRow, validAid}
@@ -21,10 +20,11 @@ use Rattle.policy.specs.Draft.{Draft, Look, loadedNames, loadAt, draft}
 use Rattle.policy.specs.ShortCheck.{shortLoad, shortLook}
 use Rattle.policy.specs.Judge.{tableCauses}
 use Rattle.policy.specs.History.{FourSets}
-use Rattle.policy.proofs.Sets.{T-true, T-false, and-l, and-r, test, not-i, not-e, every-in, distinct→once}
-use Rattle.policy.proofs.Equal.{eqAid-of, eqb-of, eqTok→, eqTok-refl, eqRow→, eqRow-refl, has-tok, has-row}
+use Rattle.policy.proofs.Sets.{and-l, and-r, not-i, not-e, every-in, distinct→once}
+use Rattle.policy.proofs.Equal.{eqAid-of, eqTok→, eqTok-refl, eqRow→, eqRow-refl, has-tok, has-row}
 use Rattle.policy.proofs.Formed.{Names, Formed}
 use Rattle.policy.proofs.Found.{NumberIs, FreeIs}
+use Rattle.policy.proofs.Put.{at-new, at-old, by-number}
 use Rattle.policy.proofs.Reach.{reach-1}
 
 -- ---- elements by their index
@@ -60,22 +60,6 @@ pub record Newcomer (L : Layout) (t : Tables) (m : ℕ) (k : Contract) : Type 0 
   pub grants-other : (r : Row) → In r (k .grants) → r .aid ≡ k .aid → ⊥
   pub needs-called : (r : Row) → In r (k .needs) → In r (k .calls)
   pub grants-provided : (r : Row) → In r (k .grants) → In (r .tok) (k .provides)
-
--- ---- a value chosen by whether a number is m
-module _ {A : Type 0} (m : ℕ) (v w : A) where
-  pub at-new : cond (eqb m m) v w ≡ v
-  at-new = ap (λ (b : Bool). cond b v w) (T-true (eqb m m) (eqb-refl m))
-
-  pub at-old : (x : ℕ) → (x ≡ m → ⊥) → cond (eqb x m) v w ≡ w
-  at-old x h = ap (λ (b : Bool). cond b v w) (T-false (eqb x m) (λ s. h (eqb→eq x m s)))
-
--- a law of every number, by whether it is m
-pub by-number : (m : ℕ) (P : ℕ → Type 0) (x : ℕ) → P m → ((x ≡ m → ⊥) → P x) → P x
-by-number m P x h f = go (test (eqb x m))
-  where
-    go : T (eqb x m) ⊎ (T (eqb x m) → ⊥) → P x
-    go (inl s) = subst P (sym (eqb→eq x m s)) h
-    go (inr n) = f (λ e. n (eqb-of e))
 
 module _ (L : Layout) (t : Tables) (m : ℕ) (k : Contract) where
   abbrev on : Tables

@@ -4,7 +4,7 @@ use native.Mathlib.Omega.{arith}
 use native.Mathlib.Nat.{suc-mul}
 use mathlib.Core.Path.{_≡_, refl, sym, ap, _∙_, subst}
 use mathlib.Core.Logic.{_⊎_, inl, inr}
-use mathlib.Core.Bool.{Bool, not, _&&_, cond}
+use mathlib.Core.Bool.{Bool, not, _&&_}
 use mathlib.Core.List.{List, [], _∷_, _++_, map}
 use mathlib.Core.List.{List·Memᴰ as In, List·Memᴰ·cases-cons as in-cons, List·Memᴰ·not-nil as in-nil}
 use mathlib.Core.Option.{some}
@@ -17,7 +17,7 @@ use Rattle.policy.specs.Record.{load, notOwn, parse, proper}
 use Rattle.policy.specs.Tables.{Tables}
 use Rattle.policy.specs.Lookup.{numbers, places, serviceAt, wanted, grantAt, contractAt}
 use Rattle.policy.specs.Judge.{loadRecord}
-use Rattle.policy.proofs.Sets.{length-keep, length-from, length-flat-le, and-i, not-i, T-false, in-every, once→distinct, in-upto}
+use Rattle.policy.proofs.Sets.{length-keep, length-from, length-flat-le, and-i, not-i, cond-false, in-every, once→distinct, in-upto}
 use Rattle.policy.proofs.Equal.{eqAid→, eqTok→, eqTok-refl, eqRow→, eqRow-refl, row-has, tok-has}
 use Rattle.policy.proofs.Formed.{Formed, Fitting, RowAt, GrantAt}
 use Rattle.policy.proofs.Facts.{need-bits, granted-provided}
@@ -58,7 +58,7 @@ module _ (L : Layout) (lo : LayoutOk L) (t : Tables) (g : Formed L t) (fit : Fit
   module _ (name : ℕ → ℕ → Row) (b : ℕ → ℕ → Bool) (diagonal : (k : ℕ) → T (b n k) → ⊥) where
     empty-keep : (l : List ℕ) → keep (b n) l ≡ []
     empty-keep [] = refl
-    empty-keep (k ∷ l) = ap (λ (z : Bool). cond z (k ∷ keep (b n) l) (keep (b n) l)) (T-false (b n k) (diagonal k)) ∙ empty-keep l
+    empty-keep (k ∷ l) = cond-false (b n k) (k ∷ keep (b n) l) (keep (b n) l) (diagonal k) ∙ empty-keep l
 
     bits-length : length (flat (λ j. map (name j) (keep (b j) (places L t))) (numbers L t)) ≤ (L .packages - 1) * L .services
     bits-length =

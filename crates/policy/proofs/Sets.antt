@@ -87,6 +87,24 @@ not-not false f = f tt
 pub not-false : (b : Bool) → not b ≡ false → T b
 not-false b e = not-not b (false-T e)
 
+-- ---- a value chosen by a test
+module _ {A : Type 0} where
+  pub cond-true : (b : Bool) (v w : A) → T b → cond b v w ≡ v
+  cond-true true v w t = refl
+  cond-true false v w t = absurd t
+
+  pub cond-false : (b : Bool) (v w : A) → (T b → ⊥) → cond b v w ≡ w
+  cond-false true v w f = absurd (f tt)
+  cond-false false v w f = refl
+
+  pub cond-either : (b : Bool) (v w : A) → ((T b → ⊥) → w ≡ v) → cond b v w ≡ v
+  cond-either true v w f = refl
+  cond-either false v w f = f (λ t. t)
+
+pub cond-off : (b c : Bool) → T (cond b false c) → T c × (T b → ⊥)
+cond-off true c t = absurd t
+cond-off false c t = (t, λ u. u)
+
 -- ---- what was found, or not
 module _ {A : Type 0} (P : Option A → Type 0) where
   pub none-to : (o : Option A) → P o → T (not (isSome o)) → P none

@@ -25,7 +25,8 @@ use Rattle.policy.proofs.EveryBit.{BitIn, among, among-to, among-back}
 use Rattle.policy.proofs.Facts.{place-in}
 use Rattle.policy.proofs.Reach.{reach-3}
 use Rattle.policy.proofs.Short.{look-is, fits, fits-as}
-use Rattle.policy.proofs.LoadNames.{row-path, Newcomer, Loaded, loaded, service-old, tok-in, in-tok, new-lt, by-number, load-reached}
+use Rattle.policy.proofs.Put.{by-number}
+use Rattle.policy.proofs.LoadNames.{row-path, Newcomer, Loaded, loaded, service-old, tok-in, in-tok, new-lt, load-reached}
 use Rattle.policy.proofs.LoadBits.{CallIs, GrantIs, call-is, grant-is}
 
 module _ {A : Type 0} where

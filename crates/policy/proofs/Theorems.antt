@@ -23,7 +23,7 @@ use Rattle.policy.specs.Judge.{Out, refusal, judgeTables, judge, loadRec
 use Rattle.policy.specs.History.{SameContract, StandsFor, answers, imageAfter, machineAnswers, contractsAfter}
 use Rattle.policy.specs.Marked.{Case, cases}
 use Rattle.policy.specs.Claims.{MarkedCases, Agreement, History, FitsLimits, AcceptedExactly, IsFirst, FirstCause, SoundStands, ShortIsFull, ReadOutAgain}
-use Rattle.policy.proofs.Sets.{T-true, T-false, and-l, and-r, and-i, not-e, test, every-in, exists-in, in-map}
+use Rattle.policy.proofs.Sets.{cond-true, cond-false, and-l, and-r, and-i, not-e, test, every-in, exists-in, in-map}
 use Rattle.policy.proofs.Answers.{ascends, ascends-front, answer-append-zero, first-is, none-of-four, four-none}
 use Rattle.policy.proofs.SoundFacts.{sound-formed, sound-lawful, sound-fitting}
 use Rattle.policy.proofs.RoundTrip.{emptyTables, empty-formed, empty-fitting, empty-encode}
@@ -107,7 +107,7 @@ module _ (L : Layout) (lo : LayoutOk L) where
 
   pub unsound-refused : (img s : List ℕ) → (T (sound L img) → ⊥) → judge L img s ≡ refusal 1 255 img
   unfolding judge
-  unsound-refused img s h = ap (λ (b : Bool). cond b (judgeTables L img (decode L img) (parse L s)) (refusal 1 255 img)) (T-false (sound L img) h)
+  unsound-refused img s h = cond-false (sound L img) (judgeTables L img (decode L img) (parse L s)) (refusal 1 255 img) h
 
   machine-malformed : (cs : List Contract) (s : List ℕ) → parse L s ≡ none → machine L cs s ≡ held L cs cs 2
   unfolding machine
@@ -144,7 +144,7 @@ module _ (L : Layout) (lo : LayoutOk L) where
 
   silent-append : (l m : List Cause) → Silent l → answer (l ++ m) ≡ answer m
   silent-append [] m h = refl
-  silent-append (c ∷ l) m h = ap (λ (b : Bool). cond b (c .number) (answer (l ++ m))) (T-false (c .applies) (h c (here refl))) ∙ silent-append l m (λ k n. h k (there n))
+  silent-append (c ∷ l) m h = cond-false (c .applies) (c .number) (answer (l ++ m)) (h c (here refl)) ∙ silent-append l m (λ k n. h k (there n))
 
   -- causes 4 to 7 that apply to a change whose contracts fit are below 7
   early-below : (cs : List Contract) (l : List Cause) → T (every (λ k. ltb (k .number) 7) l) → (k : Cause) → In k l → k .number < 7
@@ -170,7 +170,7 @@ module _ (L : Layout) (lo : LayoutOk L) where
         let p = exists-in (λ k. eqAid (k .aid) a && leb (L .services) (length (k .provides))) cs t in
         let x = and-l (eqAid (p .0 .aid) a) (leb (L .services) (length (p .0 .provides))) (p .2) in
         let y = leb→le (L .services) (length (p .0 .provides)) (and-r (eqAid (p .0 .aid) a) (leb (L .services) (length (p .0 .provides))) (p .2)) in
-        let e : f (p .0) ≡ altered (addService s l) (p .0) = ap (λ (b : Bool). cond b (altered (addService s l) (p .0)) (p .0)) (T-true (eqAid (p .0 .aid) a) x) in
+        let e : f (p .0) ≡ altered (addService s l) (p .0) = cond-true (eqAid (p .0 .aid) a) (altered (addService s l) (p .0)) (p .0) x in
         let z = fit .services-fit (altered (addService s l) (p .0)) (in-cast {l = effect cs a (addService s l)} (sym e) (in-map (λ k. cond (eqAid (k .aid) a) (altered (addService s l) k) k) (p .1))) in
         let n = length-append (p .0 .provides) (s ∷ []) in
         omega arith
