@@ -18,6 +18,7 @@ use Rattle.policy.proofs.Sets.{in-keep, keep-in, once-keep, in-map, map
 use Rattle.policy.proofs.Found.{same-place}
 use Rattle.policy.proofs.Facts.{place-in, bit-in, need-bits}
 use Rattle.policy.proofs.Formed.{Names, Bits, Formed, ProvidesAt, RowAt, GrantAt, HasContract, Stands}
+use Rattle.policy.proofs.Equal.{row-path}
 
 module _ (L : Layout) (t : Tables) where
   -- ---- the bits of a package's row, read as rows of its contract
@@ -125,7 +126,7 @@ module _ (L : Layout) (t : Tables) where
         of : GrantAt t n r → In r (bitRows granted (t .grants n) ++ map (grantAt t) (keep ownGrant (t .waiting)))
         of (GrantAt.bit i k h a s) =
             let l = bit-in L t (formed .names) (formed .grants) i n k h in
-            let e : r ≡ granted i k = λ z. record { aid = a z; tok = s z } in
+            let e : r ≡ granted i k = row-path a s in
             in-left (map (grantAt t) (keep ownGrant (t .waiting))) (in-cast e (in-bits granted (t .grants n) i k (l .0, l .2) h))
         of (GrantAt.row k m s) =
             let e : r ≡ grantAt t (record { caller = r .aid; callee = n; service = k }) = λ z. record { aid = r .aid; tok = s z } in

@@ -13,7 +13,7 @@ use Rattle.policy.specs.Tables.{Tables, Unmet, noTok}
 use Rattle.policy.specs.Lookup.{serviceAt, wanted, places, numbers}
 use Rattle.policy.specs.Draft.{callRow, leftBy}
 use Rattle.policy.proofs.Sets.{and-l, and-r, and-i, test, pairs-in, in-pairs, once-pairs, once-append, each-append, once-upto, in-upto}
-use Rattle.policy.proofs.Equal.{eqb-of}
+use Rattle.policy.proofs.Equal.{row-path, eqb-of}
 use Rattle.policy.proofs.Formed.{Formed, Lawful, Names, Bits, Off, UnmetRows, WaitingRows, grantBit, RowAt, bit, row}
 use Rattle.policy.proofs.Found.{same-place}
 use Rattle.policy.proofs.Facts.{no-rows, bit-in, need-bits}
@@ -95,7 +95,7 @@ module _ (L : Layout) (t t′ : Tables) (names : Names L (t .used) (t .aid) (t .
   }
 
   service-same : (y z : ℕ) → T (t′ .provides y z) → serviceAt t′ y z ≡ serviceAt t y z
-  service-same y z p = λ i. record { aid = w .aid-same y (w .prov-used y z p) i; tok = w .tok-same y z p i }
+  service-same y z p = row-path (w .aid-same y (w .prov-used y z p)) (w .tok-same y z p)
 
   module _ (b : ℕ → ℕ → ℕ → Bool) (bits : Bits (t .used) (t .provides) b) where
     caller-stays : (i k : ℕ) → T (b i j k) → T (t′ .used i)

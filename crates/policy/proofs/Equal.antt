@@ -36,11 +36,15 @@ eqTok-refl s = and-i (eqb (s .itf) (s .itf)) (eqb (s .mth) (s .mth)) (eqb-refl (
 pub eqTok-of : {s t : Tok} → s ≡ t → T (eqTok s t)
 eqTok-of {s} e = subst (λ (z : Tok). T (eqTok s z)) e (eqTok-refl s)
 
+-- a row by its AID and its tokens
+pub row-path : {r s : Row} → r .aid ≡ s .aid → r .tok ≡ s .tok → r ≡ s
+row-path e f = λ i. record { aid = e i; tok = f i }
+
 pub eqRow→ : (r s : Row) → T (eqRow r s) → r ≡ s
 eqRow→ r s h =
     let a = eqAid (r .aid) (s .aid) in
     let b = eqTok (r .tok) (s .tok) in
-    λ i. record { aid = eqAid→ (r .aid) (s .aid) (and-l a b h) i; tok = eqTok→ (r .tok) (s .tok) (and-r a b h) i }
+    row-path (eqAid→ (r .aid) (s .aid) (and-l a b h)) (eqTok→ (r .tok) (s .tok) (and-r a b h))
 
 pub eqRow-refl : (r : Row) → T (eqRow r r)
 eqRow-refl r = and-i (eqAid (r .aid) (r .aid)) (eqTok (r .tok) (r .tok)) (eqAid-refl (r .aid)) (eqTok-refl (r .tok))

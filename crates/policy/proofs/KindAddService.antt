@@ -18,7 +18,7 @@ use Rattle.policy.specs.Lookup.{serviceAt, numberOf}
 use Rattle.policy.specs.Draft.{callRow, hasUnmet, asksFor, addServiceAt}
 use Rattle.policy.proofs.Sets.{none-to, test, and-l, and-r, and-i, not-i, not-e}
 use Rattle.policy.proofs.Sets.{every-in, keep-in, in-keep, once-keep, in-map, map-in, once-map, once-append, each-append, distinct→once}
-use Rattle.policy.proofs.Equal.{eqAid→, eqAid-refl, eqAid-of, eqTok→, eqTok-of, has-aid, aid-has, has-unmet, unmet-has}
+use Rattle.policy.proofs.Equal.{row-path, eqAid→, eqAid-refl, eqAid-of, eqTok→, eqTok-of, has-aid, aid-has, has-unmet, unmet-has}
 use Rattle.policy.proofs.Formed.{Names, Bits, Formed, ProvidesAt, at, grantBit, RowAt, bit, row, GrantAt, Stands, Turns, KindTurns}
 use Rattle.policy.proofs.Found.{NumberIs, number-is}
 use Rattle.policy.proofs.Alter.{More, turned-same, turned-one, turned-more, stands-turned}
@@ -234,7 +234,7 @@ module _ (L : Layout) (t : Tables) (f : Formed L t) (j k : ℕ) (uj : T (t .used
           let es : r .tok ≡ s = eqTok→ (r .tok) s (and-r (eqAid (r .aid) (t .aid j)) (eqTok (r .tok) s) h) in
           let e : r .tok ≡ after .tok j k = es ∙ sym (place .new-tok) in
           let h : T (asked n) = unmet-has (in-cast (λ i. record { callee = sym ea i; tok = sym es i; caller = n }) m) in
-          bit j k (old-or-new j k (t .calls) asked n j k .1 (inr (refl, refl, h))) (λ i. record { aid = ea i; tok = e i })
+          bit j k (old-or-new j k (t .calls) asked n j k .1 (inr (refl, refl, h))) (row-path ea e)
       met m (inr h) = row (in-keep (λ v. not (asksFor L t (t .aid j) s v)) m (not-i (asksFor L t (t .aid j) s (callRow n r)) h))
 
       there : RowAt t (t .calls) (t .unmet) n r → RowAt after (after .calls) (after .unmet) n r

@@ -17,7 +17,7 @@ use Rattle.policy.specs.Tables.{Tables, Waiting}
 use Rattle.policy.specs.Sound.{eqWaiting}
 use Rattle.policy.specs.Draft.{put3, addGrantAt, removeGrantAt}
 use Rattle.policy.proofs.Sets.{not-i, not-e, keep-in, in-keep, once-keep, once-snoc, each-one, each-snoc}
-use Rattle.policy.proofs.Equal.{eqAid-of, eqWaiting→, eqWaiting-refl}
+use Rattle.policy.proofs.Equal.{row-path, eqAid-of, eqWaiting→, eqWaiting-refl}
 use Rattle.policy.proofs.Formed.{Formed, bit, row, GrantAt, Stands, Turns, KindTurns}
 use Rattle.policy.proofs.Found.{NumberIs}
 use Rattle.policy.proofs.Facts.{bits-sub, bits-more}
@@ -36,9 +36,7 @@ module _ (L : Layout) (t : Tables) (f : Formed L t) (r : Row) (j k : ℕ) (pk : 
   is-k z p e = f .names .tok-inj j z k p pk (sym e ∙ sym ek)
 
   is-r : (n z : ℕ) (x : Row) → x .aid ≡ r .aid → n ≡ j → z ≡ k → x .tok ≡ t .tok n z → x ≡ r
-  is-r n z x ea en ez et =
-      let e : x .tok ≡ r .tok = et ∙ (λ i. t .tok (en i) (ez i)) ∙ ek in
-      λ i. record { aid = ea i; tok = e i }
+  is-r n z x ea en ez et = row-path ea (et ∙ (λ i. t .tok (en i) (ez i)) ∙ ek)
 
   abbrev wait : Aid → ℕ → ℕ → Waiting
   wait b n z = record { caller = b; callee = n; service = z }

@@ -21,7 +21,7 @@ use Rattle.policy.specs.ShortCheck.{shortLoad, shortLook}
 use Rattle.policy.specs.Judge.{tableCauses}
 use Rattle.policy.specs.History.{FourSets}
 use Rattle.policy.proofs.Sets.{and-l, and-r, not-i, not-e, every-in, distinct→once}
-use Rattle.policy.proofs.Equal.{eqAid-of, eqTok→, eqTok-refl, eqRow→, eqRow-refl, has-tok, has-row}
+use Rattle.policy.proofs.Equal.{row-path, eqAid-of, eqTok→, eqTok-refl, eqRow→, eqRow-refl, has-tok, has-row}
 use Rattle.policy.proofs.Formed.{Names, Formed}
 use Rattle.policy.proofs.Found.{NumberIs, FreeIs}
 use Rattle.policy.proofs.Put.{at-new, at-old, by-number}
@@ -44,9 +44,6 @@ module _ {A : Type 0} (d : A) where
   getD-inj (x ∷ l) n zero (suc z) a b e = absurd (n .0 (in-cast e (getD-in l z (le-of-suc-le-suc b))))
   getD-inj (x ∷ l) n (suc y) zero a b e = absurd (n .0 (in-cast (sym e) (getD-in l y (le-of-suc-le-suc a))))
   getD-inj (x ∷ l) n (suc y) (suc z) a b e = ap suc (getD-inj l (n .1) y z (le-of-suc-le-suc a) (le-of-suc-le-suc b) e)
-
-pub row-path : {r s : Row} → r .aid ≡ s .aid → r .tok ≡ s .tok → r ≡ s
-row-path e f = λ i. record { aid = e i; tok = f i }
 
 -- ---- what a load that causes 3, 4 and 7 let pass finds: a free number m, no package with the AID, and a proper contract
 pub record Newcomer (L : Layout) (t : Tables) (m : ℕ) (k : Contract) : Type 0 where

@@ -17,7 +17,7 @@ use Rattle.policy.specs.Lookup.{Place, serviceAt}
 use Rattle.policy.specs.Sound.{eqUnmet}
 use Rattle.policy.specs.Draft.{kept, callRow, put3, withCalls, withGrants, withNeeds}
 use Rattle.policy.proofs.Sets.{not-i, not-e, differs, keep-in, in-keep}
-use Rattle.policy.proofs.Equal.{eqRow→, eqRow-refl, eqUnmet→, eqUnmet-refl}
+use Rattle.policy.proofs.Equal.{row-path, eqRow→, eqRow-refl, eqUnmet→, eqUnmet-refl}
 use Rattle.policy.proofs.Formed.{Bits, Off, UnmetRows, WaitingRows, Formed, ProvidesAt, at, RowAt, GrantAt, bit, row, Stands, Turns}
 use Rattle.policy.proofs.Found.{ServerIs, same-place}
 use Rattle.policy.proofs.Alter.{More, Less, Turned, turned-same, turned-less, stands-turned}
@@ -178,7 +178,7 @@ module _ (L : Layout) (t : Tables) (cs : List Contract) (a : Aid) (fo : Formed L
 
 -- ---- where a row's service is found, and where it is not
 pub is-service : (t : Tables) (r : Row) (p : Place) → ServerIs t r (some p) → r ≡ serviceAt t (p .callee) (p .service)
-is-service t r p s = λ z. record { aid = sym (s .1) z; tok = sym (s .2) z }
+is-service t r p s = row-path (sym (s .1)) (sym (s .2))
 
 module _ (L : Layout) (t : Tables) (fo : Formed L t) where
   -- calls or needs

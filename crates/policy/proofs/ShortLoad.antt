@@ -1,13 +1,13 @@
--- The short check is the full look for kind 1 (load) and kind 3 (a service added).
+-- Kinds 1 and 3: the short check says what the full look at the draft says.
 use Prim.Native.Nat.{ℕ, _+_, _≤_}
 use native.Mathlib.Omega.{arith}
 use mathlib.Core.Path.{_≡_, refl, sym, ap, _∙_, subst}
-use mathlib.Core.Logic.{_⊎_, inl, inr}
+use mathlib.Core.Logic.{inl, inr}
 use mathlib.Core.Bool.{Bool, true, false, not, _&&_, cond}
 use mathlib.Core.List.{List, [], _∷_, _++_, map}
 use mathlib.Core.List.{List·Memᴰ as In, List·Memᴰ·head as here, List·Memᴰ·tail as there, Memᴰ·cast as in-cast}
 use mathlib.Core.Option.{Option, none, some}
-use lib.Dec.{T, eqb, eqb-refl}
+use lib.Dec.{T}
 use lib.ListN.{length, length-append, length-map}
 use Rattle.policy.specs.Lists.{implies, every, exists, keep, first, upto, isNil, isSome, orElse}
 use Rattle.policy.specs.Contract.{Aid, eqAid, Tok, eqTok, Row, Contract, hasTok, hasRow}
@@ -17,16 +17,16 @@ use Rattle.policy.specs.Tables.{Tables, Unmet, Waiting}
 use Rattle.policy.specs.Lookup.{Place, serviceAt, numberOf, serviceOf, serverOf}
 use Rattle.policy.specs.Draft.{kept, callRow, hasUnmet, hasWaiting, asksFor, addServiceAt, loadedNames, notServed, loadedService, loadAt, look}
 use Rattle.policy.specs.ShortCheck.{count, notInstalled, newcomerRights, nowMet, othersRights, shortLoad, shortAddService}
-use Rattle.policy.proofs.Sets.{length-keep, T-eq, and-l, and-r, and-i, or-l, or-r, or-e, implies-i, implies-e, every-in, in-every}
-use Rattle.policy.proofs.Equal.{eqAid→, eqAid-of, eqTok→, has-tok, tok-has, has-row, row-has, eqAid-refl, eqTok-refl, has-unmet, unmet-has, waiting-has, has-waiting}
+use Rattle.policy.proofs.Sets.{length-keep, T-eq, and-l, and-r, and-i, implies-i, implies-e, every-in, in-every}
+use Rattle.policy.proofs.Equal.{row-path, eqAid→, eqAid-of, eqTok→, has-tok, tok-has, has-row, row-has, eqAid-refl, eqTok-refl, has-unmet, unmet-has, waiting-has, has-waiting}
 use Rattle.policy.proofs.Formed.{grantBit, Formed, Lawful, Fitting, KindShort}
 use Rattle.policy.proofs.Found.{NumberIs, number-is, FreeIs, ServerIs, server-is, same-place}
 use Rattle.policy.proofs.EveryBit.{BitIn, among, among-to, among-back}
 use Rattle.policy.proofs.Facts.{place-in}
 use Rattle.policy.proofs.Reach.{reach-3}
 use Rattle.policy.proofs.Short.{look-is, fits, fits-as}
-use Rattle.policy.proofs.Put.{by-number}
-use Rattle.policy.proofs.LoadNames.{row-path, Newcomer, Loaded, loaded, service-old, tok-in, in-tok, new-lt, load-reached}
+use Rattle.policy.proofs.Put.{by-number, OldOrNew, old-or-new}
+use Rattle.policy.proofs.LoadNames.{Newcomer, Loaded, loaded, service-old, tok-in, in-tok, new-lt, load-reached}
 use Rattle.policy.proofs.LoadBits.{CallIs, GrantIs, call-is, grant-is}
 
 module _ {A : Type 0} where
@@ -66,46 +66,45 @@ module _ (L : Layout) (t : Tables) (formed : Formed L t) (lawful : Lawful t) (fi
         kept : length (after .unmet) ≤ L .capacity
         kept = omega (arith, length-keep (λ u. not (asksFor L t (t .aid j) s u)) (t .unmet), fitting .unmet-fits)
 
-        -- the new bits: of service k of package j
-        place : ℕ → ℕ → Bool
-        place y z = eqb y j && eqb z k
-
         asked : ℕ → Bool
         asked x = hasUnmet (record { callee = t .aid j; tok = s; caller = x }) (t .unmet)
 
         allowed : ℕ → Bool
         allowed x = exists (eqAid (t .aid x)) l
 
+        given : ℕ → Bool
+        given x = t .used x && allowed x
+
         to : T full → T (every short (t .unmet))
         to h = in-every short (t .unmet) (λ u i. implies-i (asksFor L t (t .aid j) s u) (allowed (u .caller)) (λ q.
             let x = u .caller in
-            let ux = formed .unmet .off .off-used u i in
             let c = eqAid (u .callee) (t .aid j) in
             let d = eqTok (u .tok) s in
             let e = eqAid→ (u .callee) (t .aid j) (and-l c d q) in
             let f = eqTok→ (u .tok) s (and-r c d q) in
-            let here : T (place j k) = and-i (eqb j j) (eqb k k) (eqb-refl j) (eqb-refl k) in
-            let bit = or-r (t .calls x j k) (place j k && asked x) (and-i (place j k) (asked x) here (unmet-has (in-cast (λ z. record { callee = sym e z; tok = sym f z; caller = x }) i))) in
-            granted x (among-to L (after .calls) (grantBit after) h x j k (formed .names .used-lt x ux, formed .names .used-lt j uj, free .0) bit)))
+            let bit = old-or-new j k (t .calls) asked x j k .1 (inr (refl, refl, unmet-has (in-cast (λ z. record { callee = sym e z; tok = sym f z; caller = x }) i))) in
+            let within : BitIn L x j k = (formed .names .used-lt x (formed .unmet .off .off-used u i), formed .names .used-lt j uj, free .0) in
+            allows x (old-or-new j k (grantBit t) given x j k .0 (among-to L (after .calls) (grantBit after) h x j k within bit))))
           where
-            granted : (x : ℕ) → T (after .grants j x k) → T (allowed x)
-            granted x g = go (or-e (t .grants j x k) (place j k && (t .used x && allowed x)) g)
-              where
-                go : T (t .grants j x k) ⊎ T (place j k && (t .used x && allowed x)) → T (allowed x)
-                go (inl o) = absurd (free .1 (formed .grants .of-prov x j k o))
-                go (inr w) = and-r (t .used x) (allowed x) (and-r (place j k) (t .used x && allowed x) w)
+            allows : (x : ℕ) → OldOrNew j k (grantBit t) given x j k → T (allowed x)
+            allows x (inl o) = absurd (free .1 (formed .grants .of-prov x j k o))
+            allows x (inr w) = and-r (t .used x) (allowed x) (w .2)
 
         back : T (every short (t .unmet)) → T full
-        back h = among-back L (after .calls) (grantBit after) (λ x y z c. go x y z (or-e (t .calls x y z) (place y z && asked x) c))
+        back h = among-back L (after .calls) (grantBit after) (λ x y z c. old-or-new j k (grantBit t) given x y z .1 (go x y z (old-or-new j k (t .calls) asked x y z .0 c)))
           where
-            go : (x y z : ℕ) → T (t .calls x y z) ⊎ T (place y z && asked x) → T (after .grants y x z)
-            go x y z (inl o) = or-l (t .grants y x z) (place y z && (t .used x && allowed x)) (lawful x y z o)
+            go : (x y z : ℕ) → OldOrNew j k (t .calls) asked x y z → OldOrNew j k (grantBit t) given x y z
+            go x y z (inl o) = inl (lawful x y z o)
             go x y z (inr n) =
                 let u : Unmet = record { callee = t .aid j; tok = s; caller = x } in
-                let i = has-unmet u (t .unmet) (and-r (place y z) (asked x) n) in
-                or-r (t .grants y x z) (place y z && (t .used x && allowed x)) (and-i (place y z) (t .used x && allowed x) (and-l (place y z) (asked x) n)
-                (and-i (t .used x) (allowed x) (formed .unmet .off .off-used u i)
-                (implies-e (asksFor L t (t .aid j) s u) (allowed x) (every-in short (t .unmet) h i) (and-i (eqAid (t .aid j) (t .aid j)) (eqTok s s) (eqAid-refl (t .aid j)) (eqTok-refl s)))))
+                let i = has-unmet u (t .unmet) (n .2) in
+                let asks = and-i (eqAid (t .aid j) (t .aid j)) (eqTok s s) (eqAid-refl (t .aid j)) (eqTok-refl s) in
+                inr (
+                  n .0,
+                  n .1,
+                  and-i (t .used x) (allowed x) (formed .unmet .off .off-used u i)
+                      (implies-e (asksFor L t (t .aid j) s u) (allowed x) (every-in short (t .unmet) h i) asks),
+                )
 
 pub short-3 : (s : Tok) (l : List Aid) → KindShort (addService s l)
 short-3 s l L t a formed lawful fitting _ _ = reach-3 L t formed a (λ d k. look L d ≡ k) s l (λ j k u _ _ free. look-3 L t formed lawful fitting s l j k u free)
