@@ -12,26 +12,14 @@ use Rattle.policy.proofs.ShortLoad.{short-1, short-3}
 use Rattle.policy.proofs.ShortRemove.{short-2, short-4}
 use Rattle.policy.proofs.ShortRows.{short-5, short-6, short-7, short-8, short-9, short-10}
 
-pub kinds : (c : Change) → KindTurns c
-kinds (load p c g n) = kind-1 p c g n
-kinds remove = kind-2
-kinds (addService s l) = kind-3 s l
-kinds (removeService s) = kind-4 s
-kinds (addCall r) = kind-5 r
-kinds (removeCall r) = kind-6 r
-kinds (addGrant r) = kind-7 r
-kinds (removeGrant r) = kind-8 r
-kinds (addNeed r) = kind-9 r
-kinds (removeNeed r) = kind-10 r
-
-pub shorts : (c : Change) → KindShort c
-shorts (load p c g n) = short-1 p c g n
-shorts remove = short-2
-shorts (addService s l) = short-3 s l
-shorts (removeService s) = short-4 s
-shorts (addCall r) = short-5 r
-shorts (removeCall r) = short-6 r
-shorts (addGrant r) = short-7 r
-shorts (removeGrant r) = short-8 r
-shorts (addNeed r) = short-9 r
-shorts (removeNeed r) = short-10 r
+pub kinds : (c : Change) → KindTurns c × KindShort c
+kinds (load p c g n) = (kind-1 p c g n, short-1 p c g n)
+kinds remove = (kind-2, short-2)
+kinds (addService s l) = (kind-3 s l, short-3 s l)
+kinds (removeService s) = (kind-4 s, short-4 s)
+kinds (addCall r) = (kind-5 r, short-5 r)
+kinds (removeCall r) = (kind-6 r, short-6 r)
+kinds (addGrant r) = (kind-7 r, short-7 r)
+kinds (removeGrant r) = (kind-8 r, short-8 r)
+kinds (addNeed r) = (kind-9 r, short-9 r)
+kinds (removeNeed r) = (kind-10 r, short-10 r)

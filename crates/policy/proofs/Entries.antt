@@ -26,34 +26,18 @@ use Rattle.policy.proofs.Formed.{Names}
 use Rattle.policy.proofs.Found.{NumberIs, FreeIs, number-is, free-number-is}
 use Rattle.policy.proofs.Answers.{answer-zero, ascends, answer-append-zero, first-is}
 use Rattle.policy.proofs.SoundFacts.{sound-formed}
-use Rattle.policy.proofs.Step.{judge-ascends}
+use Rattle.policy.proofs.Step.{judge-causes, judge-ascends}
 
 module _ (L : Layout) where
   -- ---- judging: the numbers
-  numbered : (l : List Cause) → T (every (λ k. ltb (k .number) 12) l) → T (ascends 0 l) → (n : ℕ) → answer l ≡ suc n → In (suc n) (from 1 11)
-  numbered l t up n e = go (first-is 0 l up)
+  numbered : (l : List Cause) → T (every (λ k. ltb (k .number) 12) l) → T (ascends 2 l) → (n : ℕ) → answer l ≡ suc n → In (suc n) (from 1 11)
+  numbered l t up n e = go (first-is 2 l up)
     where
       go : IsFirst (answer l) l → In (suc n) (from 1 11)
       go (inl p) = absurd (omega (arith, e, p .0))
       go (inr p) =
           let low = ltb→lt (p .0 .number) 12 (every-in (λ k. ltb (k .number) 12) l t (p .1)) in
           in-from 1 11 (suc n) (omega arith) (omega (arith, p .2, e))
-
-  module _ (t : Tables) (k : Look) (a : Aid) (b : Bool) where
-    abbrev causesOf : Change → List Cause
-    causesOf c = 3 when b ∷ tableCauses L t a c ++ lookCauses L k
-
-    in-table : (c : Change) → T (every (λ k. ltb (k .number) 12) (causesOf c)) × T (ascends 0 (causesOf c))
-    in-table (load p c g n) = (tt, tt)
-    in-table remove = (tt, tt)
-    in-table (addService s l) = (tt, tt)
-    in-table (removeService s) = (tt, tt)
-    in-table (addCall r) = (tt, tt)
-    in-table (removeCall r) = (tt, tt)
-    in-table (addGrant r) = (tt, tt)
-    in-table (removeGrant r) = (tt, tt)
-    in-table (addNeed r) = (tt, tt)
-    in-table (removeNeed r) = (tt, tt)
 
   -- ---- judging: the package number of an acceptance
   module _ (t : Tables) (a : Aid) where
@@ -110,7 +94,7 @@ module _ (L : Layout) where
           let k = known (decode L img) (q .aid) (q .change) (answer-zero 2 (not (proper (q .aid) (q .change))) (tableCauses L (decode L img) (q .aid) (q .change)) (p .0) .1) in
           inl (refl, number-lt (decode L img) (q .aid) (sound-formed L img ok .names) k)
       settled ok q (suc n) e =
-          let w = in-table (decode L img) (look L (draft L (decode L img) (q .aid) (q .change))) (q .aid) (not (proper (q .aid) (q .change))) (q .change) in
+          let w = judge-causes L (decode L img) (q .aid) (look L (draft L (decode L img) (q .aid) (q .change))) (not (proper (q .aid) (q .change))) (q .change) in
           inr (suc n, numbered (judgeCauses L (decode L img) q) (w .0) (w .1) n e, refl)
 
       read : T (sound L img) → (o : Option Request) → Judged img (judgeTables L img (decode L img) o)

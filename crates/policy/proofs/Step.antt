@@ -4,8 +4,9 @@ use mathlib.Core.Path.{_≡_, refl, sym, ap, _∙_, subst}
 use mathlib.Core.Bool.{Bool, not, cond}
 use mathlib.Core.List.{List, [], _∷_, _++_}
 use mathlib.Core.Option.{Option, none, some}
-use lib.Dec.{T, leb→le}
+use lib.Dec.{T, ltb, leb→le}
 use lib.ListN.{length}
+use Rattle.policy.specs.Lists.{every}
 use Rattle.policy.specs.Contract.{Aid, Contract, validAid}
 use Rattle.policy.specs.Layout.{Layout, LayoutOk}
 use Rattle.policy.specs.Record.{Request, Change, load, remove, addService, removeService, addCall, removeCall, addGrant, removeGrant, addNeed, removeNeed, parse, proper}
@@ -14,7 +15,8 @@ use Rattle.policy.specs.Machine.{Held, held, effect, causes8to11, causes
 use Rattle.policy.specs.Tables.{Tables, Unmet, decode, encode}
 use Rattle.policy.specs.Lookup.{contractAt}
 use Rattle.policy.specs.Sound.{sound}
-use Rattle.policy.specs.Draft.{Draft, look, draft, numberFor}
+use Rattle.policy.specs.ShortCheck.{fine}
+use Rattle.policy.specs.Draft.{Look, Draft, look, draft, numberFor}
 use Rattle.policy.specs.Judge.{Out, refusal, tableCauses, lookCauses, judgeCauses, judged, judgeTables, judge}
 use Rattle.policy.specs.History.{SameContract, StandsFor}
 use Rattle.policy.proofs.Sets.{T-true, not-false, nil-is}
@@ -27,7 +29,7 @@ use Rattle.policy.proofs.ParseFacts.{parse-valid}
 use Rattle.policy.proofs.Tests.{tests-agree}
 use Rattle.policy.proofs.Verdict.{looks-agree}
 use Rattle.policy.proofs.AllKinds.{kinds}
-use Rattle.policy.proofs.Answers.{answer-zero, answer-append, ascends, answer-append-zero, none-of-four}
+use Rattle.policy.proofs.Answers.{ascends-front, answer-zero, answer-append, ascends, answer-append-zero, none-of-four}
 
 -- ---- images and tables
 pub stands-of : (L : Layout) (img : List ℕ) (cs : List Contract) → StandsFor L img cs → Stands (decode L img) [] cs
@@ -66,17 +68,22 @@ accepted L d g e =
 
 -- ---- the two lists of causes
 module _ (L : Layout) (t : Tables) (a : Aid) where
+  -- causes 3 to 11 go up, and are below 12
+  pub judge-causes : (k : Look) (b : Bool) (c : Change)
+      → T (every (λ x. ltb (x .number) 12) (3 when b ∷ tableCauses L t a c ++ lookCauses L k)) × T (ascends 2 (3 when b ∷ tableCauses L t a c ++ lookCauses L k))
+  judge-causes k b (load p c g n) = (tt, tt)
+  judge-causes k b remove = (tt, tt)
+  judge-causes k b (addService s l) = (tt, tt)
+  judge-causes k b (removeService s) = (tt, tt)
+  judge-causes k b (addCall r) = (tt, tt)
+  judge-causes k b (removeCall r) = (tt, tt)
+  judge-causes k b (addGrant r) = (tt, tt)
+  judge-causes k b (removeGrant r) = (tt, tt)
+  judge-causes k b (addNeed r) = (tt, tt)
+  judge-causes k b (removeNeed r) = (tt, tt)
+
   pub judge-ascends : (b : Bool) (c : Change) → T (ascends 2 (3 when b ∷ tableCauses L t a c))
-  judge-ascends b (load p c g n) = tt
-  judge-ascends b remove = tt
-  judge-ascends b (addService s l) = tt
-  judge-ascends b (removeService s) = tt
-  judge-ascends b (addCall r) = tt
-  judge-ascends b (removeCall r) = tt
-  judge-ascends b (addGrant r) = tt
-  judge-ascends b (removeGrant r) = tt
-  judge-ascends b (addNeed r) = tt
-  judge-ascends b (removeNeed r) = tt
+  judge-ascends b c = ascends-front 2 (3 when b ∷ tableCauses L t a c) (lookCauses L fine) (judge-causes fine b c .1)
 
 module _ (L : Layout) (lo : LayoutOk L) (t : Tables) (cs : List Contract) (g : Formed L t) (st : Stands t [] cs)
     (q : Request) (va : T (validAid (q .aid))) (vc : Valid L (q .change)) where
@@ -97,7 +104,7 @@ module _ (L : Layout) (lo : LayoutOk L) (t : Tables) (cs : List Contract) (g : F
   early = 3 when not (proper a c) ∷ tableCauses L t a c
 
   turns : answer early ≡ 0 → Turns L d ds
-  turns e = let p = answer-zero 2 (not (proper a c)) (tableCauses L t a c) e in kinds c L t cs a g st va vc (not-false (proper a c) (p .0)) (p .1)
+  turns e = let p = answer-zero 2 (not (proper a c)) (tableCauses L t a c) e in kinds c .0 L t cs a g st va vc (not-false (proper a c) (p .0)) (p .1)
 
   pub answers-agree : answer (judgeCauses L t q) ≡ answer (causes3to11 L cs q)
   answers-agree =

@@ -23,7 +23,7 @@ use Rattle.policy.specs.Judge.{Out, refusal, judgeTables, judge, loadRec
 use Rattle.policy.specs.History.{SameContract, StandsFor, answers, imageAfter, machineAnswers, contractsAfter}
 use Rattle.policy.specs.Marked.{Case, cases}
 use Rattle.policy.specs.Claims.{MarkedCases, Agreement, History, FitsLimits, AcceptedExactly, IsFirst, FirstCause, SoundStands, ShortIsFull, ReadOutAgain}
-use Rattle.policy.proofs.Sets.{cond-true, cond-false, and-l, and-r, and-i, not-e, test, every-in, exists-in, in-map}
+use Rattle.policy.proofs.Sets.{each-one, cond-true, cond-false, and-l, and-r, and-i, not-e, test, every-in, exists-in, in-map}
 use Rattle.policy.proofs.Answers.{ascends, ascends-front, answer-append-zero, first-is, none-of-four, four-none}
 use Rattle.policy.proofs.SoundFacts.{sound-formed, sound-lawful, sound-fitting}
 use Rattle.policy.proofs.RoundTrip.{emptyTables, empty-formed, empty-fitting, empty-encode}
@@ -32,7 +32,7 @@ use Rattle.policy.proofs.Tests.{packages-fit, services-fit}
 use Rattle.policy.proofs.LawfulCard.{calls-granted, needs-present}
 use Rattle.policy.proofs.ReadOut.{read-out-parses, read-out-proper}
 use Rattle.policy.proofs.ParseFacts.{parse-valid}
-use Rattle.policy.proofs.AllKinds.{shorts}
+use Rattle.policy.proofs.AllKinds.{kinds}
 use Rattle.policy.proofs.Step.{stands-of, image-stands, step}
 
 -- ---- 2. one record
@@ -147,21 +147,17 @@ module _ (L : Layout) (lo : LayoutOk L) where
   silent-append (c ∷ l) m h = cond-false (c .applies) (c .number) (answer (l ++ m)) (h c (here refl)) ∙ silent-append l m (λ k n. h k (there n))
 
   -- causes 4 to 7 that apply to a change whose contracts fit are below 7
-  early-below : (cs : List Contract) (l : List Cause) → T (every (λ k. ltb (k .number) 7) l) → (k : Cause) → In k l → k .number < 7
-  early-below cs l t k m = ltb→lt (k .number) 7 (every-in (λ k. ltb (k .number) 7) l t m)
+  early-below : (l : List Cause) → T (every (λ k. ltb (k .number) 7) l) → (k : Cause) → In k l → T (k .applies) → k .number < 7
+  early-below l t k m w = ltb→lt (k .number) 7 (every-in (λ k. ltb (k .number) 7) l t m)
 
   module _ (cs : List Contract) (a : Aid) where
     -- after the causes that are below 7, one that cannot apply
     below-or : (l : List Cause) (c : Cause) → T (every (λ k. ltb (k .number) 7) l) → (T (c .applies) → ⊥) → (k : Cause) → In k (l ++ (c ∷ [])) → T (k .applies) → k .number < 7
     below-or l c t h k m w = go (in-append l m)
       where
-        last : (k ≡ c) ⊎ In k [] → k .number < 7
-        last (inl e) = absurd (h (subst (λ (z : Cause). T (z .applies)) e w))
-        last (inr n) = absurd (in-nil n)
-
         go : In k l ⊎ In k (c ∷ []) → k .number < 7
-        go (inl n) = early-below cs l t k n
-        go (inr n) = last (in-cons n)
+        go (inl n) = early-below l t k n w
+        go (inr n) = absurd (h (subst (λ (z : Cause). T (z .applies)) (each-one (λ z. z ≡ c) c refl k n) w))
 
     -- a package that kind 3 makes fit has a service number free
     full : (s : Tok) (l : List Aid) → FitsLimits L (effect cs a (addService s l)) → T (under cs a (λ k. leb (L .services) (length (k .provides)))) → ⊥
@@ -177,15 +173,15 @@ module _ (L : Layout) (lo : LayoutOk L) where
 
     below : (c : Change) → FitsLimits L (effect cs a c) → (k : Cause) → In k (causes4to7 L cs a c) → T (k .applies) → k .number < 7
     below (load p c g n) fit = below-or (4 when _ ∷ []) (7 when leb (L .packages) (length cs)) tt (λ t. let h = leb→le (L .packages) (length cs) t in let f = fit .packages-fit in omega arith)
-    below remove fit = λ k m w. early-below cs (causes4to7 L cs a remove) tt k m
+    below remove fit = early-below (causes4to7 L cs a remove) tt
     below (addService s l) fit = below-or (5 when _ ∷ 6 when _ ∷ []) (7 when under cs a (λ k. leb (L .services) (length (k .provides)))) tt (full s l fit)
-    below (removeService s) fit = λ k m w. early-below cs (causes4to7 L cs a (removeService s)) tt k m
-    below (addCall r) fit = λ k m w. early-below cs (causes4to7 L cs a (addCall r)) tt k m
-    below (removeCall r) fit = λ k m w. early-below cs (causes4to7 L cs a (removeCall r)) tt k m
-    below (addGrant r) fit = λ k m w. early-below cs (causes4to7 L cs a (addGrant r)) tt k m
-    below (removeGrant r) fit = λ k m w. early-below cs (causes4to7 L cs a (removeGrant r)) tt k m
-    below (addNeed r) fit = λ k m w. early-below cs (causes4to7 L cs a (addNeed r)) tt k m
-    below (removeNeed r) fit = λ k m w. early-below cs (causes4to7 L cs a (removeNeed r)) tt k m
+    below (removeService s) fit = early-below (causes4to7 L cs a (removeService s)) tt
+    below (addCall r) fit = early-below (causes4to7 L cs a (addCall r)) tt
+    below (removeCall r) fit = early-below (causes4to7 L cs a (removeCall r)) tt
+    below (addGrant r) fit = early-below (causes4to7 L cs a (addGrant r)) tt
+    below (removeGrant r) fit = early-below (causes4to7 L cs a (removeGrant r)) tt
+    below (addNeed r) fit = early-below (causes4to7 L cs a (addNeed r)) tt
+    below (removeNeed r) fit = early-below (causes4to7 L cs a (removeNeed r)) tt
 
   -- what the machine leaves of an accepted record
   accepted-contracts : (img s : List ℕ) (cs : List Contract) (q : Request) → StandsFor L img cs → parse L s ≡ some q → answer (causes3to11 L cs q) ≡ 0
@@ -240,7 +236,7 @@ module _ (L : Layout) (lo : LayoutOk L) where
 -- ---- 5. short check = full look
 pub short-is-full : (L : Layout) → ShortIsFull L
 short-is-full L img s q ok e =
-    shorts (q .change) L (decode L img) (q .aid) (sound-formed L img ok) (sound-lawful L img ok) (sound-fitting L img ok) (parse-valid L s q e .1)
+    kinds (q .change) .1 L (decode L img) (q .aid) (sound-formed L img ok) (sound-lawful L img ok) (sound-fitting L img ok) (parse-valid L s q e .1)
 
 -- ---- 6. reading out
 module _ (L : Layout) (lo : LayoutOk L) where
