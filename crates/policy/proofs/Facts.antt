@@ -2,13 +2,15 @@
 use Prim.Native.Nat.{ℕ, _<_}
 use mathlib.Core.Path.{_≡_, sym, _∙_, subst}
 use mathlib.Core.Logic.{_⊎_, inl, inr}
-use mathlib.Core.Bool.{Bool}
+use mathlib.Core.Bool.{Bool, _&&_}
 use mathlib.Core.List.{List, []}
 use mathlib.Core.List.{List·Memᴰ as In, List·Memᴰ·not-nil as in-nil}
 use lib.Dec.{T}
-use Rattle.policy.specs.Contract.{Row, Contract}
+use Rattle.policy.specs.Contract.{Aid, eqAid, Row, Contract, under}
 use Rattle.policy.specs.Layout.{Layout}
 use Rattle.policy.specs.Tables.{Tables, Unmet}
+use Rattle.policy.proofs.Sets.{and-l, and-r, and-i, exists-in, in-exists}
+use Rattle.policy.proofs.Equal.{eqAid→, eqAid-of}
 use Rattle.policy.proofs.Formed.{Names, Bits, Off, grantBit, Formed, Lawful, ProvidesAt, at, GrantAt, bit, row, HasContract, Stands}
 use Rattle.policy.proofs.EveryBit.{BitIn, among, among-to, among-back}
 
@@ -63,6 +65,20 @@ module _ (L : Layout) (t : Tables) where
           let p = st .no-others n u in
           let h = st .these (p .0) (p .1) in
           (p .0, p .1, at-aid (p .0) (h .0) n (h .1) (h .2) u (p .2))
+
+    -- a test of the contract under an AID, as a fact about the package with that AID
+    module _ {lost : List Unmet} {cs : List Contract} (st : Stands t lost cs) (a : Aid) (f : Contract → Bool) where
+      pub under-i : (n : ℕ) → T (t .used n) → t .aid n ≡ a → ((c : Contract) → In c cs → HasContract t lost n c → T (f c)) → T (under cs a f)
+      under-i n u e h =
+          let p = contract-of st n u in
+          in-exists (λ c. eqAid (c .aid) a && f c) (p .1) (and-i (eqAid (p .0 .aid) a) (f (p .0)) (eqAid-of (p .2 .aid ∙ e)) (h (p .0) (p .1) (p .2)))
+
+      pub under-e : T (under cs a f) → (n : ℕ) × T (t .used n) × (t .aid n ≡ a) × (c : Contract) × In c cs × HasContract t lost n c × T (f c)
+      under-e h =
+          let p = exists-in (λ c. eqAid (c .aid) a && f c) cs h in
+          let s = st .these (p .0) (p .1) in
+          let e = eqAid→ (p .0 .aid) a (and-l (eqAid (p .0 .aid) a) (f (p .0)) (p .2)) in
+          (s .0, s .1, sym (s .2 .aid) ∙ e, p .0, p .1, s .2, and-r (eqAid (p .0 .aid) a) (f (p .0)) (p .2))
 
   module _ (f : Formed L t) where
     -- needs are calls

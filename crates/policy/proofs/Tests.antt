@@ -24,7 +24,7 @@ use Rattle.policy.proofs.Sets.{map-inj, length-keep, length-from, keep-
 use Rattle.policy.proofs.Equal.{eqAid→, eqAid-of, eqTok→, eqTok-refl, eqRow→, eqRow-refl}
 use Rattle.policy.proofs.Formed.{Names, Formed, HasContract, Stands}
 use Rattle.policy.proofs.Found.{NumberIs, number-is, FreeIs, free-number-is, free-service-is}
-use Rattle.policy.proofs.Facts.{contract-of}
+use Rattle.policy.proofs.Facts.{at-aid, under-i, under-e}
 use Rattle.policy.proofs.ContractAt.{provided, provided-in, once-provided, same-contract}
 
 -- ---- counting what is taken below a limit
@@ -54,22 +54,6 @@ module _ (most : ℕ) (taken : ℕ → Bool) where
 
       more : most ≤ length (keep taken below) → ⊥
       more a = omega (arith, length-from 0 most, le)
-
--- the contract under an AID, where there is one, is what a test of that AID sees
-under-is : (cs : List Contract) → NoRepeat (map (λ c. c .aid) cs) → (a : Aid) (f : Contract → Bool) (c : Contract) → In c cs → c .aid ≡ a → under cs a f ≡ f c
-under-is cs once a f c m e = T-eq (under cs a f) (f c) to (λ h. in-exists (λ d. eqAid (d .aid) a && f d) m (and-i (eqAid (c .aid) a) (f c) (eqAid-of e) h))
-  where
-    to : T (under cs a f) → T (f c)
-    to h =
-        let p = exists-in (λ d. eqAid (d .aid) a && f d) cs h in
-        let d = p .0 in
-        let q : d .aid ≡ c .aid = eqAid→ (d .aid) a (and-l (eqAid (d .aid) a) (f d) (p .2)) ∙ sym e in
-        subst (λ (z : Contract). T (f z)) (map-inj (λ (k : Contract). k .aid) cs once (p .1) m q) (and-r (eqAid (d .aid) a) (f d) (p .2))
-
-under-none : (cs : List Contract) (a : Aid) (f : Contract → Bool) → ((c : Contract) → In c cs → c .aid ≡ a → ⊥) → under cs a f ≡ false
-under-none cs a f h = T-false (under cs a f) (λ u.
-    let p = exists-in (λ d. eqAid (d .aid) a && f d) cs u in
-    h (p .0) (p .1) (eqAid→ (p .0 .aid) a (and-l (eqAid (p .0 .aid) a) (f (p .0)) (p .2))))
 
 -- ---- as many contracts as used numbers, and as many services as places taken
 module _ (L : Layout) (t : Tables) (lost : List Unmet) (cs : List Contract)
@@ -123,10 +107,13 @@ module _ (L : Layout) (t : Tables) (cs : List Contract) (formed : Formed L t) (s
     found-is g f agree = go (numberOf L t a) (number-is L t (formed .names) a)
       where
         go : (o : Option ℕ) → NumberIs t a o → orElse o false g ≡ under cs a f
-        go none h = sym (under-none cs a f (λ c m e. let p = st .these c m in h (p .0) (p .1) (sym (p .2 .aid) ∙ e)))
-        go (some n) h =
-            let p = contract-of L t (formed .names) st n (h .0) in
-            agree n (p .0) (p .1) (p .2) ∙ sym (under-is cs (st .one-each) a f (p .0) (p .1) (p .2 .aid ∙ h .1))
+        go none h = sym (T-false (under cs a f) (λ u. let p = under-e L t (formed .names) st a f u in h (p .0) (p .1) (p .2)))
+        go (some n) h = T-eq (g n) (under cs a f)
+            (λ q. under-i L t (formed .names) st a f n (h .0) (h .1) (λ c m k. subst T (agree n c m k) q))
+            (λ u.
+            let p = under-e L t (formed .names) st a f u in
+            let k = at-aid L t (formed .names) (p .3) (p .0) n (p .1) (p .5) (h .0) (p .5 .aid ∙ p .2 ∙ sym (h .1)) in
+            subst T (sym (agree n (p .3) (p .4) k)) (p .6))
 
     installed-is : isSome (numberOf L t a) ≡ installed cs a
     installed-is = some-is (numberOf L t a) ∙ found-is (λ n. true) (λ c. true) (λ n c m h. refl)

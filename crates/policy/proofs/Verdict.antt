@@ -20,30 +20,17 @@ use Rattle.policy.proofs.Equal.{eqAid→, eqAid-of, has-tok, tok-has, h
 use Rattle.policy.proofs.Formed.{Off, grantBit, Formed, ProvidesAt, RowAt, GrantAt, HasContract, Stands}
 use Rattle.policy.proofs.Found.{same-place}
 use Rattle.policy.proofs.EveryBit.{among}
-use Rattle.policy.proofs.Facts.{contract-of, need-bits, lawful-of, of-lawful}
+use Rattle.policy.proofs.Facts.{contract-of, under-i, under-e, need-bits, lawful-of, of-lawful}
 
 module _ (L : Layout) (t : Tables) (lost : List Unmet) (ds : List Contract) (g : Formed L t) (st : Stands t lost ds) where
-  -- a test of the contract under an AID, as a fact about the package with that AID
-  under-i : (n : ℕ) → T (t .used n) → (a : Aid) → t .aid n ≡ a → (f : Contract → Bool) → ((c : Contract) → HasContract t lost n c → T (f c)) → T (under ds a f)
-  under-i n u a e f h =
-      let p = contract-of L t (g .names) st n u in
-      in-exists (λ c. eqAid (c .aid) a && f c) (p .1) (and-i (eqAid (p .0 .aid) a) (f (p .0)) (eqAid-of (p .2 .aid ∙ e)) (h (p .0) (p .2)))
-
-  under-e : (a : Aid) (f : Contract → Bool) → T (under ds a f) → (n : ℕ) × T (t .used n) × (t .aid n ≡ a) × (c : Contract) × HasContract t lost n c × T (f c)
-  under-e a f h =
-      let p = exists-in (λ c. eqAid (c .aid) a && f c) ds h in
-      let s = st .these (p .0) (p .1) in
-      let e = eqAid→ (p .0 .aid) a (and-l (eqAid (p .0 .aid) a) (f (p .0)) (p .2)) in
-      (s .0, s .1, sym (s .2 .aid) ∙ e, p .0, s .2, and-r (eqAid (p .0 .aid) a) (f (p .0)) (p .2))
-
   -- a call is met where its service is on the card
   met-i : (r : Row) (j k : ℕ) → T (t .provides j k) → r ≡ serviceAt t j k → T (met ds r)
   met-i r j k p e =
-      under-i j (g .names .prov-used j k p) (r .aid) (λ i. sym e i .aid) (λ c. hasTok (r .tok) (c .provides))
-      (λ c h. tok-has (h .provides (r .tok) .1 (ProvidesAt.at k p (λ i. e i .tok))))
+      under-i L t (g .names) st (r .aid) (λ c. hasTok (r .tok) (c .provides)) j (g .names .prov-used j k p) (λ i. sym e i .aid)
+      (λ c _ h. tok-has (h .provides (r .tok) .1 (ProvidesAt.at k p (λ i. e i .tok))))
 
   met-e : (r : Row) → T (met ds r) → (j : ℕ) × (k : ℕ) × T (t .provides j k) × (t .aid j ≡ r .aid) × (t .tok j k ≡ r .tok)
-  met-e r h = let p = under-e (r .aid) (λ c. hasTok (r .tok) (c .provides)) h in go (p .0) (p .2) (p .4 .provides (r .tok) .0 (has-tok (r .tok) (p .3 .provides) (p .5)))
+  met-e r h = let p = under-e L t (g .names) st (r .aid) (λ c. hasTok (r .tok) (c .provides)) h in go (p .0) (p .2) (p .5 .provides (r .tok) .0 (has-tok (r .tok) (p .3 .provides) (p .6)))
     where
       go : (j : ℕ) → t .aid j ≡ r .aid → ProvidesAt t j (r .tok) → (j : ℕ) × (k : ℕ) × T (t .provides j k) × (t .aid j ≡ r .aid) × (t .tok j k ≡ r .tok)
       go j e (ProvidesAt.at k p f) = (j, k, p, e, sym f)
@@ -79,8 +66,8 @@ module _ (L : Layout) (t : Tables) (lost : List Unmet) (ds : List Contract) (g :
           let p = g .calls .of-prov n j k b in
           let uj = g .names .prov-used j k p in
           let b′ = lawful-of L t g h n j k b in
-          under-i j uj (r .aid) (λ i. sym e i .aid) (λ d. hasRow (asked c r) (d .grants))
-          (λ d hd. row-has (hd .grants (asked c r) .1 (GrantAt.bit n k b′ (hc .aid) (λ i. e i .tok))))
+          under-i L t (g .names) st (r .aid) (λ d. hasRow (asked c r) (d .grants)) j uj (λ i. sym e i .aid)
+          (λ d _ hd. row-has (hd .grants (asked c r) .1 (GrantAt.bit n k b′ (hc .aid) (λ i. e i .tok))))
       have h c n hc r m (RowAt.row n′) = absurd (off-met (t .unmet) (g .unmet .off) (callRow n r) n′ m)
 
       to : T (among L (t .calls) (grantBit t)) → T (callsGranted ds)
@@ -98,11 +85,11 @@ module _ (L : Layout) (t : Tables) (lost : List Unmet) (ds : List Contract) (g :
           let a = every-in (λ c. every (allowed c) (c .calls)) ds h (c .1) in
           let q = implies-e (met ds r) (grantedTo ds (c .0 .aid) r)
           (every-in (allowed (c .0)) (c .0 .calls) a (c .2 .calls r .1 (RowAt.bit j k b refl))) (met-i r j k p refl) in
-          let d = under-e (t .aid j) (λ d. hasRow (asked (c .0) r) (d .grants)) q in
+          let d = under-e L t (g .names) st (t .aid j) (λ d. hasRow (asked (c .0) r) (d .grants)) q in
           let ej : d .0 ≡ j = g .names .aid-inj (d .0) j (d .1) (g .names .prov-used j k p) (d .2) in
           granted-bit i j k ui p (asked (c .0) r) (c .2 .aid) refl
           (subst (λ (z : ℕ). GrantAt t z (asked (c .0) r)) ej
-          (d .4 .grants (asked (c .0) r) .0 (has-row (asked (c .0) r) (d .3 .grants) (d .5)))))
+          (d .5 .grants (asked (c .0) r) .0 (has-row (asked (c .0) r) (d .3 .grants) (d .6)))))
 
   -- ---- cause 9
   needed : Off (t .used) (t .aid) (t .tok) (t .provides) lost → isNil lost ≡ needsMet ds
@@ -209,11 +196,11 @@ module _ (L : Layout) (t : Tables) (lost : List Unmet) (ds : List Contract) (g :
         g .names .prov-used (w .callee) (w .service) (g .waiting .wait-prov w m),
         refl,
         (λ c h. h .grants (grantAt t w) .1 (GrantAt.row (w .service) m refl)),
-        not-i (installed ds (w .caller)) (λ h. let p = under-e (w .caller) (λ c. true) h in g .waiting .wait-off w m (p .0) (p .1) (p .2)),
+        not-i (installed ds (w .caller)) (λ h. let p = under-e L t (g .names) st (w .caller) (λ c. true) h in g .waiting .wait-off w m (p .0) (p .1) (p .2)),
       )
 
       fro : (n : ℕ) (r : Row) → T (waits ds r) → GrantAt t n r → (w : Waiting) × In w (t .waiting) × (link w ≡ record { owner = t .aid n; row = r })
-      fro n r f (GrantAt.bit i k b e _) = absurd (not-e (installed ds (r .aid)) f (under-i i (g .grants .by-used i n k b) (r .aid) (sym e) (λ c. true) (λ c h. tt)))
+      fro n r f (GrantAt.bit i k b e _) = absurd (not-e (installed ds (r .aid)) f (under-i L t (g .names) st (r .aid) (λ c. true) i (g .grants .by-used i n k b) (sym e) (λ c _ h. tt)))
       fro n r f (GrantAt.row k m e) = (record { caller = r .aid; callee = n; service = k }, m, λ i. record { owner = t .aid n; row = record { aid = r .aid; tok = sym e i } })
 
 pub looks-agree : (L : Layout) (d : Draft) (ds : List Contract) → Formed L (d .tables)
