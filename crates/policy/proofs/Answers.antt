@@ -31,7 +31,7 @@ abbrev pub ascends : ℕ → List Cause → Bool
 ascends n [] = true
 ascends n (c ∷ l) = ltb n (c .number) && ascends (c .number) l
 
-pub ascends-lt : (n : ℕ) (l : List Cause) → T (ascends n l) → (k : Cause) → In k l → n < k .number
+ascends-lt : (n : ℕ) (l : List Cause) → T (ascends n l) → (k : Cause) → In k l → n < k .number
 ascends-lt n [] t k m = absurd (in-nil m)
 ascends-lt n (c ∷ l) t k m =
     let h : n < c .number = ltb→lt n (c .number) (and-l (ltb n (c .number)) (ascends (c .number) l) t) in

@@ -4,7 +4,7 @@ use native.Mathlib.Omega.{arith}
 use mathlib.Core.Path.{_≡_, refl, _∙_}
 use mathlib.Core.Logic.{_⊎_, inl, inr}
 use mathlib.Core.Bool.{Bool, true, false, not, _&&_, cond}
-use mathlib.Core.List.{List, [], _∷_, _++_, tail}
+use mathlib.Core.List.{List, [], _∷_, tail}
 use mathlib.Core.List.{List·Memᴰ as In, List·Memᴰ·head as here, List·Memᴰ·tail as there}
 use mathlib.Core.Option.{Option, none, some}
 use lib.Dec.{T, eqb, eqb→eq, leb, leb→le, ltb, ltb→lt}
@@ -18,8 +18,8 @@ use Rattle.policy.specs.Causes.{Cause, _when_, answer}
 use Rattle.policy.specs.Tables.{Tables, decode, emptyImage}
 use Rattle.policy.specs.Lookup.{numbers, numberOf, freeNumber, contractAt}
 use Rattle.policy.specs.Sound.{sound}
-use Rattle.policy.specs.Draft.{Look, look, draft, numberFor}
-use Rattle.policy.specs.Judge.{Out, refusal, tableCauses, lookCauses, judgeCauses, judged, judgeTables, judge, check, writeEmpty, loadRecord, readOut}
+use Rattle.policy.specs.Draft.{look, draft, numberFor}
+use Rattle.policy.specs.Judge.{Out, refusal, tableCauses, judgeCauses, judged, judgeTables, judge, check, writeEmpty, loadRecord, readOut}
 use Rattle.policy.specs.Claims.{IsFirst, RefusesWith, AnswersAlways}
 use Rattle.policy.proofs.Sets.{not-false, every-in, in-from, length-keep, length-from}
 use Rattle.policy.proofs.Formed.{Names}

@@ -16,7 +16,7 @@ use Rattle.policy.specs.Machine.{altered, alter}
 use Rattle.policy.specs.Tables.{Tables, Unmet, Waiting}
 use Rattle.policy.specs.Lookup.{serviceAt, numberOf}
 use Rattle.policy.specs.Draft.{callRow, hasUnmet, asksFor, addServiceAt}
-use Rattle.policy.proofs.Sets.{none-to, test, and-l, and-r, and-i, not-i, not-e}
+use Rattle.policy.proofs.Sets.{each-map-keep, none-to, test, and-l, and-r, and-i, not-i, not-e}
 use Rattle.policy.proofs.Sets.{every-in, keep-in, in-keep, once-keep, in-map, map-in, once-map, once-append, each-append, distinct→once}
 use Rattle.policy.proofs.Equal.{row-path, eqAid→, eqAid-refl, eqAid-of, eqTok→, eqTok-of, has-aid, aid-has, has-unmet, unmet-has}
 use Rattle.policy.proofs.Formed.{Names, Bits, Formed, ProvidesAt, at, grantBit, RowAt, bit, row, GrantAt, Stands, Turns, KindTurns}
@@ -114,11 +114,8 @@ module _ (L : Layout) (t : Tables) (f : Formed L t) (j k : ℕ) (uj : T (t .used
   abbrev waits : Aid → Waiting
   waits b = wait j k b
 
-  new-row : (w : Waiting) → In w (map waits (keep lone l)) → (b : Aid) × In b l × T (lone b) × (w ≡ waits b)
-  new-row w m =
-      let p = map-in waits (keep lone l) m in
-      let q = keep-in lone l (p .1) in
-      (p .0, q .0, q .1, p .2)
+  each-wait : (P : Waiting → Type 0) → ((b : Aid) → In b l → T (lone b) → P (waits b)) → (w : Waiting) → In w (map waits (keep lone l)) → P w
+  each-wait P = each-map-keep waits P lone l
 
   was-unmet : (u : Unmet) → In u (after .unmet) → In u (t .unmet) × (T (asksFor L t (t .aid j) s u) → ⊥)
   was-unmet u m = let p = keep-in (λ v. not (asksFor L t (t .aid j) s v)) (t .unmet) m in (p .0, not-e (asksFor L t (t .aid j) s u) (p .1))
@@ -142,14 +139,14 @@ module _ (L : Layout) (t : Tables) (f : Formed L t) (j k : ℕ) (uj : T (t .used
     };
     waiting = record {
       wait-valid = each-append (t .waiting) (map waits (keep lone l)) (f .waiting .wait-valid)
-          (λ w m. let p = new-row w m in rw (p .3) (valid (p .0) (p .1)));
+          (each-wait (λ w. T (validAid (w .caller))) (λ b m _. valid b m));
       wait-off = each-append (t .waiting) (map waits (keep lone l)) (f .waiting .wait-off)
-          (λ w m n u e. let p = new-row w m in lone-off (p .0) (p .2) n u (e ∙ ap (λ (v : Waiting). v .caller) (p .3)));
+          (each-wait (λ w. (n : ℕ) → T (t .used n) → t .aid n ≡ w .caller → ⊥) (λ b _ h. lone-off b h));
       wait-prov = each-append (t .waiting) (map waits (keep lone l)) (λ w m. place .old-prov (w .callee) (w .service) (f .waiting .wait-prov w m))
-          (λ w m. let p = new-row w m in rw (p .3) (place .new-prov));
+          (each-wait (λ w. T (after .provides (w .callee) (w .service))) (λ b _ _. place .new-prov));
       wait-once = once-append (t .waiting) (map waits (keep lone l)) (f .waiting .wait-once)
           (once-map waits (keep lone l) (λ b c m n e. ap (λ (v : Waiting). v .caller) e) (once-keep lone l once))
-          (λ w m n. let p = new-row w n in free (rw (p .3) at (f .waiting .wait-prov w m)));
+          (λ w m n. each-wait (λ v. T (t .provides (v .callee) (v .service)) → ⊥) (λ b _ _. free) w n (f .waiting .wait-prov w m));
     };
   }
     where
@@ -199,9 +196,8 @@ module _ (L : Layout) (t : Tables) (f : Formed L t) (j k : ℕ) (uj : T (t .used
       by-row : (z : ℕ) → x .tok ≡ after .tok n z → In (wait n z (x .aid)) (t .waiting) ⊎ In (wait n z (x .aid)) (map waits (keep lone l))
           → GrantAt t n x ⊎ ((n ≡ j) × In x (map grantTo l))
       by-row z q (inl m) = inl (row z m (q ∙ place .old-tok n z (f .waiting .wait-prov (wait n z (x .aid)) m)))
-      by-row z q (inr m) =
-          let p = new-row (wait n z (x .aid)) m in
-          inr (is-new z (ap (λ (v : Waiting). v .callee) (p .3)) (ap (λ (v : Waiting). v .service) (p .3)) q (in-cast (ap (λ (v : Waiting). v .caller) (p .3)) (p .1)))
+      by-row z q (inr m) = inr (each-wait (λ w. wait n z (x .aid) ≡ w → (n ≡ j) × In x (map grantTo l))
+          (λ b i _ e. is-new z (ap (λ (v : Waiting). v .callee) e) (ap (λ (v : Waiting). v .service) e) q (in-cast (ap (λ (v : Waiting). v .caller) e) i)) (wait n z (x .aid)) m refl)
 
       cases : GrantAt after n x → GrantAt t n x ⊎ ((n ≡ j) × In x (map grantTo l))
       cases (bit i z b e q) = by-bit i z e q (old-or-new j k (grantBit t) granted i n z .0 b)

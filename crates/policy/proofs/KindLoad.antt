@@ -1,7 +1,7 @@
 -- Kind 1 (load) keeps the tables formed and standing for the machine's contracts: the newcomer has its contract, and the others keep theirs.
 use Prim.Native.Nat.{ℕ}
 use mathlib.Core.Path.{_≡_, refl, sym, ap, _∙_, subst}
-use mathlib.Core.Logic.{_⊎_, inl, inr, _↔_}
+use mathlib.Core.Logic.{_⊎_, inl, inr, _↔_, Iff·trans}
 use mathlib.Core.Bool.{Bool, not, _&&_}
 use mathlib.Core.List.{List, [], _∷_, map}
 use mathlib.Core.List.{List·Memᴰ as In, List·Memᴰ·head as here, List·Memᴰ·tail as there, List·Memᴰ·cases-cons as in-cons, List·Memᴰ·not-nil as in-nil}
@@ -198,14 +198,11 @@ module _ (L : Layout) (t : Tables) (m : ℕ) (k : Contract) (new : Newcomer L t 
     has-old : (c : Contract) → HasContract t [] n c → HasContract after lost n c
     has-old c h = record {
       aid = h .aid ∙ sym (l .aid-old n n-ne);
-      provides = λ s. through (h .provides s) (provides-old s);
-      calls = λ r. through (h .calls r) (calls-old r);
-      grants = λ r. through (h .grants r) (grants-old r);
-      needs = λ r. through (h .needs r) (needs-old r);
+      provides = λ s. Iff·trans (h .provides s) (provides-old s);
+      calls = λ r. Iff·trans (h .calls r) (calls-old r);
+      grants = λ r. Iff·trans (h .grants r) (grants-old r);
+      needs = λ r. Iff·trans (h .needs r) (needs-old r);
     }
-      where
-        through : {A B C : Type 0} → A ↔ B → B ↔ C → A ↔ C
-        through f g = ((λ x. g .0 (f .0 x)), (λ x. f .1 (g .1 x)))
 
   load-stands : (cs : List Contract) → Stands t [] cs → Stands after lost (k ∷ cs)
   load-stands cs st = record {

@@ -3,17 +3,17 @@ use Prim.Native.Nat.{ℕ}
 use mathlib.Core.Path.{_≡_, refl, sym, ap, _∙_, subst}
 use mathlib.Core.Logic.{_⊎_, inl, inr, Iff·trans}
 use mathlib.Core.Bool.{Bool, true, false, not, _&&_, _||_}
-use mathlib.Core.List.{List, [], map}
+use mathlib.Core.List.{List, []}
 use mathlib.Core.List.{List·Memᴰ as In, Memᴰ·append-left as in-left, Memᴰ·append-right as in-right, List·Memᴰ·append-cases as in-append, Memᴰ·cast as in-cast}
 use lib.Dec.{T, eqb, eqb→eq}
-use Rattle.policy.specs.Lists.{keep, flat}
+use Rattle.policy.specs.Lists.{keep}
 use Rattle.policy.specs.Contract.{Aid, eqAid, Tok, Row, Contract, validAid}
 use Rattle.policy.specs.Layout.{Layout}
 use Rattle.policy.specs.Record.{remove}
 use Rattle.policy.specs.Tables.{Tables, Unmet, Waiting, noTok}
 use Rattle.policy.specs.Lookup.{numbers, places}
 use Rattle.policy.specs.Draft.{removeAt}
-use Rattle.policy.proofs.Sets.{cond-either, cond-off, and-l, and-r, and-i, or-l, or-r, not-i, not-e, test, keep-in, in-keep, once-keep, once-map-keep, once-append, each-append, in-upto, once-upto, pairs-in, in-pairs, once-pairs}
+use Rattle.policy.proofs.Sets.{pairs, cond-either, cond-off, and-l, and-r, and-i, or-l, or-r, not-i, not-e, test, keep-in, in-keep, once-keep, once-map-keep, once-append, each-append, in-upto, once-upto, pairs-in, in-pairs, once-pairs}
 use Rattle.policy.proofs.Equal.{eqAid→, eqAid-of, eqb-of}
 use Rattle.policy.proofs.Formed.{Formed, Bits, WaitingRows, grantBit, ProvidesAt, at, GrantAt, bit, row, HasContract, Stands, Turns, KindTurns}
 use Rattle.policy.proofs.Put.{at-old}
@@ -113,7 +113,7 @@ module _ (L : Layout) (t : Tables) (fm : Formed L t) (n : ℕ) (un : T (t .used 
   waitFor j k = record { caller = t .aid n; callee = j; service = k }
 
   abbrev nowWait : List Waiting
-  nowWait = flat (λ j. map (waitFor j) (keep (t .grants j n) (places L t))) (numbers L t)
+  nowWait = pairs waitFor (λ j. t .grants j n) (places L t) (numbers L t)
 
   -- ---- waiting grants: old ones of other packages, and the grants to n
   wait-old : {w : Waiting} → In w stayW → In w (t .waiting) × (w .callee ≡ n → ⊥)

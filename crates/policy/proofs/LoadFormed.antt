@@ -12,7 +12,7 @@ use Rattle.policy.specs.Layout.{Layout}
 use Rattle.policy.specs.Tables.{Tables, Unmet, Waiting}
 use Rattle.policy.specs.Lookup.{numberOf, serviceOf, serverOf, serviceAt}
 use Rattle.policy.specs.Draft.{callRow, loadedNames, notServed, loadedService, loadAt}
-use Rattle.policy.proofs.Sets.{none-to, and-i, not-e, map-in, keep-in, once-keep, once-map, once-append, each-append}
+use Rattle.policy.proofs.Sets.{each-map-keep, none-to, and-i, not-e, keep-in, once-keep, once-map, once-append, each-append}
 use Rattle.policy.proofs.Equal.{eqAid-of, tok-has}
 use Rattle.policy.proofs.Formed.{Names, Bits, Off, UnmetRows, WaitingRows, Formed, grantBit, ValidRows}
 use Rattle.policy.proofs.Found.{NumberIs, number-is, ServiceIs, service-is, ServerIs, server-is}
@@ -47,17 +47,11 @@ module _ (L : Layout) (t : Tables) (m : ℕ) (k : Contract) where
 
   -- what each row that it leaves off, and each grant of it that waits, satisfies
   pub each-left : (P : Unmet → Type 0) (l : List Row) → ((r : Row) → In r l → T (notServed L t m k r) → P (callRow m r)) → (u : Unmet) → In u (leftOff l) → P u
-  each-left P l f u i =
-      let p = map-in (callRow m) (keep (notServed L t m k) l) i in
-      let q = keep-in (notServed L t m k) l (p .1) in
-      subst P (sym (p .2)) (f (p .0) (q .0) (q .1))
+  each-left P l = each-map-keep (callRow m) P (notServed L t m k) l
 
   each-waits : (P : Waiting → Type 0) → ((r : Row) → In r (k .grants) → T (uninstalled r) → P (waitingFor r))
       → (w : Waiting) → In w (map waitingFor (keep uninstalled (k .grants))) → P w
-  each-waits P f w i =
-      let p = map-in waitingFor (keep uninstalled (k .grants)) i in
-      let q = keep-in uninstalled (k .grants) (p .1) in
-      subst P (sym (p .2)) (f (p .0) (q .0) (q .1))
+  each-waits P = each-map-keep waitingFor P uninstalled (k .grants)
 
   module _ (new : Newcomer L t m k) (valid : T (validAid (k .aid))) where
     l : Loaded L t m k

@@ -26,7 +26,7 @@ by-number m P x h f = go (test (eqb x m))
     go (inr n) = f (λ e. n (eqb-of e))
 
 -- ---- place k of number j
-pub at-place : (j k x y : ℕ) → T (eqb x j && eqb y k) ↔ ((x ≡ j) × (y ≡ k))
+at-place : (j k x y : ℕ) → T (eqb x j && eqb y k) ↔ ((x ≡ j) × (y ≡ k))
 at-place j k x y = (
   λ t. (eqb→eq x j (and-l (eqb x j) (eqb y k) t), eqb→eq y k (and-r (eqb x j) (eqb y k) t)),
   λ e. and-i (eqb x j) (eqb y k) (eqb-of (e .0)) (eqb-of (e .1)),

@@ -17,7 +17,7 @@ use Rattle.policy.specs.Record.{load, notOwn, parse, proper}
 use Rattle.policy.specs.Tables.{Tables}
 use Rattle.policy.specs.Lookup.{numbers, places, serviceAt, wanted, grantAt, contractAt}
 use Rattle.policy.specs.Judge.{loadRecord}
-use Rattle.policy.proofs.Sets.{length-keep, length-from, length-flat-le, and-i, not-i, cond-false, in-every, once→distinct, in-upto}
+use Rattle.policy.proofs.Sets.{pairs, length-keep, length-from, length-flat-le, and-i, not-i, cond-false, in-every, once→distinct, in-upto}
 use Rattle.policy.proofs.Equal.{eqAid→, eqTok→, eqTok-refl, eqRow→, eqRow-refl, row-has, tok-has}
 use Rattle.policy.proofs.Formed.{Formed, Fitting, RowAt, GrantAt}
 use Rattle.policy.proofs.Facts.{need-bits, granted-provided}
@@ -60,19 +60,22 @@ module _ (L : Layout) (lo : LayoutOk L) (t : Tables) (g : Formed L t) (fit : Fit
     empty-keep [] = refl
     empty-keep (k ∷ l) = cond-false (b n k) (k ∷ keep (b n) l) (keep (b n) l) (diagonal k) ∙ empty-keep l
 
-    bits-length : length (flat (λ j. map (name j) (keep (b j) (places L t))) (numbers L t)) ≤ (L .packages - 1) * L .services
+    abbrev bits : List Row
+    bits = pairs name b (places L t) (numbers L t)
+
+    bits-length : length bits ≤ (L .packages - 1) * L .services
     bits-length =
         let h = length-flat-but (λ j. map (name j) (keep (b j) (places L t))) (L .services)
         (λ j. let a = length-map (keep (b j) (places L t)) (name j) in let k = length-keep (b j) (places L t) in let u = length-from 0 (L .services) in omega arith)
         n (ap (λ (z : List ℕ). map (name n) z) (empty-keep (places L t))) (numbers L t) (in-upto (L .packages) n (g .names .used-lt n un)) in
-        subst (λ (z : ℕ). length (flat (λ j. map (name j) (keep (b j) (places L t))) (numbers L t)) ≤ (z - 1) * L .services) (length-from 0 (L .packages)) h
+        subst (λ (z : ℕ). length bits ≤ (z - 1) * L .services) (length-from 0 (L .packages)) h
 
     -- with the rows of a list behind the bits
     rows-length : {A : Type 0} (f : A → Row) (own : A → Bool) (l : List A) → length l ≤ L .capacity
-        → length (flat (λ j. map (name j) (keep (b j) (places L t))) (numbers L t) ++ map f (keep own l)) ≤ L .mostRows
+        → length (bits ++ map f (keep own l)) ≤ L .mostRows
     rows-length f own l h =
         let a = bits-length in
-        let e = length-append (flat (λ j. map (name j) (keep (b j) (places L t))) (numbers L t)) (map f (keep own l)) in
+        let e = length-append bits (map f (keep own l)) in
         let m = length-map (keep own l) f in
         let k = length-keep own l in
         let r = lo .rows-fit in

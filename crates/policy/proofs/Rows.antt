@@ -4,7 +4,7 @@ use mathlib.Core.Path.{_≡_, refl, sym, ap, _∙_, subst}
 use mathlib.Core.Logic.{_⊎_, inl, inr, _↔_}
 use mathlib.Core.Bool.{Bool, true, false, not}
 use mathlib.Core.List.{List, [], _∷_, _++_}
-use mathlib.Core.List.{List·Memᴰ as In, List·Memᴰ·head as here, List·Memᴰ·cases-cons as in-cons, List·Memᴰ·not-nil as in-nil}
+use mathlib.Core.List.{List·Memᴰ as In, List·Memᴰ·head as here}
 use mathlib.Core.List.{Memᴰ·append-left as in-left, Memᴰ·append-right as in-right, List·Memᴰ·append-cases as in-append, Memᴰ·cast as in-cast}
 use mathlib.Core.Option.{none, some}
 use lib.Dec.{T}
@@ -16,7 +16,7 @@ use Rattle.policy.specs.Tables.{Tables, Unmet, Waiting}
 use Rattle.policy.specs.Lookup.{Place, serviceAt}
 use Rattle.policy.specs.Sound.{eqUnmet}
 use Rattle.policy.specs.Draft.{kept, callRow, put3, withCalls, withGrants, withNeeds}
-use Rattle.policy.proofs.Sets.{not-i, not-e, differs, keep-in, in-keep}
+use Rattle.policy.proofs.Sets.{each-one, not-i, not-e, differs, keep-in, in-keep}
 use Rattle.policy.proofs.Equal.{row-path, eqRow→, eqRow-refl, eqUnmet→, eqUnmet-refl}
 use Rattle.policy.proofs.Formed.{Bits, Off, UnmetRows, WaitingRows, Formed, ProvidesAt, at, RowAt, GrantAt, bit, row, Stands, Turns}
 use Rattle.policy.proofs.Found.{ServerIs, same-place}
@@ -46,13 +46,12 @@ module _ (t t′ : Tables) (same : (j k : ℕ) → serviceAt t j k ≡ serviceAt
     pub row-more : More i (λ x. x ≡ r) (RowAt t b l) (RowAt t′ b (l ++ (callRow i r ∷ [])))
     row-more n x = (to, back)
       where
-        last : (callRow n x ≡ callRow i r) ⊎ In (callRow n x) [] → RowAt t b l n x ⊎ ((n ≡ i) × (x ≡ r))
-        last (inl e) = inr (ap (λ (u : Unmet). u .caller) e, λ z. record { aid = e z .callee; tok = e z .tok })
-        last (inr m) = absurd (in-nil m)
+        last : callRow n x ≡ callRow i r → (n ≡ i) × (x ≡ r)
+        last e = (ap (λ (u : Unmet). u .caller) e, λ z. record { aid = e z .callee; tok = e z .tok })
 
         among : In (callRow n x) l ⊎ In (callRow n x) (callRow i r ∷ []) → RowAt t b l n x ⊎ ((n ≡ i) × (x ≡ r))
         among (inl m) = inl (row m)
-        among (inr m) = last (in-cons m)
+        among (inr m) = inr (last (each-one (λ u. u ≡ callRow i r) (callRow i r) refl (callRow n x) m))
 
         to : RowAt t′ b (l ++ (callRow i r ∷ [])) n x → RowAt t b l n x ⊎ ((n ≡ i) × (x ≡ r))
         to (bit j k h e) = inl (bit j k h (e ∙ sym (same j k)))

@@ -301,6 +301,12 @@ module _ {A B : Type 0} (f : A → B) where
   once-of-map [] d = tt
   once-of-map (x ∷ l) d = (λ m. d .0 (in-map m), once-of-map l (d .1))
 
+  pub each-map-keep : (P : B → Type 0) (p : A → Bool) (l : List A) → ((x : A) → In x l → T (p x) → P (f x)) → (y : B) → In y (map f (keep p l)) → P y
+  each-map-keep P p l h y m =
+      let a = map-in (keep p l) m in
+      let b = keep-in p l (a .1) in
+      subst P (sym (a .2)) (h (a .0) (b .0) (b .1))
+
   pub once-map-keep : (p : A → Bool) (l : List A) → NoRepeat (map f l) → NoRepeat (map f (keep p l))
   once-map-keep p l d = once-map (keep p l) (λ x y m n. map-inj l d (keep-in p l m .0) (keep-in p l n .0)) (once-keep p l (once-of-map l d))
 

@@ -3,14 +3,14 @@ use Prim.Native.Nat.{ℕ, _≤_}
 use native.Mathlib.Omega.{arith}
 use mathlib.Core.Path.{_≡_, refl, sym, ap, _∙_, subst}
 use mathlib.Core.Logic.{_⊎_, inl, inr}
-use mathlib.Core.Bool.{Bool, true, false, not, _&&_, _||_}
+use mathlib.Core.Bool.{Bool, true, false, not, _||_}
 use mathlib.Core.List.{List, [], _∷_, map}
 use mathlib.Core.List.{List·Memᴰ as In, List·Memᴰ·cases-cons as in-cons, Memᴰ·cast as in-cast}
 use mathlib.Core.Option.{Option, none, some}
 use lib.Dec.{T, leb, leb→le, le→leb}
 use lib.ListN.{length, length-map}
 use Rattle.policy.specs.Lists.{SameSet, NoRepeat, exists, keep, upto, isSome, orElse}
-use Rattle.policy.specs.Contract.{Aid, eqAid, Tok, eqTok, Row, eqRow, Contract, hasTok, hasRow, under, installed}
+use Rattle.policy.specs.Contract.{Aid, Tok, eqTok, Row, eqRow, Contract, hasTok, hasRow, under, installed}
 use Rattle.policy.specs.Layout.{Layout}
 use Rattle.policy.specs.Record.{Change, load, remove, addService, removeService, addCall, removeCall, addGrant, removeGrant, addNeed, removeNeed}
 use Rattle.policy.specs.Causes.{_when_}
@@ -19,9 +19,9 @@ use Rattle.policy.specs.Tables.{Tables, Unmet}
 use Rattle.policy.specs.Lookup.{numbers, places, usedNumbers, numberOf, freeNumber, freeService, contractAt}
 use Rattle.policy.specs.Judge.{absent, holds, tableCauses}
 use Rattle.policy.specs.History.{SameContract}
-use Rattle.policy.proofs.Sets.{T-eq, T-true, T-false, and-l, and-r, and-i, exists-in, in-exists, same-has, in-map, map-in, once-map}
-use Rattle.policy.proofs.Sets.{map-inj, length-keep, length-from, keep-in, in-keep, once-keep, upto-in, in-upto, once-upto, length-le, same-length}
-use Rattle.policy.proofs.Equal.{eqAid→, eqAid-of, eqTok→, eqTok-refl, eqRow→, eqRow-refl}
+use Rattle.policy.proofs.Sets.{T-eq, T-true, T-false, same-has, in-map, map-in, once-map}
+use Rattle.policy.proofs.Sets.{length-keep, length-from, keep-in, in-keep, once-keep, upto-in, in-upto, once-upto, length-le, same-length}
+use Rattle.policy.proofs.Equal.{eqTok→, eqTok-refl, eqRow→, eqRow-refl}
 use Rattle.policy.proofs.Formed.{Names, Formed, HasContract, Stands}
 use Rattle.policy.proofs.Found.{NumberIs, number-is, FreeIs, free-number-is, free-service-is}
 use Rattle.policy.proofs.Facts.{at-aid, under-i, under-e}

@@ -1,13 +1,13 @@
 -- Causes 8 to 11: the full look at a draft's tables finds what the contracts that they stand for say together.
 use Prim.Native.Nat.{ℕ}
 use mathlib.Core.Path.{_≡_, refl, sym, _∙_, subst}
-use mathlib.Core.Bool.{Bool, true, not, _&&_}
+use mathlib.Core.Bool.{Bool, true, not}
 use mathlib.Core.List.{List, [], _∷_, map}
 use mathlib.Core.List.{List·Memᴰ as In, List·Memᴰ·head as here, List·Memᴰ·not-nil as in-nil, Memᴰ·cast as in-cast}
 use lib.Dec.{T, leb}
 use lib.ListN.{length, length-map}
 use Rattle.policy.specs.Lists.{implies, every, keep, flat, isNil, NoRepeat}
-use Rattle.policy.specs.Contract.{Aid, eqAid, Row, Contract, Link, hasTok, hasRow, under, installed, met, waits, grantedTo, callsGranted, needsMet, unmetCalls, waitingGrants}
+use Rattle.policy.specs.Contract.{Row, Contract, Link, hasTok, hasRow, installed, met, waits, grantedTo, callsGranted, needsMet, unmetCalls, waitingGrants}
 use Rattle.policy.specs.Layout.{Layout}
 use Rattle.policy.specs.Causes.{_when_}
 use Rattle.policy.specs.Machine.{causes8to11}
@@ -15,8 +15,8 @@ use Rattle.policy.specs.Tables.{Tables, Unmet, Waiting}
 use Rattle.policy.specs.Lookup.{serviceAt, wanted, grantAt}
 use Rattle.policy.specs.Draft.{Draft, callRow, look}
 use Rattle.policy.specs.Judge.{lookCauses}
-use Rattle.policy.proofs.Sets.{T-eq, and-l, and-r, and-i, implies-i, implies-e, not-i, not-e, same-length, every-in, in-every, exists-in, in-exists, keep-in, in-keep, once-keep, in-map, map-in, once-map, in-flat, flat-in, once-flat, nil-is, map-inj, once-of-map}
-use Rattle.policy.proofs.Equal.{eqAid→, eqAid-of, has-tok, tok-has, has-row, row-has}
+use Rattle.policy.proofs.Sets.{T-eq, implies-i, implies-e, not-i, not-e, same-length, every-in, in-every, keep-in, in-keep, once-keep, in-map, map-in, once-map, in-flat, flat-in, once-flat, nil-is, map-inj, once-of-map}
+use Rattle.policy.proofs.Equal.{has-tok, tok-has, has-row, row-has}
 use Rattle.policy.proofs.Formed.{Off, grantBit, Formed, ProvidesAt, RowAt, GrantAt, HasContract, Stands}
 use Rattle.policy.proofs.Found.{same-place}
 use Rattle.policy.proofs.EveryBit.{among}
