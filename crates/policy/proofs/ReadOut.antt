@@ -13,7 +13,7 @@ use lib.ListN.{length, length-append, length-map}
 use Rattle.policy.specs.Lists.{every, keep, flat, distinct}
 use Rattle.policy.specs.Contract.{Aid, eqAid, eqTok, Row, eqRow, Contract, hasTok, hasRow, validAid}
 use Rattle.policy.specs.Layout.{Layout, LayoutOk}
-use Rattle.policy.specs.Record.{load, notOwn, parse, proper}
+use Rattle.policy.specs.Record.{notOwn, parse, proper}
 use Rattle.policy.specs.Tables.{Tables}
 use Rattle.policy.specs.Lookup.{numbers, places, serviceAt, wanted, grantAt, contractAt}
 use Rattle.policy.specs.Judge.{loadRecord}
@@ -22,7 +22,7 @@ use Rattle.policy.proofs.Equal.{eqAid→, eqTok→, eqTok-refl, eqRow�
 use Rattle.policy.proofs.Formed.{Formed, Fitting, RowAt, GrantAt}
 use Rattle.policy.proofs.Facts.{need-bits, granted-provided}
 use Rattle.policy.proofs.ContractAt.{provides-at, calls-at, grants-at, needs-at, four-sets-at}
-use Rattle.policy.proofs.Written.{load-parses}
+use Rattle.policy.proofs.Written.{loadOf, requestOf, load-parses}
 
 -- ---- lengths
 module _ {A : Type 0} (f : ℕ → List A) (most : ℕ) (each : (x : ℕ) → length (f x) ≤ most) where
@@ -146,7 +146,7 @@ module _ (L : Layout) (lo : LayoutOk L) (t : Tables) (g : Formed L t) (fit : Fit
   unfolding contractAt
   valid-aid = g .names .aid-valid n un
 
-  pub read-out-parses : parse L (loadRecord L c) ≡ some (record { aid = c .aid; change = load (c .provides) (c .calls) (c .grants) (c .needs) })
+  pub read-out-parses : parse L (loadRecord L c) ≡ some (requestOf c)
   read-out-parses =
       load-parses L lo c valid-aid provides-length calls-length grants-length needs-length
       (λ r m. call-other r m .0) (λ r m. grant-other r m .0) (λ r m. call-other r (need-called r m) .0)
@@ -155,7 +155,7 @@ module _ (L : Layout) (lo : LayoutOk L) (t : Tables) (g : Formed L t) (fit : Fit
   not-own : (l : List Row) → ((r : Row) → In r l → Other r) → T (notOwn (t .aid n) l)
   not-own l h = in-every (λ r. not (eqAid (r .aid) (t .aid n))) l (λ r m. not-i (eqAid (r .aid) (t .aid n)) (λ e. h r m .1 (eqAid→ (r .aid) (t .aid n) e)))
 
-  pub read-out-proper : T (proper (c .aid) (load (c .provides) (c .calls) (c .grants) (c .needs)))
+  pub read-out-proper : T (proper (c .aid) (loadOf c))
   unfolding proper contractAt
   read-out-proper =
       let s = four-sets-at L t g n un in

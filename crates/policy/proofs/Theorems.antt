@@ -30,6 +30,7 @@ use Rattle.policy.proofs.RoundTrip.{emptyTables, empty-formed, empty-fi
 use Rattle.policy.proofs.ContractAt.{same-contract, stands-self}
 use Rattle.policy.proofs.Tests.{packages-fit, services-fit}
 use Rattle.policy.proofs.LawfulCard.{calls-granted, needs-present}
+use Rattle.policy.proofs.Written.{loadOf, requestOf}
 use Rattle.policy.proofs.ReadOut.{read-out-parses, read-out-proper}
 use Rattle.policy.proofs.ParseFacts.{parse-valid}
 use Rattle.policy.proofs.AllKinds.{kinds}
@@ -77,17 +78,18 @@ module _ (L : Layout) (lo : LayoutOk L) where
 
 -- ---- 4. demand 2
 module _ (L : Layout) (lo : LayoutOk L) where
-  -- the machine's answer to a record that was read
+  -- the machine's answer to a record, by what was read
   machine-answer : (cs ds : List Contract) (n : ℕ) → held L cs ds n .answered ≡ n
   machine-answer cs ds zero = refl
   machine-answer cs ds (suc n) = refl
 
-  machine-read : (cs : List Contract) (s : List ℕ) (q : Request) → parse L s ≡ some q → machine L cs s ≡ held L cs (effect cs (q .aid) (q .change)) (answer (causes3to11 L cs q))
+  machine-read : (cs : List Contract) (s : List ℕ) (o : Option Request) → parse L s ≡ o
+      → machine L cs s ≡ elim o [ none ↦ held L cs cs 2 | some q ↦ held L cs (effect cs (q .aid) (q .change)) (answer (causes3to11 L cs q)) ]
   unfolding machine
-  machine-read cs s q e = ap (λ (o : Option Request). elim o [ none ↦ held L cs cs 2 | some q ↦ held L cs (effect cs (q .aid) (q .change)) (answer (causes3to11 L cs q)) ]) e
+  machine-read cs s o e = ap (λ (o : Option Request). elim o [ none ↦ held L cs cs 2 | some q ↦ held L cs (effect cs (q .aid) (q .change)) (answer (causes3to11 L cs q)) ]) e
 
   read-answer : (img s : List ℕ) (cs : List Contract) (q : Request) → StandsFor L img cs → parse L s ≡ some q → judge L img s .answered ≡ answer (causes3to11 L cs q)
-  read-answer img s cs q f e = step L lo img s cs f .0 ∙ ap (λ (h : Held L). h .answered) (machine-read cs s q e) ∙ machine-answer cs (effect cs (q .aid) (q .change)) (answer (causes3to11 L cs q))
+  read-answer img s cs q f e = step L lo img s cs f .0 ∙ ap (λ (h : Held L). h .answered) (machine-read cs s (some q) e) ∙ machine-answer cs (effect cs (q .aid) (q .change)) (answer (causes3to11 L cs q))
 
   -- causes go up
   causes-ascend : (cs ds : List Contract) (a : Aid) (b : Bool) (c : Change) → T (ascends 1 (2 when false ∷ 3 when b ∷ causes4to7 L cs a c ++ causes8to11 L ds))
@@ -109,15 +111,11 @@ module _ (L : Layout) (lo : LayoutOk L) where
   unfolding judge
   unsound-refused img s h = cond-false (sound L img) (judgeTables L img (decode L img) (parse L s)) (refusal 1 255 img) h
 
-  machine-malformed : (cs : List Contract) (s : List ℕ) → parse L s ≡ none → machine L cs s ≡ held L cs cs 2
-  unfolding machine
-  machine-malformed cs s e = ap (λ (o : Option Request). elim o [ none ↦ held L cs cs 2 | some q ↦ held L cs (effect cs (q .aid) (q .change)) (answer (causes3to11 L cs q)) ]) e
-
   pub first-cause : FirstCause L
   first-cause img s = (unsound-refused img s, λ cs f. go cs f (parse L s) refl)
     where
       go : (cs : List Contract) → StandsFor L img cs → (o : Option Request) → parse L s ≡ o → IsFirst (judge L img s .answered) (orElse o (2 when true ∷ []) (λ q. 2 when false ∷ causes3to11 L cs q))
-      go cs f none e = subst (λ (n : ℕ). IsFirst n (2 when true ∷ [])) (sym (step L lo img s cs f .0 ∙ ap (λ (h : Held L). h .answered) (machine-malformed cs s e))) (first-is 1 (2 when true ∷ []) tt)
+      go cs f none e = subst (λ (n : ℕ). IsFirst n (2 when true ∷ [])) (sym (step L lo img s cs f .0 ∙ ap (λ (h : Held L). h .answered) (machine-read cs s none e))) (first-is 1 (2 when true ∷ []) tt)
       go cs f (some q) e =
           subst (λ (n : ℕ). IsFirst n (2 when false ∷ causes3to11 L cs q)) (sym (read-answer img s cs q f e))
           (first-is 1 (2 when false ∷ causes3to11 L cs q) (causes-ascend cs (effect cs (q .aid) (q .change)) (q .aid) (not (proper (q .aid) (q .change))) (q .change)))
@@ -188,7 +186,7 @@ module _ (L : Layout) (lo : LayoutOk L) where
       → StandsFor L (judge L img s .bytes) (effect cs (q .aid) (q .change))
   accepted-contracts img s cs q f e z =
       subst (λ (ds : List Contract). StandsFor L (judge L img s .bytes) ds)
-      (ap (λ (h : Held L). h .contracts) (machine-read cs s q e) ∙ ap (λ (n : ℕ). held L cs (effect cs (q .aid) (q .change)) n .contracts) z)
+      (ap (λ (h : Held L). h .contracts) (machine-read cs s (some q) e) ∙ ap (λ (n : ℕ). held L cs (effect cs (q .aid) (q .change)) n .contracts) z)
       (step L lo img s cs f .1)
 
   module _ (img s : List ℕ) (cs : List Contract) (q : Request) (f : StandsFor L img cs) (e : parse L s ≡ some q) (pr : T (proper (q .aid) (q .change)))
@@ -245,23 +243,25 @@ module _ (L : Layout) (lo : LayoutOk L) where
       let t = decode L img in
       let g = sound-formed L img ok in
       let fit = sound-fitting L img ok in
+      let parses : (c : Contract) → c ≡ contractAt L t n → parse L (loadRecord L c) ≡ some (requestOf c) =
+      λ c e. subst (λ (k : Contract). parse L (loadRecord L k) ≡ some (requestOf k)) (sym e) (read-out-parses L lo t g fit n un) in
       record {
-        parses = λ c e. subst (λ (k : Contract). parse L (loadRecord L k) ≡ some (record { aid = k .aid; change = load (k .provides) (k .calls) (k .grants) (k .needs) })) (sym e) (read-out-parses L lo t g fit n un);
-        is-proper = λ c e. subst (λ (k : Contract). T (proper (k .aid) (load (k .provides) (k .calls) (k .grants) (k .needs)))) (sym e) (read-out-proper L lo t g fit n un);
-        loads-again = λ c e img₂ z. again c (subst (λ (k : Contract). parse L (loadRecord L k) ≡ some (record { aid = k .aid; change = load (k .provides) (k .calls) (k .grants) (k .needs) })) (sym e) (read-out-parses L lo t g fit n un)) img₂ z;
+        parses = parses;
+        is-proper = λ c e. subst (λ (k : Contract). T (proper (k .aid) (loadOf k))) (sym e) (read-out-proper L lo t g fit n un);
+        loads-again = λ c e. again c (parses c e);
       }
     where
-      again : (c : Contract) → parse L (loadRecord L c) ≡ some (record { aid = c .aid; change = load (c .provides) (c .calls) (c .grants) (c .needs) }) → (img₂ : List ℕ) → judge L img₂ (loadRecord L c) .answered ≡ 0
+      again : (c : Contract) → parse L (loadRecord L c) ≡ some (requestOf c) → (img₂ : List ℕ) → judge L img₂ (loadRecord L c) .answered ≡ 0
           → (m : ℕ) × T (decode L (judge L img₂ (loadRecord L c) .bytes) .used m) × SameContract c (contractAt L (decode L (judge L img₂ (loadRecord L c) .bytes)) m)
       again c e img₂ z = go (test (sound L img₂))
         where
-          go : T (sound L img₂) ⊎ (T (sound L img₂) → ⊥) → (m : ℕ) × T (decode L (judge L img₂ (loadRecord L c) .bytes) .used m) × SameContract c (contractAt L (decode L (judge L img₂ (loadRecord L c) .bytes)) m)
+          go : T (sound L img₂) ⊎ (T (sound L img₂) → ⊥)
+              → (m : ℕ) × T (decode L (judge L img₂ (loadRecord L c) .bytes) .used m) × SameContract c (contractAt L (decode L (judge L img₂ (loadRecord L c) .bytes)) m)
           go (inl h) =
-              let q : Request = record { aid = c .aid; change = load (c .provides) (c .calls) (c .grants) (c .needs) } in
               let p = sound-stands L lo img₂ h in
-              let f = accepted-contracts L lo img₂ (loadRecord L c) (p .0) q (p .1) e (sym (read-answer L lo img₂ (loadRecord L c) (p .0) q (p .1) e) ∙ z) in
-              f .these c (here refl)
-          go (inr h) = absurd (one-not-zero (sym (ap (λ (o : Out). o .answered) (first-cause L lo img₂ (loadRecord L c) .0 h)) ∙ z))
+              let n = sym (read-answer L lo img₂ (loadRecord L c) (p .0) (requestOf c) (p .1) e) ∙ z in
+              accepted-contracts L lo img₂ (loadRecord L c) (p .0) (requestOf c) (p .1) e n .these c (here refl)
+          go (inr h) = absurd (one-not-zero (sym (ap (λ (o : Out). o .answered) (unsound-refused L lo img₂ (loadRecord L c) h)) ∙ z))
             where
               one-not-zero : _≡_ {A = ℕ} 1 0 → ⊥
               one-not-zero e = omega arith

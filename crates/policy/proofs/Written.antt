@@ -12,7 +12,7 @@ use lib.Seq.{take-append-seam, drop-append-seam}
 use Rattle.policy.specs.Lists.{flat}
 use Rattle.policy.specs.Contract.{Aid, Tok, Row, Contract, validAid}
 use Rattle.policy.specs.Layout.{Layout, LayoutOk}
-use Rattle.policy.specs.Record.{load, Got, got, Reader, andThen, byte, bytes, numberFrom, number, aid, tokens, aRow, many, counted, aLoad, change, fields, parse}
+use Rattle.policy.specs.Record.{Request, Change, load, Got, got, Reader, andThen, byte, bytes, numberFrom, number, aid, tokens, aRow, many, counted, aLoad, change, fields, parse}
 use Rattle.policy.specs.Tables.{writeNumber, writeTok}
 use Rattle.policy.specs.Judge.{aidBytes, rowBytes, rowsBytes, loadBody, loadRecord}
 use Rattle.policy.proofs.Sets.{T-true, length-flat-le}
@@ -84,6 +84,13 @@ module _ {A : Type 0} (p : Reader A) (f : A → List ℕ) where
       rw (number-append w (length l) (flat f l) rest, number-written w (length l) (flat f l ++ rest) b, T-true (leb (length l) most) (le→leb (length l) most m), many-written l rest h)
 
 -- ---- the whole record
+-- the request that a contract's record asks
+abbrev pub loadOf : Contract → Change
+loadOf c = load (c .provides) (c .calls) (c .grants) (c .needs)
+
+abbrev pub requestOf : Contract → Request
+requestOf c = record { aid = c .aid; change = loadOf c }
+
 module _ (L : Layout) (lo : LayoutOk L) (c : Contract) (va : T (validAid (c .aid))) (np : length (c .provides) ≤ L .services)
     (nc : length (c .calls) ≤ L .mostRows) (ng : length (c .grants) ≤ L .mostRows) (nn : length (c .needs) ≤ L .mostRows)
     (vc : ValidRows (c .calls)) (vg : ValidRows (c .grants)) (vn : ValidRows (c .needs)) where
@@ -100,7 +107,7 @@ module _ (L : Layout) (lo : LayoutOk L) (c : Contract) (va : T (validAid (c .aid
   last-written = ap (λ (z : List ℕ). counted (L .countWidth) (L .mostRows) aRow z) (sym (append-nil (rowsBytes L (c .needs)))) ∙ rows-written (c .needs) [] nn vn
 
   load-written : aLoad L ((length (c .provides) ∷ flat writeTok (c .provides)) ++ (rowsBytes L (c .calls) ++ (rowsBytes L (c .grants) ++ rowsBytes L (c .needs))))
-      ≡ got (load (c .provides) (c .calls) (c .grants) (c .needs)) []
+      ≡ got (loadOf c) []
   unfolding aLoad
   load-written = rw (toks-written _, rows-written (c .calls) _ nc vc, rows-written (c .grants) _ ng vg, last-written)
 
@@ -129,7 +136,7 @@ module _ (L : Layout) (lo : LayoutOk L) (c : Contract) (va : T (validAid (c .aid
       let f = lo .records-fit in
       omega arith
 
-  pub load-parses : parse L (loadRecord L c) ≡ some (record { aid = c .aid; change = load (c .provides) (c .calls) (c .grants) (c .needs) })
+  pub load-parses : parse L (loadRecord L c) ≡ some (requestOf c)
   unfolding parse fields byte change loadRecord
   load-parses =
       let rest : List ℕ = L .version ∷ 1 ∷ loadBody L c in
