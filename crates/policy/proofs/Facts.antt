@@ -1,23 +1,47 @@
--- What follows at once from the facts: where bits stand, lawful tables by their test, no rows, and the contract of a number.
+-- What follows at once from the facts: what stays, where bits stand, lawful tables by their test, and the contract of a number.
 use Prim.Native.Nat.{ℕ, _<_}
 use mathlib.Core.Path.{_≡_, sym, _∙_, subst}
-use mathlib.Core.Logic.{_⊎_, inl, inr}
+use mathlib.Core.Logic.{_⊎_, inl, inr, _↔_}
 use mathlib.Core.Bool.{Bool, _&&_}
 use mathlib.Core.List.{List, []}
 use mathlib.Core.List.{List·Memᴰ as In, List·Memᴰ·not-nil as in-nil}
 use lib.Dec.{T}
-use Rattle.policy.specs.Contract.{Aid, eqAid, Row, Contract, under}
+use Rattle.policy.specs.Contract.{Aid, eqAid, Tok, Row, Contract, under}
 use Rattle.policy.specs.Layout.{Layout}
 use Rattle.policy.specs.Tables.{Tables, Unmet}
+use Rattle.policy.specs.Lookup.{serviceAt}
 use Rattle.policy.proofs.Sets.{and-l, and-r, and-i, exists-in, in-exists}
 use Rattle.policy.proofs.Equal.{eqAid→, eqAid-of}
-use Rattle.policy.proofs.Formed.{Names, Bits, Off, grantBit, Formed, Lawful, ProvidesAt, at, GrantAt, bit, row, HasContract, Stands}
+use Rattle.policy.proofs.Formed.{Names, Bits, Off, grantBit, Formed, Lawful, ProvidesAt, at, RowAt, GrantAt, bit, row, HasContract, Stands}
 use Rattle.policy.proofs.EveryBit.{BitIn, among, among-to, among-back}
 
 pub no-rows : (t : Tables) → Off (t .used) (t .aid) (t .tok) (t .provides) []
 no-rows t = record { off-used = λ u m. absurd (in-nil m); off-card = λ u m. absurd (in-nil m) }
 
--- some of the bits
+-- ---- package n provides, calls or needs the same where its services stay
+module _ (t t′ : Tables) (n : ℕ) where
+  pub provides-kept : ((k : ℕ) → T (t .provides n k) → T (t′ .provides n k)) → ((k : ℕ) → T (t′ .provides n k) → T (t .provides n k)) → ((k : ℕ) → t .tok n k ≡ t′ .tok n k)
+      → (s : Tok) → ProvidesAt t n s ↔ ProvidesAt t′ n s
+  provides-kept f g same s = (to, back)
+    where
+      to : ProvidesAt t n s → ProvidesAt t′ n s
+      to (at k p e) = at k (f k p) (e ∙ same k)
+
+      back : ProvidesAt t′ n s → ProvidesAt t n s
+      back (at k p e) = at k (g k p) (e ∙ sym (same k))
+
+  pub row-kept : (b : ℕ → ℕ → ℕ → Bool) (l : List Unmet) → ((j k : ℕ) → T (b n j k) → serviceAt t j k ≡ serviceAt t′ j k) → (r : Row) → RowAt t b l n r ↔ RowAt t′ b l n r
+  row-kept b l same r = (to, back)
+    where
+      to : RowAt t b l n r → RowAt t′ b l n r
+      to (bit j k h e) = bit j k h (e ∙ same j k h)
+      to (row m) = row m
+
+      back : RowAt t′ b l n r → RowAt t b l n r
+      back (bit j k h e) = bit j k h (e ∙ sym (same j k h))
+      back (row m) = row m
+
+-- ---- some of the bits
 pub bits-sub : {used : ℕ → Bool} {provides : ℕ → ℕ → Bool} {b b′ : ℕ → ℕ → ℕ → Bool} → Bits used provides b → ((i j k : ℕ) → T (b′ i j k) → T (b i j k)) → Bits used provides b′
 bits-sub h sub = record {
   by-used = λ i j k m. h .by-used i j k (sub i j k m);

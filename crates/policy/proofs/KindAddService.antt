@@ -24,7 +24,7 @@ use Rattle.policy.proofs.Found.{NumberIs, number-is}
 use Rattle.policy.proofs.Alter.{More, turned-same, turned-one, turned-more, stands-turned}
 use Rattle.policy.proofs.Put.{NewPlace, new-place, orNew, OldOrNew, old-or-new}
 use Rattle.policy.proofs.Reach.{reach-3}
-use Rattle.policy.proofs.Facts.{no-rows, granted-provided}
+use Rattle.policy.proofs.Facts.{row-kept, need-bits, no-rows, granted-provided}
 
 module _ (L : Layout) (t : Tables) (f : Formed L t) (j k : ℕ) (uj : T (t .used j)) (k< : k < L .services) (free : T (t .provides j k) → ⊥)
     (s : Tok) (fresh : ProvidesAt t j s → ⊥) (l : List Aid) (valid : (b : Aid) → In b l → T (validAid b)) (others : (b : Aid) → In b l → b ≡ t .aid j → ⊥) (once : NoRepeat l) where
@@ -249,18 +249,7 @@ module _ (L : Layout) (t : Tables) (f : Formed L t) (j k : ℕ) (uj : T (t .used
       back (row m) = row (was-unmet (callRow n r) m .0)
 
   needs-as : (n : ℕ) (r : Row) → RowAt t (t .needs) [] n r ↔ RowAt after (t .needs) [] n r
-  needs-as n r = (there, back)
-    where
-      prov : (y z : ℕ) → T (t .needs n y z) → T (t .provides y z)
-      prov y z b = f .calls .of-prov n y z (f .need-call n y z b)
-
-      there : RowAt t (t .needs) [] n r → RowAt after (t .needs) [] n r
-      there (bit y z b e) = bit y z b (e ∙ sym (service-as y z (prov y z b)))
-      there (row m) = row m
-
-      back : RowAt after (t .needs) [] n r → RowAt t (t .needs) [] n r
-      back (bit y z b e) = bit y z b (e ∙ service-as y z (prov y z b))
-      back (row m) = row m
+  needs-as n = row-kept t after n (t .needs) [] (λ y z h. sym (service-as y z (need-bits L t f .of-prov n y z h)))
 
   -- ---- the package's contract gets the service and its grants
   service-turns : (cs : List Contract) (a : Aid) → Stands t [] cs → t .aid j ≡ a → Turns L (addServiceAt L t j k s l) (alter a (altered (addService s l)) cs)

@@ -21,9 +21,9 @@ use Rattle.policy.proofs.Formed.{UnmetRows, Formed, RowAt, row, Stands,
 use Rattle.policy.proofs.Found.{ServerIs}
 use Rattle.policy.proofs.Put.{put3-cases, put3-keep, put3-less}
 use Rattle.policy.proofs.Reach.{reach-5, reach-6}
-use Rattle.policy.proofs.Facts.{no-rows, bits-sub, bits-more, need-bits}
+use Rattle.policy.proofs.Facts.{row-kept, no-rows, bits-sub, bits-more, need-bits}
 use Rattle.policy.proofs.Alter.{turned-same, turned-one}
-use Rattle.policy.proofs.Rows.{row-same, row-more, row-less, bit-more, bit-less, turned-without, recalled, turns-calls, is-service, no-bit, one-bit, no-row}
+use Rattle.policy.proofs.Rows.{row-more, row-less, bit-more, bit-less, turned-without, recalled, turns-calls, is-service, no-bit, one-bit, no-row}
 
 module _ (L : Layout) (t : Tables) (cs : List Contract) (a : Aid) (fo : Formed L t) (st : Stands t [] cs) (r : Row)
     (i : ℕ) (ui : T (t .used i)) (ai : t .aid i ≡ a) where
@@ -48,7 +48,7 @@ module _ (L : Layout) (t : Tables) (cs : List Contract) (a : Aid) (fo : Formed L
         let t′ = recalled t (t .calls) (t .needs) u in
         turns-calls L t cs a fo st i ui ai (t .calls) (t .needs) u [] (fo .calls) (fo .need-call) (unmet-more s) (no-rows t)
         (turned-one r (row-more t t′ (λ j k. refl) (t .calls) (t .unmet) i r) new)
-        (turned-same ui (λ n _. row-same t t′ (λ j k. refl) (t .needs) [] n))
+        (turned-same ui (λ n _. row-kept t t′ n (t .needs) [] (λ j k _. refl)))
     more-call (some p) s =
         let j = p .callee in
         let k = p .service in
@@ -58,7 +58,7 @@ module _ (L : Layout) (t : Tables) (cs : List Contract) (a : Aid) (fo : Formed L
         (bits-more i j k (fo .calls) ui (s .0) (λ e. other (sym (s .1) ∙ ap (t .aid) (sym e) ∙ ai)) (put3-cases i j k (t .calls)))
         (λ x y z h. put3-keep i j k (t .calls) x y z (fo .need-call x y z h)) (fo .unmet) (no-rows t)
         (turned-one r (bit-more t t′ (λ y z. refl) (t .calls) (t .unmet) i r j k (is-service t r p s)) new)
-        (turned-same ui (λ n _. row-same t t′ (λ y z. refl) (t .needs) [] n))
+        (turned-same ui (λ n _. row-kept t t′ n (t .needs) [] (λ j k _. refl)))
 
   -- ---- kind 6
   unmet-less : UnmetRows (t .used) (t .aid) (t .tok) (t .provides) (keep (λ u. not (eqUnmet (callRow i r) u)) (t .unmet))

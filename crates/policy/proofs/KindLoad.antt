@@ -21,6 +21,7 @@ use Rattle.policy.proofs.Equal.{row-path, eqAid→, has-tok}
 use Rattle.policy.proofs.Formed.{ProvidesAt, at, RowAt, GrantAt, HasContract, Stands, Turns, KindTurns}
 use Rattle.policy.proofs.Found.{NumberIs, number-is, ServerIs, server-is}
 use Rattle.policy.proofs.Put.{by-number}
+use Rattle.policy.proofs.Facts.{provides-kept}
 use Rattle.policy.proofs.LoadNames.{Newcomer, Loaded, loaded, service-old, tok-in, in-tok, load-reached}
 use Rattle.policy.proofs.LoadBits.{Named, CallIs, GrantIs, call-is, grant-is, need-new, need-old}
 use Rattle.policy.proofs.LoadFormed.{unmetStill, waitsStill, leftOff, uninstalled, waitingFor, each-left, names-on, service-loaded, left-off, each-unmet, each-waiting, load-formed}
@@ -117,13 +118,7 @@ module _ (L : Layout) (t : Tables) (m : ℕ) (k : Contract) (new : Newcomer L t 
     n-ne = l .old-ne n u
 
     provides-old : (s : Tok) → ProvidesAt t n s ↔ ProvidesAt after n s
-    provides-old s = (to, back)
-      where
-        to : ProvidesAt t n s → ProvidesAt after n s
-        to (at y p e) = at y (l .prov-old n y p) (e ∙ sym (l .tok-old n y n-ne))
-
-        back : ProvidesAt after n s → ProvidesAt t n s
-        back (at y p e) = at y (l .prov-back n y n-ne p) (e ∙ l .tok-old n y n-ne)
+    provides-old = provides-kept t after n (l .prov-old n) (λ y. l .prov-back n y n-ne) (λ y. sym (l .tok-old n y n-ne))
 
     calls-old : (r : Row) → RowAt t (t .calls) (t .unmet) n r ↔ RowAt after (after .calls) (after .unmet) n r
     calls-old r = (to, back)

@@ -19,9 +19,9 @@ use Rattle.policy.proofs.Formed.{Off, Formed, RowAt, bit, row, Stands, 
 use Rattle.policy.proofs.Found.{ServerIs}
 use Rattle.policy.proofs.Put.{At, put3-cases, put3-less}
 use Rattle.policy.proofs.Reach.{reach-9, reach-10}
-use Rattle.policy.proofs.Facts.{no-rows, need-bits}
+use Rattle.policy.proofs.Facts.{row-kept, no-rows, need-bits}
 use Rattle.policy.proofs.Alter.{Turned, turned-same, turned-one}
-use Rattle.policy.proofs.Rows.{row-same, row-more, row-less, bit-more, bit-less, turned-without, turns-calls, is-service, no-bit, one-bit, no-row}
+use Rattle.policy.proofs.Rows.{row-more, row-less, bit-more, bit-less, turned-without, turns-calls, is-service, no-bit, one-bit, no-row}
 
 module _ (L : Layout) (t : Tables) (cs : List Contract) (a : Aid) (fo : Formed L t) (st : Stands t [] cs) (r : Row)
     (i : ℕ) (ui : T (t .used i)) (ai : t .aid i ≡ a) where
@@ -30,7 +30,7 @@ module _ (L : Layout) (t : Tables) (cs : List Contract) (a : Aid) (fo : Formed L
       → Turned (t .used) i fd (RowAt t (t .needs) []) (RowAt (withNeeds d t) d [])
       → Turns L (kept (withNeeds d t)) (alter a (λ k. record { aid = k .aid; provides = k .provides; calls = k .calls; grants = k .grants; needs = fd (k .needs) }) cs)
   needs-turn d called = turns-calls L t cs a fo st i ui ai (t .calls) d (t .unmet) [] (fo .calls) called (fo .unmet) (no-rows t)
-      (turned-same ui (λ n _. row-same t (withNeeds d t) (λ j k. refl) (t .calls) (t .unmet) n))
+      (turned-same ui (λ n _. row-kept t (withNeeds d t) n (t .calls) (t .unmet) (λ j k _. refl)))
 
   -- ---- kind 9: the row is a call of package i, and no need yet
   module _ (called : RowAt t (t .calls) (t .unmet) i r) (new : RowAt t (t .needs) [] i r → ⊥) where
@@ -54,7 +54,7 @@ module _ (L : Layout) (t : Tables) (cs : List Contract) (a : Aid) (fo : Formed L
     more-need : (o : Option Place) → ServerIs t r o → Turns L (addNeedAt L t i r o) (alter a (altered (addNeed r)) cs)
     more-need none s =
         turns-calls L t cs a fo st i ui ai (t .calls) (t .needs) (t .unmet) (callRow i r ∷ []) (fo .calls) (fo .need-call) (fo .unmet) (lost-one s)
-        (turned-same ui (λ n _. row-same t t (λ j k. refl) (t .calls) (t .unmet) n))
+        (turned-same ui (λ n _. row-kept t t n (t .calls) (t .unmet) (λ j k _. refl)))
         (turned-one r (row-more t t (λ j k. refl) (t .needs) [] i r) new)
     more-need (some p) s =
         needs-turn (put3 i (p .callee) (p .service) true (t .needs)) (λ x y z h. still-called p s x y z (put3-cases i (p .callee) (p .service) (t .needs) x y z h))

@@ -7,7 +7,7 @@ use mathlib.Core.List.{List, []}
 use mathlib.Core.List.{List·Memᴰ as In, Memᴰ·append-left as in-left, Memᴰ·append-right as in-right, List·Memᴰ·append-cases as in-append, Memᴰ·cast as in-cast}
 use lib.Dec.{T, eqb, eqb→eq}
 use Rattle.policy.specs.Lists.{keep}
-use Rattle.policy.specs.Contract.{Aid, eqAid, Tok, Row, Contract, validAid}
+use Rattle.policy.specs.Contract.{Aid, eqAid, Row, Contract, validAid}
 use Rattle.policy.specs.Layout.{Layout}
 use Rattle.policy.specs.Record.{remove}
 use Rattle.policy.specs.Tables.{Tables, Unmet, Waiting, noTok}
@@ -15,10 +15,10 @@ use Rattle.policy.specs.Lookup.{numbers, places}
 use Rattle.policy.specs.Draft.{removeAt}
 use Rattle.policy.proofs.Sets.{pairs, cond-either, cond-off, and-l, and-r, and-i, or-l, or-r, not-i, not-e, test, keep-in, in-keep, once-keep, once-map-keep, once-append, each-append, in-upto, once-upto, pairs-in, in-pairs, once-pairs}
 use Rattle.policy.proofs.Equal.{eqAid→, eqAid-of, eqb-of}
-use Rattle.policy.proofs.Formed.{Formed, Bits, WaitingRows, grantBit, ProvidesAt, at, GrantAt, bit, row, HasContract, Stands, Turns, KindTurns}
+use Rattle.policy.proofs.Formed.{Formed, Bits, WaitingRows, grantBit, GrantAt, bit, row, HasContract, Stands, Turns, KindTurns}
 use Rattle.policy.proofs.Put.{at-old}
 use Rattle.policy.proofs.Reach.{reach-2}
-use Rattle.policy.proofs.Facts.{place-in, need-bits}
+use Rattle.policy.proofs.Facts.{provides-kept, place-in, need-bits}
 use Rattle.policy.proofs.Dropped.{Without, BitsStay, RowsStay, Dropping, formed-dropped, lost-dropped, calls-dropped, needs-dropped}
 
 -- neither end of a bit is n
@@ -151,14 +151,7 @@ module _ (L : Layout) (t : Tables) (fm : Formed L t) (n : ℕ) (un : T (t .used 
   dropping = record
       { without = without; calls-stay = calls-stay; grants-stay = grants-stay; needs-stay = needs-stay; unmet-stay = unmet-stay; unmet-is = refl; waiting = waiting′ }
 
-  -- ---- what another package provides and grants
-  module _ (m : ℕ) (ne : m ≡ n → ⊥) (s : Tok) where
-    provides-stays : ProvidesAt t m s → ProvidesAt t′ m s
-    provides-stays (at k p e) = at k (prov-i m k p ne) (e ∙ sym (tok-same m k ne))
-
-    provides-old : ProvidesAt t′ m s → ProvidesAt t m s
-    provides-old (at k p e) = at k (prov-e m k p .0) (e ∙ tok-same m k ne)
-
+  -- ---- what another package grants
   module _ (m : ℕ) (ne : m ≡ n → ⊥) (r : Row) where
     grant-stays : GrantAt t m r → GrantAt t′ m r
     grant-stays (bit i k h e f) = go (test (eqb i n))
@@ -197,7 +190,7 @@ module _ (L : Layout) (t : Tables) (fm : Formed L t) (n : ℕ) (un : T (t .used 
       let ne : m ≡ n → ⊥ = used-e m u .0 in
       record {
         aid = h .aid ∙ sym (aid-same m ne);
-        provides = λ s. Iff·trans (h .provides s) (provides-stays m ne s, provides-old m ne s);
+        provides = λ s. Iff·trans (h .provides s) (provides-kept t t′ m (λ k p. prov-i m k p ne) (λ k p. prov-e m k p .0) (λ k. sym (tok-same m k ne)) s);
         calls = λ r. Iff·trans (h .calls r) (calls-dropped L t t′ n (λ z. true) stayU fm dropping m u r);
         grants = λ r. Iff·trans (h .grants r) (grant-stays m ne r, grant-old m ne r);
         needs = λ r. Iff·trans (h .needs r) (needs-dropped L t t′ n (λ z. true) stayU fm dropping m u r);

@@ -9,7 +9,7 @@ use mathlib.Core.List.{Memᴰ·append-left as in-left, Memᴰ·append-right as i
 use mathlib.Core.Option.{none, some}
 use lib.Dec.{T}
 use Rattle.policy.specs.Lists.{keep}
-use Rattle.policy.specs.Contract.{Aid, Tok, Row, eqRow, Contract}
+use Rattle.policy.specs.Contract.{Aid, Row, eqRow, Contract}
 use Rattle.policy.specs.Layout.{Layout}
 use Rattle.policy.specs.Machine.{alter, withoutRow}
 use Rattle.policy.specs.Tables.{Tables, Unmet, Waiting}
@@ -18,10 +18,10 @@ use Rattle.policy.specs.Sound.{eqUnmet}
 use Rattle.policy.specs.Draft.{kept, callRow, put3, withCalls, withGrants, withNeeds}
 use Rattle.policy.proofs.Sets.{each-one, not-i, not-e, differs, keep-in, in-keep}
 use Rattle.policy.proofs.Equal.{row-path, eqRow→, eqRow-refl, eqUnmet→, eqUnmet-refl}
-use Rattle.policy.proofs.Formed.{Bits, Off, UnmetRows, WaitingRows, Formed, ProvidesAt, at, RowAt, GrantAt, bit, row, Stands, Turns}
+use Rattle.policy.proofs.Formed.{Bits, Off, UnmetRows, WaitingRows, Formed, RowAt, GrantAt, bit, row, Stands, Turns}
 use Rattle.policy.proofs.Found.{ServerIs, same-place}
 use Rattle.policy.proofs.Alter.{More, Less, Turned, turned-same, turned-less, stands-turned}
-use Rattle.policy.proofs.Facts.{no-rows}
+use Rattle.policy.proofs.Facts.{no-rows, provides-kept, row-kept}
 use Rattle.policy.proofs.Put.{At, put3-new, put3-keep, put3-cases, put3-less}
 
 -- a list of rows without r
@@ -30,17 +30,6 @@ turned-without r = turned-less (λ x. x ≡ r) (λ x. not (eqRow r x)) (differs 
 
 -- ---- rows of tables, as bits b and a list l; t′ has the services of t
 module _ (t t′ : Tables) (same : (j k : ℕ) → serviceAt t j k ≡ serviceAt t′ j k) (b : ℕ → ℕ → ℕ → Bool) (l : List Unmet) where
-  pub row-same : (n : ℕ) (x : Row) → RowAt t b l n x ↔ RowAt t′ b l n x
-  row-same n x = (to, back)
-    where
-      back : RowAt t′ b l n x → RowAt t b l n x
-      back (bit j k h e) = bit j k h (e ∙ sym (same j k))
-      back (row m) = row m
-
-      to : RowAt t b l n x → RowAt t′ b l n x
-      to (bit j k h e) = bit j k h (e ∙ same j k)
-      to (row m) = row m
-
   module _ (i : ℕ) (r : Row) where
     -- ---- in the list
     pub row-more : More i (λ x. x ≡ r) (RowAt t b l) (RowAt t′ b (l ++ (callRow i r ∷ [])))
@@ -118,16 +107,6 @@ module _ (t t′ : Tables) (same : (j k : ℕ) → serviceAt t j k ≡ serviceAt
           back (row m) ne = row m
 
 -- ---- other calls and needs, or other grants: package i's contract turns, and all else is as it was
-module _ (t t′ : Tables) (prov : (j k : ℕ) → t .provides j k ≡ t′ .provides j k) (tok : (j k : ℕ) → t .tok j k ≡ t′ .tok j k) where
-  provides-same : (n : ℕ) (s : Tok) → ProvidesAt t n s ↔ ProvidesAt t′ n s
-  provides-same n s = (to, back)
-    where
-      to : ProvidesAt t n s → ProvidesAt t′ n s
-      to (at z p e) = at z (subst T (prov n z) p) (e ∙ tok n z)
-
-      back : ProvidesAt t′ n s → ProvidesAt t n s
-      back (at z p e) = at z (subst T (sym (prov n z)) p) (e ∙ sym (tok n z))
-
 module _ (t : Tables) (c d : ℕ → ℕ → ℕ → Bool) (u : List Unmet) where
   abbrev pub recalled : Tables
   recalled = withNeeds d (withCalls c u t)
@@ -157,7 +136,7 @@ module _ (L : Layout) (t : Tables) (cs : List Contract) (a : Aid) (fo : Formed L
       formed = record { names = fo .names; calls = bits; grants = fo .grants; need-call = called; unmet = rows; waiting = fo .waiting };
       lost-off = off;
       stands = stands-turned L t t′ lost cs a i (fo .names) st ui ai refl refl
-          (turned-same ui (λ n _. provides-same t t′ (λ j k. refl) (λ j k. refl) n)) tc (turned-same ui (λ n _. grants-same t c d u n)) td;
+          (turned-same ui (λ n _. provides-kept t t′ n (λ k p. p) (λ k p. p) (λ k. refl))) tc (turned-same ui (λ n _. grants-same t c d u n)) td;
     }
 
   module _ (g : ℕ → ℕ → ℕ → Bool) (w : List Waiting) where
@@ -170,9 +149,9 @@ module _ (L : Layout) (t : Tables) (cs : List Contract) (a : Aid) (fo : Formed L
       formed = record { names = fo .names; calls = fo .calls; grants = bits; need-call = fo .need-call; unmet = fo .unmet; waiting = rows };
       lost-off = no-rows t;
       stands = stands-turned L t regranted [] cs a i (fo .names) st ui ai refl refl
-          (turned-same ui (λ n _. provides-same t regranted (λ j k. refl) (λ j k. refl) n))
-          (turned-same ui (λ n _. row-same t regranted (λ j k. refl) (t .calls) (t .unmet) n)) tg
-          (turned-same ui (λ n _. row-same t regranted (λ j k. refl) (t .needs) [] n));
+          (turned-same ui (λ n _. provides-kept t regranted n (λ k p. p) (λ k p. p) (λ k. refl)))
+          (turned-same ui (λ n _. row-kept t regranted n (t .calls) (t .unmet) (λ j k _. refl))) tg
+          (turned-same ui (λ n _. row-kept t regranted n (t .needs) [] (λ j k _. refl)));
     }
 
 -- ---- where a row's service is found, and where it is not
