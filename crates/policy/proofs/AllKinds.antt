@@ -8,7 +8,7 @@ use Rattle.policy.proofs.KindRemoveService.{kind-4}
 use Rattle.policy.proofs.KindCall.{kind-5, kind-6}
 use Rattle.policy.proofs.KindGrant.{kind-7, kind-8}
 use Rattle.policy.proofs.KindNeed.{kind-9, kind-10}
-use Rattle.policy.proofs.ShortLoad.{short-1, short-3}
+use Rattle.policy.proofs.ShortLoad.{short-3, short-1}
 use Rattle.policy.proofs.ShortRemove.{short-2, short-4}
 use Rattle.policy.proofs.ShortRows.{short-5, short-6, short-7, short-8, short-9, short-10}
 

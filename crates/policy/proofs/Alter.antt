@@ -13,7 +13,7 @@ use Rattle.policy.specs.Layout.{Layout}
 use Rattle.policy.specs.Machine.{alter}
 use Rattle.policy.specs.Tables.{Tables, Unmet}
 use Rattle.policy.specs.History.{FourSets}
-use Rattle.policy.proofs.Sets.{true-T, false-T, in-map, map-in, keep-in, in-keep, once-keep, once-append, each-one}
+use Rattle.policy.proofs.Sets.{true-T, false-T, keep-in, in-keep, once-keep, in-map, map-in, once-append, each-one}
 use Rattle.policy.proofs.Equal.{eqAid→, eqAid-of}
 use Rattle.policy.proofs.Formed.{Names, ProvidesAt, RowAt, GrantAt, HasContract, Stands}
 

@@ -9,7 +9,7 @@ use mathlib.Core.List.{List·Memᴰ as In, List·Memᴰ·head as here, List·Mem
 use lib.Dec.{T, ltb, ltb→lt}
 use Rattle.policy.specs.Causes.{Cause, _when_, answer}
 use Rattle.policy.specs.Claims.{IsFirst}
-use Rattle.policy.proofs.Sets.{and-l, and-r, and-i, true-T, false-T}
+use Rattle.policy.proofs.Sets.{true-T, false-T, and-l, and-r, and-i}
 
 -- answered 0: the first cause does not apply, and the others are answered 0
 pub answer-zero : (n : ℕ) (b : Bool) (l : List Cause) → answer (suc n when b ∷ l) ≡ 0 → (b ≡ false) × (answer l ≡ 0)

@@ -138,7 +138,8 @@ module _ (L : Layout) where
         go : (i < L .packages) ⊎ (L .packages ≤ i) → bitOf L (L .services) (getD (getD lines i []) j []) k ≡ b i j k
         go (inl p) =
             let line : getD lines i [] ≡ pieces (L .width) (L .packages) (writeLine (b i)) =
-            read-at (L .packages * L .width) (L .packages) bs (pieces (L .width) (L .packages)) [] i p ∙ ap (pieces (L .width) (L .packages)) (piece-at (λ i. writeLine (b i)) (L .packages * L .width) (L .packages) (λ i p. length-line (b i)) bs rest e i p) in
+            read-at (L .packages * L .width) (L .packages) bs (pieces (L .width) (L .packages)) [] i p
+            ∙ ap (pieces (L .width) (L .packages)) (piece-at (λ i. writeLine (b i)) (L .packages * L .width) (L .packages) (λ i p. length-line (b i)) bs rest e i p) in
             ap (λ (z : List (List ℕ)). bitOf L (L .services) (getD z j []) k) line
             ∙ read-line (b i) (λ j k t. let h = lt i j k t in (h .1, h .2)) (writeLine (b i)) [] (sym (append-nil (writeLine (b i)))) j k
         go (inr p) =

@@ -14,11 +14,11 @@ use Rattle.policy.specs.Tables.{Tables, Unmet, Waiting}
 use Rattle.policy.specs.Lookup.{numbers, places, usedNumbers, serviceAt, wanted, grantAt, contractAt}
 use Rattle.policy.specs.Draft.{callRow}
 use Rattle.policy.specs.History.{SameContract, FourSets}
-use Rattle.policy.proofs.Sets.{in-keep, keep-in, once-keep, in-map, map-in, once-map, once-append, in-upto, once-upto, pairs, pairs-in, in-pairs, once-pairs}
+use Rattle.policy.proofs.Sets.{keep-in, in-keep, once-keep, in-map, map-in, once-map, once-append, pairs, pairs-in, in-pairs, once-pairs, in-upto, once-upto}
+use Rattle.policy.proofs.Equal.{row-path}
+use Rattle.policy.proofs.Formed.{Names, Bits, Formed, ProvidesAt, RowAt, GrantAt, HasContract, Stands}
 use Rattle.policy.proofs.Found.{same-place}
 use Rattle.policy.proofs.Facts.{place-in, bit-in, need-bits}
-use Rattle.policy.proofs.Formed.{Names, Bits, Formed, ProvidesAt, RowAt, GrantAt, HasContract, Stands}
-use Rattle.policy.proofs.Equal.{row-path}
 
 module _ (L : Layout) (t : Tables) where
   -- ---- the bits of a package's row, read as rows of its contract

@@ -12,9 +12,9 @@ use Rattle.policy.specs.Layout.{Layout}
 use Rattle.policy.specs.Tables.{Tables, Unmet, noTok}
 use Rattle.policy.specs.Lookup.{serviceAt, wanted, places, numbers}
 use Rattle.policy.specs.Draft.{callRow, leftBy}
-use Rattle.policy.proofs.Sets.{and-l, and-r, and-i, test, pairs-in, in-pairs, once-pairs, once-append, each-append, once-upto, in-upto}
-use Rattle.policy.proofs.Equal.{row-path, eqb-of}
-use Rattle.policy.proofs.Formed.{Formed, Lawful, Names, Bits, Off, UnmetRows, WaitingRows, grantBit, RowAt, bit, row}
+use Rattle.policy.proofs.Sets.{and-l, and-r, and-i, test, once-append, each-append, pairs-in, in-pairs, once-pairs, in-upto, once-upto}
+use Rattle.policy.proofs.Equal.{eqb-of, row-path}
+use Rattle.policy.proofs.Formed.{Names, Bits, Off, UnmetRows, WaitingRows, grantBit, Formed, Lawful, RowAt, bit, row}
 use Rattle.policy.proofs.Found.{same-place}
 use Rattle.policy.proofs.Facts.{no-rows, bit-in, need-bits}
 

@@ -21,10 +21,10 @@ use Rattle.policy.specs.Sound.{sound}
 use Rattle.policy.specs.Draft.{look, draft, numberFor}
 use Rattle.policy.specs.Judge.{Out, refusal, tableCauses, judgeCauses, judged, judgeTables, judge, check, writeEmpty, loadRecord, readOut}
 use Rattle.policy.specs.Claims.{IsFirst, RefusesWith, AnswersAlways}
-use Rattle.policy.proofs.Sets.{not-false, every-in, in-from, length-keep, length-from}
-use Rattle.policy.proofs.Formed.{Names}
-use Rattle.policy.proofs.Found.{NumberIs, FreeIs, number-is, free-number-is}
+use Rattle.policy.proofs.Sets.{not-false, every-in, length-keep, length-from, in-from}
 use Rattle.policy.proofs.Answers.{answer-zero, ascends, answer-append-zero, first-is}
+use Rattle.policy.proofs.Formed.{Names}
+use Rattle.policy.proofs.Found.{NumberIs, FreeIs, free-number-is, number-is}
 use Rattle.policy.proofs.SoundFacts.{sound-formed}
 use Rattle.policy.proofs.Step.{judge-causes, judge-ascends}
 

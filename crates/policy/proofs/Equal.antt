@@ -10,7 +10,7 @@ use Rattle.policy.specs.Contract.{Aid, eqAid, Tok, eqTok, Row, eqRow, ha
 use Rattle.policy.specs.Tables.{Unmet, Waiting}
 use Rattle.policy.specs.Sound.{eqUnmet, eqWaiting}
 use Rattle.policy.specs.Draft.{hasUnmet, hasWaiting}
-use Rattle.policy.proofs.Sets.{and-l, and-r, and-i, eqBytes→, eqBytes-refl, has-in, in-has}
+use Rattle.policy.proofs.Sets.{and-l, and-r, and-i, has-in, in-has, eqBytes→, eqBytes-refl}
 
 pub eqAid→ : (a b : Aid) → T (eqAid a b) → a ≡ b
 eqAid→ a b t = eqBytes→ a b t

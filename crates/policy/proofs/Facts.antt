@@ -12,8 +12,8 @@ use Rattle.policy.specs.Tables.{Tables, Unmet}
 use Rattle.policy.specs.Lookup.{serviceAt}
 use Rattle.policy.proofs.Sets.{and-l, and-r, and-i, exists-in, in-exists}
 use Rattle.policy.proofs.Equal.{eqAid→, eqAid-of}
-use Rattle.policy.proofs.Formed.{Names, Bits, Off, grantBit, Formed, Lawful, ProvidesAt, at, RowAt, GrantAt, bit, row, HasContract, Stands}
 use Rattle.policy.proofs.EveryBit.{BitIn, among, among-to, among-back}
+use Rattle.policy.proofs.Formed.{Names, Bits, Off, grantBit, Formed, Lawful, ProvidesAt, at, RowAt, bit, row, GrantAt, HasContract, Stands}
 
 pub no-rows : (t : Tables) → Off (t .used) (t .aid) (t .tok) (t .provides) []
 no-rows t = record { off-used = λ u m. absurd (in-nil m); off-card = λ u m. absurd (in-nil m) }

@@ -16,9 +16,9 @@ use Rattle.policy.specs.Machine.{effect}
 use Rattle.policy.specs.Tables.{Tables, Unmet, Waiting, noTok}
 use Rattle.policy.specs.Lookup.{serviceAt}
 use Rattle.policy.specs.Draft.{Draft, callRow, draft, look}
-use Rattle.policy.specs.ShortCheck.{shortLook}
 use Rattle.policy.specs.Judge.{tableCauses}
 use Rattle.policy.specs.History.{FourSets}
+use Rattle.policy.specs.ShortCheck.{shortLook}
 
 -- ---- facts about tables, by their parts, so that an unchanged part is passed on as it is
 -- Formed holds of every draft's tables; Lawful and Fitting besides of a sound image's

@@ -9,7 +9,7 @@ use Rattle.policy.specs.Contract.{Aid, eqAid, Tok, eqTok, Row}
 use Rattle.policy.specs.Layout.{Layout}
 use Rattle.policy.specs.Tables.{Tables}
 use Rattle.policy.specs.Lookup.{Place, numbers, places, numberOf, serviceOf, serverOf, freeNumber, freeService}
-use Rattle.policy.proofs.Sets.{and-l, and-r, and-i, not-not, not-e, Found, found, upto-in, in-upto}
+use Rattle.policy.proofs.Sets.{and-l, and-r, and-i, not-e, not-not, Found, found, upto-in, in-upto}
 use Rattle.policy.proofs.Equal.{eqAid→, eqAid-of, eqTok→, eqTok-of}
 use Rattle.policy.proofs.Formed.{Names}
 

@@ -16,15 +16,15 @@ use Rattle.policy.specs.Machine.{altered, alter}
 use Rattle.policy.specs.Tables.{Tables, Unmet, Waiting}
 use Rattle.policy.specs.Lookup.{serviceAt, numberOf}
 use Rattle.policy.specs.Draft.{callRow, hasUnmet, asksFor, addServiceAt}
-use Rattle.policy.proofs.Sets.{each-map-keep, none-to, test, and-l, and-r, and-i, not-i, not-e}
-use Rattle.policy.proofs.Sets.{every-in, keep-in, in-keep, once-keep, in-map, map-in, once-map, once-append, each-append, distinct→once}
-use Rattle.policy.proofs.Equal.{row-path, eqAid→, eqAid-refl, eqAid-of, eqTok→, eqTok-of, has-aid, aid-has, has-unmet, unmet-has}
-use Rattle.policy.proofs.Formed.{Names, Bits, Formed, ProvidesAt, at, grantBit, RowAt, bit, row, GrantAt, Stands, Turns, KindTurns}
-use Rattle.policy.proofs.Found.{NumberIs, number-is}
-use Rattle.policy.proofs.Alter.{More, turned-same, turned-one, turned-more, stands-turned}
+use Rattle.policy.proofs.Sets.{and-l, and-r, and-i, test, not-i, not-e, none-to, every-in, keep-in, in-keep, once-keep, in-map, map-in, once-map, each-map-keep, once-append, each-append}
+use Rattle.policy.proofs.Sets.{distinct→once}
+use Rattle.policy.proofs.Equal.{eqAid→, eqAid-refl, eqAid-of, eqTok→, eqTok-of, row-path, has-aid, aid-has, has-unmet, unmet-has}
 use Rattle.policy.proofs.Put.{NewPlace, new-place, orNew, OldOrNew, old-or-new}
+use Rattle.policy.proofs.Formed.{Names, Bits, grantBit, Formed, ProvidesAt, at, RowAt, bit, row, GrantAt, Stands, Turns, KindTurns}
+use Rattle.policy.proofs.Found.{NumberIs, number-is}
+use Rattle.policy.proofs.Facts.{no-rows, row-kept, need-bits, granted-provided}
 use Rattle.policy.proofs.Reach.{reach-3}
-use Rattle.policy.proofs.Facts.{row-kept, need-bits, no-rows, granted-provided}
+use Rattle.policy.proofs.Alter.{More, turned-same, turned-more, turned-one, stands-turned}
 
 module _ (L : Layout) (t : Tables) (f : Formed L t) (j k : ℕ) (uj : T (t .used j)) (k< : k < L .services) (free : T (t .provides j k) → ⊥)
     (s : Tok) (fresh : ProvidesAt t j s → ⊥) (l : List Aid) (valid : (b : Aid) → In b l → T (validAid b)) (others : (b : Aid) → In b l → b ≡ t .aid j → ⊥) (once : NoRepeat l) where

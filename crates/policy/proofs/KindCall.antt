@@ -15,15 +15,15 @@ use Rattle.policy.specs.Tables.{Tables, Unmet}
 use Rattle.policy.specs.Lookup.{Place}
 use Rattle.policy.specs.Sound.{eqUnmet}
 use Rattle.policy.specs.Draft.{callRow, put3, addCallAt, removeCallAt}
-use Rattle.policy.proofs.Sets.{not-e, each-snoc, keep-in, once-snoc, once-keep}
+use Rattle.policy.proofs.Sets.{not-e, once-snoc, keep-in, once-keep, each-snoc}
 use Rattle.policy.proofs.Equal.{eqAid-of}
+use Rattle.policy.proofs.Put.{put3-keep, put3-cases, put3-less}
 use Rattle.policy.proofs.Formed.{UnmetRows, Formed, RowAt, row, Stands, Turns, KindTurns}
 use Rattle.policy.proofs.Found.{ServerIs}
-use Rattle.policy.proofs.Put.{put3-cases, put3-keep, put3-less}
+use Rattle.policy.proofs.Facts.{no-rows, row-kept, bits-sub, bits-more, need-bits}
 use Rattle.policy.proofs.Reach.{reach-5, reach-6}
-use Rattle.policy.proofs.Facts.{row-kept, no-rows, bits-sub, bits-more, need-bits}
 use Rattle.policy.proofs.Alter.{turned-same, turned-one}
-use Rattle.policy.proofs.Rows.{row-more, row-less, bit-more, bit-less, turned-without, recalled, turns-calls, is-service, no-bit, one-bit, no-row}
+use Rattle.policy.proofs.Rows.{turned-without, row-more, row-less, bit-more, bit-less, recalled, turns-calls, is-service, no-bit, one-bit, no-row}
 
 module _ (L : Layout) (t : Tables) (cs : List Contract) (a : Aid) (fo : Formed L t) (st : Stands t [] cs) (r : Row)
     (i : ℕ) (ui : T (t .used i)) (ai : t .aid i ≡ a) where

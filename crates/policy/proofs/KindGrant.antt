@@ -16,15 +16,15 @@ use Rattle.policy.specs.Machine.{altered, alter}
 use Rattle.policy.specs.Tables.{Tables, Waiting}
 use Rattle.policy.specs.Sound.{eqWaiting}
 use Rattle.policy.specs.Draft.{put3, addGrantAt, removeGrantAt}
-use Rattle.policy.proofs.Sets.{not-i, not-e, keep-in, in-keep, once-keep, once-snoc, each-one, each-snoc}
-use Rattle.policy.proofs.Equal.{row-path, eqAid-of, eqWaiting→, eqWaiting-refl}
+use Rattle.policy.proofs.Sets.{not-i, not-e, once-snoc, keep-in, in-keep, once-keep, each-one, each-snoc}
+use Rattle.policy.proofs.Equal.{eqAid-of, row-path, eqWaiting→, eqWaiting-refl}
+use Rattle.policy.proofs.Put.{At, put3-new, put3-keep, put3-cases, put3-less}
 use Rattle.policy.proofs.Formed.{Formed, bit, row, GrantAt, Stands, Turns, KindTurns}
 use Rattle.policy.proofs.Found.{NumberIs}
 use Rattle.policy.proofs.Facts.{bits-sub, bits-more}
+use Rattle.policy.proofs.Reach.{reach-7, reach-8}
 use Rattle.policy.proofs.Alter.{More, Less, turned-one}
 use Rattle.policy.proofs.Rows.{turned-without, turns-grants}
-use Rattle.policy.proofs.Put.{At, put3-new, put3-keep, put3-cases, put3-less}
-use Rattle.policy.proofs.Reach.{reach-7, reach-8}
 
 -- ---- the grant r of service k of package j
 module _ (L : Layout) (t : Tables) (f : Formed L t) (r : Row) (j k : ℕ) (pk : T (t .provides j k)) (ek : t .tok j k ≡ r .tok) where

@@ -16,11 +16,11 @@ use Rattle.policy.specs.Tables.{Tables, Unmet, Waiting}
 use Rattle.policy.specs.Lookup.{Place, serviceAt, numberOf, serverOf}
 use Rattle.policy.specs.Draft.{callRow, loadedNames, notServed, loadedService, loadAt}
 use Rattle.policy.specs.History.{FourSets}
-use Rattle.policy.proofs.Sets.{and-l, and-r, test, not-i, in-map, map-in, keep-in, in-keep}
-use Rattle.policy.proofs.Equal.{row-path, eqAid→, has-tok}
-use Rattle.policy.proofs.Formed.{ProvidesAt, at, RowAt, GrantAt, HasContract, Stands, Turns, KindTurns}
-use Rattle.policy.proofs.Found.{NumberIs, number-is, ServerIs, server-is}
+use Rattle.policy.proofs.Sets.{and-l, and-r, test, not-i, keep-in, in-keep, in-map, map-in}
+use Rattle.policy.proofs.Equal.{eqAid→, row-path, has-tok}
 use Rattle.policy.proofs.Put.{by-number}
+use Rattle.policy.proofs.Formed.{ProvidesAt, at, RowAt, GrantAt, HasContract, Stands, Turns, KindTurns}
+use Rattle.policy.proofs.Found.{NumberIs, ServerIs, number-is, server-is}
 use Rattle.policy.proofs.Facts.{provides-kept}
 use Rattle.policy.proofs.LoadNames.{Newcomer, Loaded, loaded, service-old, tok-in, in-tok, load-reached}
 use Rattle.policy.proofs.LoadBits.{Named, CallIs, GrantIs, call-is, grant-is, need-new, need-old}

@@ -15,13 +15,13 @@ use Rattle.policy.specs.Tables.{Tables}
 use Rattle.policy.specs.Lookup.{Place}
 use Rattle.policy.specs.Draft.{callRow, put3, withNeeds, addNeedAt, removeNeedAt, kept}
 use Rattle.policy.proofs.Sets.{each-one}
+use Rattle.policy.proofs.Put.{At, put3-cases, put3-less}
 use Rattle.policy.proofs.Formed.{Off, Formed, RowAt, bit, row, Stands, Turns, KindTurns}
 use Rattle.policy.proofs.Found.{ServerIs}
-use Rattle.policy.proofs.Put.{At, put3-cases, put3-less}
+use Rattle.policy.proofs.Facts.{no-rows, row-kept, need-bits}
 use Rattle.policy.proofs.Reach.{reach-9, reach-10}
-use Rattle.policy.proofs.Facts.{row-kept, no-rows, need-bits}
 use Rattle.policy.proofs.Alter.{Turned, turned-same, turned-one}
-use Rattle.policy.proofs.Rows.{row-more, row-less, bit-more, bit-less, turned-without, turns-calls, is-service, no-bit, one-bit, no-row}
+use Rattle.policy.proofs.Rows.{turned-without, row-more, row-less, bit-more, bit-less, turns-calls, is-service, no-bit, one-bit, no-row}
 
 module _ (L : Layout) (t : Tables) (cs : List Contract) (a : Aid) (fo : Formed L t) (st : Stands t [] cs) (r : Row)
     (i : ℕ) (ui : T (t .used i)) (ai : t .aid i ≡ a) where

@@ -13,12 +13,13 @@ use Rattle.policy.specs.Record.{remove}
 use Rattle.policy.specs.Tables.{Tables, Unmet, Waiting, noTok}
 use Rattle.policy.specs.Lookup.{numbers, places}
 use Rattle.policy.specs.Draft.{removeAt}
-use Rattle.policy.proofs.Sets.{pairs, cond-either, cond-off, and-l, and-r, and-i, or-l, or-r, not-i, not-e, test, keep-in, in-keep, once-keep, once-map-keep, once-append, each-append, in-upto, once-upto, pairs-in, in-pairs, once-pairs}
+use Rattle.policy.proofs.Sets.{and-l, and-r, and-i, or-l, or-r, test, not-i, not-e, cond-either, cond-off, keep-in, in-keep, once-keep, once-map-keep, once-append, each-append, pairs, pairs-in}
+use Rattle.policy.proofs.Sets.{in-pairs, once-pairs, in-upto, once-upto}
 use Rattle.policy.proofs.Equal.{eqAid→, eqAid-of, eqb-of}
-use Rattle.policy.proofs.Formed.{Formed, Bits, WaitingRows, grantBit, GrantAt, bit, row, HasContract, Stands, Turns, KindTurns}
 use Rattle.policy.proofs.Put.{at-old}
-use Rattle.policy.proofs.Reach.{reach-2}
+use Rattle.policy.proofs.Formed.{Bits, WaitingRows, grantBit, Formed, bit, row, GrantAt, HasContract, Stands, Turns, KindTurns}
 use Rattle.policy.proofs.Facts.{provides-kept, place-in, need-bits}
+use Rattle.policy.proofs.Reach.{reach-2}
 use Rattle.policy.proofs.Dropped.{Without, BitsStay, RowsStay, Dropping, formed-dropped, lost-dropped, calls-dropped, needs-dropped}
 
 -- neither end of a bit is n

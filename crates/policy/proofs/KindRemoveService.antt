@@ -11,13 +11,13 @@ use Rattle.policy.specs.Record.{removeService}
 use Rattle.policy.specs.Machine.{alter, altered}
 use Rattle.policy.specs.Tables.{Tables, Waiting, noTok}
 use Rattle.policy.specs.Draft.{removeServiceAt}
-use Rattle.policy.proofs.Sets.{cond-false, cond-either, cond-off, and-l, and-r, and-i, not-i, not-e, differs, keep-in, in-keep, once-keep}
-use Rattle.policy.proofs.Equal.{eqTok→, eqTok-refl, eqb-of}
-use Rattle.policy.proofs.Formed.{Formed, Bits, grantBit, ProvidesAt, at, GrantAt, bit, row, Stands, Turns, KindTurns}
-use Rattle.policy.proofs.Alter.{turned-same, turned-less, stands-turned}
-use Rattle.policy.proofs.Reach.{reach-4}
+use Rattle.policy.proofs.Sets.{and-l, and-r, and-i, not-i, not-e, cond-false, cond-either, cond-off, keep-in, in-keep, once-keep, differs}
+use Rattle.policy.proofs.Equal.{eqb-of, eqTok→, eqTok-refl}
+use Rattle.policy.proofs.Formed.{Bits, grantBit, Formed, ProvidesAt, at, bit, row, GrantAt, Stands, Turns, KindTurns}
 use Rattle.policy.proofs.Facts.{need-bits}
+use Rattle.policy.proofs.Reach.{reach-4}
 use Rattle.policy.proofs.Dropped.{Without, BitsStay, Dropping, formed-dropped, lost-dropped, calls-dropped, needs-dropped}
+use Rattle.policy.proofs.Alter.{turned-same, turned-less, stands-turned}
 
 module _ (L : Layout) (t : Tables) (fm : Formed L t) (j k : ℕ) (pk : T (t .provides j k)) where
   abbrev t′ : Tables

@@ -12,12 +12,12 @@ use Rattle.policy.specs.Layout.{Layout}
 use Rattle.policy.specs.Tables.{Tables, Unmet, Waiting}
 use Rattle.policy.specs.Lookup.{numberOf, serviceOf, serverOf, serviceAt}
 use Rattle.policy.specs.Draft.{callRow, loadedNames, notServed, loadedService, loadAt}
-use Rattle.policy.proofs.Sets.{each-map-keep, none-to, and-i, not-e, keep-in, once-keep, once-map, once-append, each-append}
+use Rattle.policy.proofs.Sets.{and-i, not-e, none-to, keep-in, once-keep, once-map, each-map-keep, once-append, each-append}
 use Rattle.policy.proofs.Equal.{eqAid-of, tok-has}
-use Rattle.policy.proofs.Formed.{Names, Bits, Off, UnmetRows, WaitingRows, Formed, grantBit, ValidRows}
-use Rattle.policy.proofs.Found.{NumberIs, number-is, ServiceIs, service-is, ServerIs, server-is}
 use Rattle.policy.proofs.Put.{by-number}
-use Rattle.policy.proofs.LoadNames.{Newcomer, Loaded, loaded, names-loaded, tok-in, in-tok}
+use Rattle.policy.proofs.Formed.{Names, Bits, Off, UnmetRows, WaitingRows, grantBit, Formed, ValidRows}
+use Rattle.policy.proofs.Found.{NumberIs, ServiceIs, ServerIs, number-is, service-is, server-is}
+use Rattle.policy.proofs.LoadNames.{Newcomer, Loaded, loaded, tok-in, in-tok, names-loaded}
 use Rattle.policy.proofs.LoadBits.{CallIs, GrantIs, call-is, grant-is, need-new, need-old}
 
 module _ (L : Layout) (t : Tables) (m : ℕ) (k : Contract) where

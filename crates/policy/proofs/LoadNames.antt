@@ -17,14 +17,14 @@ use Rattle.policy.specs.Causes.{answer}
 use Rattle.policy.specs.Tables.{Tables, noTok}
 use Rattle.policy.specs.Lookup.{serviceAt}
 use Rattle.policy.specs.Draft.{Draft, Look, loadedNames, loadAt, draft}
-use Rattle.policy.specs.ShortCheck.{shortLoad, shortLook}
 use Rattle.policy.specs.Judge.{tableCauses}
 use Rattle.policy.specs.History.{FourSets}
+use Rattle.policy.specs.ShortCheck.{shortLoad, shortLook}
 use Rattle.policy.proofs.Sets.{and-l, and-r, not-i, not-e, every-in, distinct→once}
-use Rattle.policy.proofs.Equal.{row-path, eqAid-of, eqTok→, eqTok-refl, eqRow→, eqRow-refl, has-tok, has-row}
+use Rattle.policy.proofs.Equal.{eqAid-of, eqTok→, eqTok-refl, row-path, eqRow→, eqRow-refl, has-tok, has-row}
+use Rattle.policy.proofs.Put.{at-new, at-old, by-number}
 use Rattle.policy.proofs.Formed.{Names, Formed}
 use Rattle.policy.proofs.Found.{NumberIs, FreeIs}
-use Rattle.policy.proofs.Put.{at-new, at-old, by-number}
 use Rattle.policy.proofs.Reach.{reach-1}
 
 -- ---- elements by their index

@@ -11,11 +11,11 @@ use lib.Seq.{length-take-le}
 use Rattle.policy.specs.Lists.{orElse}
 use Rattle.policy.specs.Contract.{Aid, Row, validAid}
 use Rattle.policy.specs.Layout.{Layout}
-use Rattle.policy.specs.Record.{Change, addCall, removeCall, addGrant, removeGrant, addNeed, removeNeed, Request, Got, got, bad, Reader, andThen, _>>=_, done, given}
-use Rattle.policy.specs.Record.{byte, bytes, number, aid, tokens, aRow, many, counted, aLoad, aService, kinds, change, fields, whole, parse, firstAid}
+use Rattle.policy.specs.Record.{Change, addCall, removeCall, addGrant, removeGrant, addNeed, removeNeed, Request, Got, got, bad, Reader, andThen, _>>=_, done, given, byte, bytes, number, aid}
+use Rattle.policy.specs.Record.{tokens, aRow, many, counted, aLoad, aService, kinds, change, fields, whole, parse, firstAid}
 use Rattle.policy.specs.Claims.{FirstAidPart}
 use Rattle.policy.proofs.Sets.{each-cons}
-use Rattle.policy.proofs.Formed.{Valid, ValidRows}
+use Rattle.policy.proofs.Formed.{ValidRows, Valid}
 
 -- ---- what was read satisfies P, if anything was
 module _ {A : Type 0} (P : A → Type 0) where

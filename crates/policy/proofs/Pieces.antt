@@ -14,7 +14,7 @@ use Rattle.policy.specs.Lists.{flat, from, upto}
 use Rattle.policy.specs.Contract.{Aid, validAid}
 use Rattle.policy.specs.Layout.{Layout}
 use Rattle.policy.specs.Tables.{Unmet, Waiting, pieces, readAid, writeAid, readTok, writeTok, readUnmet, writeUnmet, readWaiting, writeWaiting, readList, writeList}
-use Rattle.policy.proofs.Sets.{test, and-r, not-i, length-from, upto-in}
+use Rattle.policy.proofs.Sets.{and-r, test, not-i, length-from, upto-in}
 
 -- ---- one piece for each element of a list
 module _ {A : Type 0} (g : A → List ℕ) (w : ℕ) where

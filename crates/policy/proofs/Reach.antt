@@ -13,15 +13,15 @@ use Rattle.policy.specs.Causes.{Cause, _when_, answer}
 use Rattle.policy.specs.Tables.{Tables}
 use Rattle.policy.specs.Lookup.{Place, numberOf, serviceOf, serverOf, freeNumber, freeService, contractAt}
 use Rattle.policy.specs.Draft.{Draft, Look, kept, addCallAt, removeCallAt, addNeedAt, removeNeedAt, addGrantAt, removeGrantAt, addServiceAt, removeServiceAt, removeAt, loadAt, draft}
-use Rattle.policy.specs.ShortCheck.{fine, shortAddCall, shortAddNeed, shortAddGrant, shortRemoveGrant, shortAddService, shortRemoveService, shortRemove, shortLoad, shortLook}
 use Rattle.policy.specs.Judge.{absent, tableCauses}
+use Rattle.policy.specs.ShortCheck.{fine, shortAddCall, shortAddNeed, shortAddGrant, shortRemoveGrant, shortAddService, shortRemoveService, shortRemove, shortLoad, shortLook}
 use Rattle.policy.proofs.Sets.{false-T, or-l, or-r, not-i, not-not, none-to, some-to}
 use Rattle.policy.proofs.Equal.{has-tok, tok-has, has-row, row-has}
-use Rattle.policy.proofs.Formed.{Formed, ProvidesAt, at, RowAt, GrantAt}
-use Rattle.policy.proofs.Found.{NumberIs, ServiceIs, ServerIs, FreeIs, number-is, service-is, server-is, free-number-is, free-service-is}
-use Rattle.policy.proofs.Facts.{granted-provided}
 use Rattle.policy.proofs.Answers.{answer-zero}
-use Rattle.policy.proofs.ContractAt.{provides-at, calls-at, grants-at, needs-at}
+use Rattle.policy.proofs.Formed.{Formed, ProvidesAt, at, RowAt, GrantAt}
+use Rattle.policy.proofs.Found.{NumberIs, ServiceIs, ServerIs, FreeIs, free-number-is, free-service-is, number-is, service-is, server-is}
+use Rattle.policy.proofs.Facts.{granted-provided}
+use Rattle.policy.proofs.ContractAt.{provides-at, calls-at, needs-at, grants-at}
 
 -- cause 6 of kinds 7 and 9: the row that is asked for holds, and the new one does not yet
 asked-and-new : (x y : Bool) → (T (not x || y) → ⊥) → T x × (T y → ⊥)

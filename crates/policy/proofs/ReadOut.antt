@@ -17,11 +17,11 @@ use Rattle.policy.specs.Record.{notOwn, parse, proper}
 use Rattle.policy.specs.Tables.{Tables}
 use Rattle.policy.specs.Lookup.{numbers, places, serviceAt, wanted, grantAt, contractAt}
 use Rattle.policy.specs.Judge.{loadRecord}
-use Rattle.policy.proofs.Sets.{pairs, length-keep, length-from, length-flat-le, and-i, not-i, cond-false, in-every, once→distinct, in-upto}
-use Rattle.policy.proofs.Equal.{eqAid→, eqTok→, eqTok-refl, eqRow→, eqRow-refl, row-has, tok-has}
+use Rattle.policy.proofs.Sets.{and-i, not-i, cond-false, in-every, length-keep, length-flat-le, once→distinct, pairs, length-from, in-upto}
+use Rattle.policy.proofs.Equal.{eqAid→, eqTok→, eqTok-refl, eqRow→, eqRow-refl, tok-has, row-has}
 use Rattle.policy.proofs.Formed.{Formed, Fitting, RowAt, GrantAt}
 use Rattle.policy.proofs.Facts.{need-bits, granted-provided}
-use Rattle.policy.proofs.ContractAt.{provides-at, calls-at, grants-at, needs-at, four-sets-at}
+use Rattle.policy.proofs.ContractAt.{provides-at, calls-at, needs-at, grants-at, four-sets-at}
 use Rattle.policy.proofs.Written.{loadOf, requestOf, load-parses}
 
 -- ---- lengths

@@ -13,14 +13,14 @@ use lib.Seq.{take-at, drop-at, drop-drop}
 use Rattle.policy.specs.Lists.{flat, upto}
 use Rattle.policy.specs.Contract.{Aid, Tok}
 use Rattle.policy.specs.Layout.{Layout, LayoutOk, aidSize, unmetSize, waitingSize, usedAt, aidsAt, tokensAt, providesAt, callsAt, grantsAt, needsAt, unmetAt, waitingAt, size}
-use Rattle.policy.specs.Tables.{Tables, Unmet, Waiting, noTok, pieces, readAid, writeAid, readTok, writeTok, readUnmet, writeUnmet, readWaiting, writeWaiting}
-use Rattle.policy.specs.Tables.{writeList, bitOf, writeBits, writeTable, decode, encode, emptyImage}
+use Rattle.policy.specs.Tables.{Tables, Unmet, Waiting, noTok, pieces, readAid, writeAid, readTok, writeTok, readUnmet, writeUnmet, readWaiting, writeWaiting, writeList, bitOf, writeBits}
+use Rattle.policy.specs.Tables.{writeTable, decode, encode, emptyImage}
 use Rattle.policy.proofs.Sets.{test}
-use Rattle.policy.proofs.Bits.{length-bits, read-bits, writeLine, length-line, read-line, length-lines, read-lines, zeros-bits}
-use Rattle.policy.proofs.Pieces.{in-or-off, length-table, piece-at, piece-only, read-at, read-off, length-list, read-list}
-use Rattle.policy.proofs.Pieces.{valid-short, length-aid, read-aid, length-unmet, read-unmet, length-waiting, read-waiting, Zeros, zeros-append, zeros-flat, zeros-list}
-use Rattle.policy.proofs.Formed.{Formed, Fitting}
 use Rattle.policy.proofs.EveryBit.{BitIn}
+use Rattle.policy.proofs.Pieces.{in-or-off, length-table, piece-at, piece-only, read-at, read-off, length-list, read-list, valid-short, length-aid, read-aid, length-unmet, read-unmet}
+use Rattle.policy.proofs.Pieces.{length-waiting, read-waiting, Zeros, zeros-append, zeros-flat, zeros-list}
+use Rattle.policy.proofs.Bits.{length-bits, read-bits, zeros-bits, writeLine, length-line, length-lines, read-line, read-lines}
+use Rattle.policy.proofs.Formed.{Formed, Fitting}
 use Rattle.policy.proofs.Facts.{no-rows, place-in, bit-in, need-bits}
 
 -- the next part of an image, after one of b bytes

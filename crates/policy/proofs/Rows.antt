@@ -16,95 +16,94 @@ use Rattle.policy.specs.Tables.{Tables, Unmet, Waiting}
 use Rattle.policy.specs.Lookup.{Place, serviceAt}
 use Rattle.policy.specs.Sound.{eqUnmet}
 use Rattle.policy.specs.Draft.{kept, callRow, put3, withCalls, withGrants, withNeeds}
-use Rattle.policy.proofs.Sets.{each-one, not-i, not-e, differs, keep-in, in-keep}
+use Rattle.policy.proofs.Sets.{not-i, not-e, keep-in, in-keep, each-one, differs}
 use Rattle.policy.proofs.Equal.{row-path, eqRow→, eqRow-refl, eqUnmet→, eqUnmet-refl}
-use Rattle.policy.proofs.Formed.{Bits, Off, UnmetRows, WaitingRows, Formed, RowAt, GrantAt, bit, row, Stands, Turns}
-use Rattle.policy.proofs.Found.{ServerIs, same-place}
-use Rattle.policy.proofs.Alter.{More, Less, Turned, turned-same, turned-less, stands-turned}
-use Rattle.policy.proofs.Facts.{no-rows, provides-kept, row-kept}
 use Rattle.policy.proofs.Put.{At, put3-new, put3-keep, put3-cases, put3-less}
+use Rattle.policy.proofs.Formed.{Bits, Off, UnmetRows, WaitingRows, Formed, RowAt, bit, row, GrantAt, Stands, Turns}
+use Rattle.policy.proofs.Found.{ServerIs, same-place}
+use Rattle.policy.proofs.Facts.{no-rows, provides-kept, row-kept}
+use Rattle.policy.proofs.Alter.{Turned, More, Less, turned-same, turned-less, stands-turned}
 
 -- a list of rows without r
 pub turned-without : {used : ℕ → Bool} {i : ℕ} {P P′ : ℕ → Row → Type 0} (r : Row) → Less i (λ x. x ≡ r) P P′ → Turned used i (withoutRow r) P P′
 turned-without r = turned-less (λ x. x ≡ r) (λ x. not (eqRow r x)) (differs eqRow eqRow→ eqRow-refl r)
 
 -- ---- rows of tables, as bits b and a list l; t′ has the services of t
-module _ (t t′ : Tables) (same : (j k : ℕ) → serviceAt t j k ≡ serviceAt t′ j k) (b : ℕ → ℕ → ℕ → Bool) (l : List Unmet) where
-  module _ (i : ℕ) (r : Row) where
-    -- ---- in the list
-    pub row-more : More i (λ x. x ≡ r) (RowAt t b l) (RowAt t′ b (l ++ (callRow i r ∷ [])))
-    row-more n x = (to, back)
+module _ (t t′ : Tables) (same : (j k : ℕ) → serviceAt t j k ≡ serviceAt t′ j k) (b : ℕ → ℕ → ℕ → Bool) (l : List Unmet) (i : ℕ) (r : Row) where
+  -- ---- in the list
+  pub row-more : More i (λ x. x ≡ r) (RowAt t b l) (RowAt t′ b (l ++ (callRow i r ∷ [])))
+  row-more n x = (to, back)
+    where
+      last : callRow n x ≡ callRow i r → (n ≡ i) × (x ≡ r)
+      last e = (ap (λ (u : Unmet). u .caller) e, λ z. record { aid = e z .callee; tok = e z .tok })
+
+      among : In (callRow n x) l ⊎ In (callRow n x) (callRow i r ∷ []) → RowAt t b l n x ⊎ ((n ≡ i) × (x ≡ r))
+      among (inl m) = inl (row m)
+      among (inr m) = inr (last (each-one (λ u. u ≡ callRow i r) (callRow i r) refl (callRow n x) m))
+
+      to : RowAt t′ b (l ++ (callRow i r ∷ [])) n x → RowAt t b l n x ⊎ ((n ≡ i) × (x ≡ r))
+      to (bit j k h e) = inl (bit j k h (e ∙ sym (same j k)))
+      to (row m) = among (in-append l m)
+
+      back : RowAt t b l n x ⊎ ((n ≡ i) × (x ≡ r)) → RowAt t′ b (l ++ (callRow i r ∷ [])) n x
+      back (inl (bit j k h e)) = bit j k h (e ∙ same j k)
+      back (inl (row m)) = row (in-left (callRow i r ∷ []) m)
+      back (inr e) = row (in-right l (here (λ z. callRow (e .0 z) (e .1 z))))
+
+  pub row-less : ((j k : ℕ) → T (b i j k) → r ≡ serviceAt t j k → ⊥) → Less i (λ x. x ≡ r) (RowAt t b l) (RowAt t′ b (keep (λ u. not (eqUnmet (callRow i r) u)) l))
+  row-less none-set n x = (to, λ p. back (p .0) (p .1))
+    where
+      out : Unmet → Bool
+      out u = not (eqUnmet (callRow i r) u)
+
+      to : RowAt t′ b (keep (λ u. not (eqUnmet (callRow i r) u)) l) n x → RowAt t b l n x × ((n ≡ i) × (x ≡ r) → ⊥)
+      to (bit j k h e) = (bit j k h (e ∙ sym (same j k)), λ q. none-set j k (subst (λ (z : ℕ). T (b z j k)) (q .0) h) (sym (q .1) ∙ e ∙ sym (same j k)))
+      to (row m) =
+          let p = keep-in out l m in
+          (row (p .0), λ q. not-e (eqUnmet (callRow i r) (callRow n x)) (p .1) (subst (λ (z : Unmet). T (eqUnmet (callRow i r) z)) (λ z. callRow (sym (q .0) z) (sym (q .1) z)) (eqUnmet-refl (callRow i r))))
+
+      back : RowAt t b l n x → ((n ≡ i) × (x ≡ r) → ⊥) → RowAt t′ b (keep (λ u. not (eqUnmet (callRow i r) u)) l) n x
+      back (bit j k h e) ne = bit j k h (e ∙ same j k)
+      back (row m) ne =
+          row (in-keep out m (not-i (eqUnmet (callRow i r) (callRow n x)) (λ s.
+          let e = eqUnmet→ (callRow i r) (callRow n x) s in
+          ne (sym (ap (λ (u : Unmet). u .caller) e), λ z. record { aid = sym e z .callee; tok = sym e z .tok }))))
+
+  -- ---- as the bit of service k of package j
+  module _ (j k : ℕ) (is : r ≡ serviceAt t j k) where
+    pub bit-more : More i (λ x. x ≡ r) (RowAt t b l) (RowAt t′ (put3 i j k true b) l)
+    bit-more n x = (to, back)
       where
-        last : callRow n x ≡ callRow i r → (n ≡ i) × (x ≡ r)
-        last e = (ap (λ (u : Unmet). u .caller) e, λ z. record { aid = e z .callee; tok = e z .tok })
+        among : (y z : ℕ) → x ≡ serviceAt t y z → At i j k n y z ⊎ T (b n y z) → RowAt t b l n x ⊎ ((n ≡ i) × (x ≡ r))
+        among y z e (inl q) = inr (q .0, e ∙ (λ w. serviceAt t (q .1 w) (q .2 w)) ∙ sym is)
+        among y z e (inr h) = inl (bit y z h e)
 
-        among : In (callRow n x) l ⊎ In (callRow n x) (callRow i r ∷ []) → RowAt t b l n x ⊎ ((n ≡ i) × (x ≡ r))
-        among (inl m) = inl (row m)
-        among (inr m) = inr (last (each-one (λ u. u ≡ callRow i r) (callRow i r) refl (callRow n x) m))
+        to : RowAt t′ (put3 i j k true b) l n x → RowAt t b l n x ⊎ ((n ≡ i) × (x ≡ r))
+        to (bit y z h e) = among y z (e ∙ sym (same y z)) (put3-cases i j k b n y z h)
+        to (row m) = inl (row m)
 
-        to : RowAt t′ b (l ++ (callRow i r ∷ [])) n x → RowAt t b l n x ⊎ ((n ≡ i) × (x ≡ r))
-        to (bit j k h e) = inl (bit j k h (e ∙ sym (same j k)))
-        to (row m) = among (in-append l m)
+        back : RowAt t b l n x ⊎ ((n ≡ i) × (x ≡ r)) → RowAt t′ (put3 i j k true b) l n x
+        back (inl (bit y z h e)) = bit y z (put3-keep i j k b n y z h) (e ∙ same y z)
+        back (inl (row m)) = row m
+        back (inr q) = bit j k (subst (λ (z : ℕ). T (put3 i j k true b z j k)) (sym (q .0)) (put3-new i j k b)) (q .1 ∙ is ∙ same j k)
 
-        back : RowAt t b l n x ⊎ ((n ≡ i) × (x ≡ r)) → RowAt t′ b (l ++ (callRow i r ∷ [])) n x
-        back (inl (bit j k h e)) = bit j k h (e ∙ same j k)
-        back (inl (row m)) = row (in-left (callRow i r ∷ []) m)
-        back (inr e) = row (in-right l (here (λ z. callRow (e .0 z) (e .1 z))))
-
-    pub row-less : ((j k : ℕ) → T (b i j k) → r ≡ serviceAt t j k → ⊥) → Less i (λ x. x ≡ r) (RowAt t b l) (RowAt t′ b (keep (λ u. not (eqUnmet (callRow i r) u)) l))
-    row-less none-set n x = (to, λ p. back (p .0) (p .1))
+    pub bit-less : ((y z : ℕ) → T (b i y z) → serviceAt t y z ≡ serviceAt t j k → (y ≡ j) × (z ≡ k)) → (In (callRow i r) l → ⊥)
+        → Less i (λ x. x ≡ r) (RowAt t b l) (RowAt t′ (put3 i j k false b) l)
+    bit-less one-place no-row n x = (to, λ p. back (p .0) (p .1))
       where
-        out : Unmet → Bool
-        out u = not (eqUnmet (callRow i r) u)
+        to : RowAt t′ (put3 i j k false b) l n x → RowAt t b l n x × ((n ≡ i) × (x ≡ r) → ⊥)
+        to (bit y z h e) =
+            let p = put3-less i j k b n y z .0 h in (
+              bit y z (p .0) (e ∙ sym (same y z)),
+              λ q.
+                  let s = one-place y z (subst (λ (w : ℕ). T (b w y z)) (q .0) (p .0)) (same y z ∙ sym e ∙ q .1 ∙ is) in
+                  p .1 (q .0, s .0, s .1),
+            )
+        to (row m) = (row m, λ q. no-row (in-cast (λ z. callRow (sym (q .0) z) (sym (q .1) z)) m))
 
-        to : RowAt t′ b (keep (λ u. not (eqUnmet (callRow i r) u)) l) n x → RowAt t b l n x × ((n ≡ i) × (x ≡ r) → ⊥)
-        to (bit j k h e) = (bit j k h (e ∙ sym (same j k)), λ q. none-set j k (subst (λ (z : ℕ). T (b z j k)) (q .0) h) (sym (q .1) ∙ e ∙ sym (same j k)))
-        to (row m) =
-            let p = keep-in out l m in
-            (row (p .0), λ q. not-e (eqUnmet (callRow i r) (callRow n x)) (p .1) (subst (λ (z : Unmet). T (eqUnmet (callRow i r) z)) (λ z. callRow (sym (q .0) z) (sym (q .1) z)) (eqUnmet-refl (callRow i r))))
-
-        back : RowAt t b l n x → ((n ≡ i) × (x ≡ r) → ⊥) → RowAt t′ b (keep (λ u. not (eqUnmet (callRow i r) u)) l) n x
-        back (bit j k h e) ne = bit j k h (e ∙ same j k)
-        back (row m) ne =
-            row (in-keep out m (not-i (eqUnmet (callRow i r) (callRow n x)) (λ s.
-            let e = eqUnmet→ (callRow i r) (callRow n x) s in
-            ne (sym (ap (λ (u : Unmet). u .caller) e), λ z. record { aid = sym e z .callee; tok = sym e z .tok }))))
-
-    -- ---- as the bit of service k of package j
-    module _ (j k : ℕ) (is : r ≡ serviceAt t j k) where
-      pub bit-more : More i (λ x. x ≡ r) (RowAt t b l) (RowAt t′ (put3 i j k true b) l)
-      bit-more n x = (to, back)
-        where
-          among : (y z : ℕ) → x ≡ serviceAt t y z → At i j k n y z ⊎ T (b n y z) → RowAt t b l n x ⊎ ((n ≡ i) × (x ≡ r))
-          among y z e (inl q) = inr (q .0, e ∙ (λ w. serviceAt t (q .1 w) (q .2 w)) ∙ sym is)
-          among y z e (inr h) = inl (bit y z h e)
-
-          to : RowAt t′ (put3 i j k true b) l n x → RowAt t b l n x ⊎ ((n ≡ i) × (x ≡ r))
-          to (bit y z h e) = among y z (e ∙ sym (same y z)) (put3-cases i j k b n y z h)
-          to (row m) = inl (row m)
-
-          back : RowAt t b l n x ⊎ ((n ≡ i) × (x ≡ r)) → RowAt t′ (put3 i j k true b) l n x
-          back (inl (bit y z h e)) = bit y z (put3-keep i j k b n y z h) (e ∙ same y z)
-          back (inl (row m)) = row m
-          back (inr q) = bit j k (subst (λ (z : ℕ). T (put3 i j k true b z j k)) (sym (q .0)) (put3-new i j k b)) (q .1 ∙ is ∙ same j k)
-
-      pub bit-less : ((y z : ℕ) → T (b i y z) → serviceAt t y z ≡ serviceAt t j k → (y ≡ j) × (z ≡ k)) → (In (callRow i r) l → ⊥)
-          → Less i (λ x. x ≡ r) (RowAt t b l) (RowAt t′ (put3 i j k false b) l)
-      bit-less one-place no-row n x = (to, λ p. back (p .0) (p .1))
-        where
-          to : RowAt t′ (put3 i j k false b) l n x → RowAt t b l n x × ((n ≡ i) × (x ≡ r) → ⊥)
-          to (bit y z h e) =
-              let p = put3-less i j k b n y z .0 h in (
-                bit y z (p .0) (e ∙ sym (same y z)),
-                λ q.
-                    let s = one-place y z (subst (λ (w : ℕ). T (b w y z)) (q .0) (p .0)) (same y z ∙ sym e ∙ q .1 ∙ is) in
-                    p .1 (q .0, s .0, s .1),
-              )
-          to (row m) = (row m, λ q. no-row (in-cast (λ z. callRow (sym (q .0) z) (sym (q .1) z)) m))
-
-          back : RowAt t b l n x → ((n ≡ i) × (x ≡ r) → ⊥) → RowAt t′ (put3 i j k false b) l n x
-          back (bit y z h e) ne = bit y z (put3-less i j k b n y z .1 (h, λ q. ne (q .0, e ∙ (λ w. serviceAt t (q .1 w) (q .2 w)) ∙ sym is))) (e ∙ same y z)
-          back (row m) ne = row m
+        back : RowAt t b l n x → ((n ≡ i) × (x ≡ r) → ⊥) → RowAt t′ (put3 i j k false b) l n x
+        back (bit y z h e) ne = bit y z (put3-less i j k b n y z .1 (h, λ q. ne (q .0, e ∙ (λ w. serviceAt t (q .1 w) (q .2 w)) ∙ sym is))) (e ∙ same y z)
+        back (row m) ne = row m
 
 -- ---- other calls and needs, or other grants: package i's contract turns, and all else is as it was
 module _ (t : Tables) (c d : ℕ → ℕ → ℕ → Bool) (u : List Unmet) where

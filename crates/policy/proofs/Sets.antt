@@ -1,4 +1,4 @@
--- Lists as finite sets: membership, tests read as facts, and lengths.
+-- Tests read as facts, and lists as finite sets: membership, repetitions and lengths.
 use Prim.Native.Nat.{ℕ, zero, suc, _+_, _*_, _≤_, _<_, zero-le, suc-le-suc}
 use native.Mathlib.Omega.{arith}
 use native.Mathlib.Nat.{le-antisymm, suc-mul}
@@ -127,7 +127,10 @@ module _ {A : Type 0} where
   pub is-nil : {l : List A} → l ≡ [] → T (isNil l)
   is-nil e = subst (λ (z : List A). T (isNil z)) (sym e) tt
 
-module _ {A : Type 0} where
+  -- ---- one more at the end
+  pub length-snoc : (l : List A) (x : A) → length (l ++ (x ∷ [])) ≡ suc (length l)
+  length-snoc l x = length-append l (x ∷ []) ∙ omega arith
+
   pub once-snoc : (xs : List A) (x : A) → NoRepeat xs → (In x xs → ⊥) → NoRepeat (xs ++ (x ∷ []))
   once-snoc [] x d h = (in-nil, tt)
   once-snoc (y ∷ ys) x d h = (λ m. out (in-append ys m), once-snoc ys x (d .1) (λ m. h (there m)))
@@ -418,9 +421,6 @@ module _ {B : Type 0} (g : ℕ → ℕ → B) (f : ℕ → ℕ → Bool) (l m : 
       inj i (p .0) i′ (q .0) (keep-in (f i) l (p .1) .1) (keep-in (f i′) l (q .1) .1) (sym (p .2) ∙ q .2) .0)
 
 -- ---- upto
-pub length-snoc : {A : Type 0} (l : List A) (x : A) → length (l ++ (x ∷ [])) ≡ suc (length l)
-length-snoc l x = length-append l (x ∷ []) ∙ omega arith
-
 pub length-from : (i n : ℕ) → length (from i n) ≡ n
 length-from i zero = refl
 length-from i (suc n) = ap suc (length-from (suc i) n)

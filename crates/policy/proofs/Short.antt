@@ -9,8 +9,8 @@ use Rattle.policy.specs.Layout.{Layout}
 use Rattle.policy.specs.Tables.{Tables}
 use Rattle.policy.specs.Draft.{Draft, look}
 use Rattle.policy.proofs.Sets.{T-true}
-use Rattle.policy.proofs.Formed.{grantBit, Lawful}
 use Rattle.policy.proofs.EveryBit.{among}
+use Rattle.policy.proofs.Formed.{grantBit, Lawful}
 use Rattle.policy.proofs.Facts.{of-lawful}
 
 module _ (L : Layout) where

@@ -17,17 +17,17 @@ use Rattle.policy.specs.Tables.{Tables, Unmet, Waiting}
 use Rattle.policy.specs.Lookup.{Place, serviceAt, numberOf, serviceOf, serverOf}
 use Rattle.policy.specs.Draft.{kept, callRow, hasUnmet, hasWaiting, asksFor, addServiceAt, loadedNames, notServed, loadedService, loadAt, look}
 use Rattle.policy.specs.ShortCheck.{count, notInstalled, newcomerRights, nowMet, othersRights, shortLoad, shortAddService}
-use Rattle.policy.proofs.Sets.{length-keep, T-eq, and-l, and-r, and-i, implies-i, implies-e, every-in, in-every}
-use Rattle.policy.proofs.Equal.{row-path, eqAid→, eqAid-of, eqTok→, has-tok, tok-has, has-row, row-has, eqAid-refl, eqTok-refl, has-unmet, unmet-has, waiting-has, has-waiting}
-use Rattle.policy.proofs.Formed.{grantBit, Formed, Lawful, Fitting, KindShort}
-use Rattle.policy.proofs.Found.{NumberIs, number-is, FreeIs, ServerIs, server-is, same-place}
+use Rattle.policy.proofs.Sets.{T-eq, and-l, and-r, and-i, implies-i, implies-e, every-in, in-every, length-keep}
+use Rattle.policy.proofs.Equal.{eqAid→, eqAid-refl, eqAid-of, eqTok→, eqTok-refl, row-path, has-tok, tok-has, has-row, row-has, has-unmet, unmet-has, has-waiting, waiting-has}
+use Rattle.policy.proofs.Put.{by-number, OldOrNew, old-or-new}
 use Rattle.policy.proofs.EveryBit.{BitIn, among, among-to, among-back}
+use Rattle.policy.proofs.Formed.{grantBit, Formed, Lawful, Fitting, KindShort}
+use Rattle.policy.proofs.Found.{NumberIs, ServerIs, FreeIs, number-is, server-is, same-place}
 use Rattle.policy.proofs.Facts.{place-in}
 use Rattle.policy.proofs.Reach.{reach-3}
-use Rattle.policy.proofs.Short.{look-is, fits, fits-as}
-use Rattle.policy.proofs.Put.{by-number, OldOrNew, old-or-new}
 use Rattle.policy.proofs.LoadNames.{Newcomer, Loaded, loaded, service-old, tok-in, in-tok, new-lt, load-reached}
 use Rattle.policy.proofs.LoadBits.{CallIs, GrantIs, call-is, grant-is}
+use Rattle.policy.proofs.Short.{look-is, fits, fits-as}
 
 module _ {A : Type 0} where
   keep-same : (f g : A → Bool) (l : List A) → ((x : A) → In x l → f x ≡ g x) → keep f l ≡ keep g l

@@ -15,14 +15,14 @@ use Rattle.policy.specs.Tables.{Tables, Unmet, Waiting}
 use Rattle.policy.specs.Lookup.{serviceAt, numbers, places}
 use Rattle.policy.specs.Draft.{callRow, leftBy, look, removeAt, removeServiceAt}
 use Rattle.policy.specs.ShortCheck.{count, sum, ones, shortRemove, shortRemoveService}
-use Rattle.policy.proofs.Sets.{keep-in, in-keep, once-keep, in-map, map-in, once-map, once-upto, in-upto, same-length, length-keep, pairs}
-use Rattle.policy.proofs.Formed.{Formed, Bits, Lawful, Fitting, KindShort}
-use Rattle.policy.proofs.Short.{look-is, fits, fits-as, granted}
-use Rattle.policy.proofs.Reach.{reach-2, reach-4}
+use Rattle.policy.proofs.Sets.{same-length, keep-in, in-keep, once-keep, length-keep, in-map, map-in, once-map, pairs, in-upto, once-upto}
+use Rattle.policy.proofs.Formed.{Bits, Formed, Lawful, Fitting, KindShort}
 use Rattle.policy.proofs.Facts.{need-bits}
+use Rattle.policy.proofs.Reach.{reach-2, reach-4}
 use Rattle.policy.proofs.Dropped.{left-in, in-left-by, once-left, lawful-dropped}
 use Rattle.policy.proofs.KindRemove.{dropping as dropping-2}
 use Rattle.policy.proofs.KindRemoveService.{dropping as dropping-4}
+use Rattle.policy.proofs.Short.{look-is, fits, fits-as, granted}
 
 -- ---- lengths and counts
 abbrev isZero : ℕ → Bool

@@ -17,11 +17,11 @@ use Rattle.policy.specs.Sound.{eqUnmet, eqWaiting}
 use Rattle.policy.specs.Draft.{Draft, callRow, put3, addCallAt, removeCallAt, addGrantAt, removeGrantAt, addNeedAt, removeNeedAt, look}
 use Rattle.policy.specs.ShortCheck.{fine, shortAddCall, shortAddGrant, shortRemoveGrant, shortAddNeed}
 use Rattle.policy.proofs.Sets.{T-eq, not-i, not-e, length-keep, length-snoc}
+use Rattle.policy.proofs.Put.{At, put3-new, put3-keep, put3-cases, put3-less}
+use Rattle.policy.proofs.EveryBit.{among, among-to, among-back}
 use Rattle.policy.proofs.Formed.{grantBit, Formed, Lawful, Fitting, KindShort}
 use Rattle.policy.proofs.Found.{ServerIs}
-use Rattle.policy.proofs.EveryBit.{among, among-to, among-back}
 use Rattle.policy.proofs.Facts.{place-in, bit-in}
-use Rattle.policy.proofs.Put.{At, put3-new, put3-keep, put3-cases, put3-less}
 use Rattle.policy.proofs.Reach.{reach-5, reach-6, reach-7, reach-8, reach-9, reach-10}
 use Rattle.policy.proofs.Short.{look-is, fits, fits-as, granted}
 

@@ -12,18 +12,16 @@ use Rattle.policy.specs.Contract.{eqAid, validAid, Tok, eqTok}
 use Rattle.policy.specs.Layout.{Layout, size, aidSize, usedAt, aidsAt, tokensAt, providesAt, callsAt, grantsAt, needsAt}
 use Rattle.policy.specs.Tables.{Tables, Unmet, Waiting, noTok, bit, readNumber, readAid, readTok, pieces, bitOf, readTable, decode, encode}
 use Rattle.policy.specs.Lookup.{numbers, places, usedNumbers, numberOf, serverOf, wanted}
-use Rattle.policy.specs.Sound.{eqUnmet, eqWaiting, unmetOk, waitingOk}
-use Rattle.policy.specs.Sound.{aidsOk, tokensOk, blanksOk, entriesOk, bitsProvided, needsCalled, bitsGranted, listsOk, rowsOk, soundTables, sound}
-use Rattle.policy.proofs.Sets.{and-l, and-r, and-i, or-l, or-r, or-e, implies-i, implies-e, not-i, not-e}
-use Rattle.policy.proofs.Sets.{false-T, none-to, none-back, nil-is, is-nil, map-inj, below-in, in-below}
-use Rattle.policy.proofs.Sets.{every-in, in-every, keep-in, in-keep, once-keep, once-map, distinct→once, once→distinct, in-upto, once-upto, eqBytes-refl}
+use Rattle.policy.specs.Sound.{eqUnmet, eqWaiting, unmetOk, waitingOk, aidsOk, tokensOk, blanksOk, entriesOk, bitsProvided, needsCalled, bitsGranted, listsOk, rowsOk, soundTables, sound}
+use Rattle.policy.proofs.Sets.{false-T, and-l, and-r, and-i, or-l, or-r, or-e, implies-i, implies-e, not-i, not-e, none-to, none-back, nil-is, is-nil, every-in, in-every, keep-in, in-keep}
+use Rattle.policy.proofs.Sets.{once-keep, once-map, map-inj, distinct→once, once→distinct, in-upto, once-upto, below-in, in-below, eqBytes-refl}
 use Rattle.policy.proofs.Equal.{eqAid→, eqAid-refl, eqAid-of, eqb-of, eqTok→, eqTok-refl, eqTok-of, eqUnmet→, eqUnmet-refl, eqWaiting→, eqWaiting-refl}
-use Rattle.policy.proofs.Formed.{Names, Bits, UnmetRows, WaitingRows, grantBit, Formed, Lawful, Fitting}
-use Rattle.policy.proofs.Found.{NumberIs, ServerIs, number-is, server-is}
 use Rattle.policy.proofs.EveryBit.{BitIn, among-to, among-back}
-use Rattle.policy.proofs.Facts.{need-bits, lawful-of, of-lawful}
 use Rattle.policy.proofs.Pieces.{length-pieces}
 use Rattle.policy.proofs.Bits.{bit-none}
+use Rattle.policy.proofs.Formed.{Names, Bits, UnmetRows, WaitingRows, grantBit, Formed, Lawful, Fitting}
+use Rattle.policy.proofs.Found.{NumberIs, ServerIs, number-is, server-is}
+use Rattle.policy.proofs.Facts.{need-bits, lawful-of, of-lawful}
 
 -- ---- what tables hold stands in range
 record InRange (L : Layout) (t : Tables) : Type 0 where

@@ -15,21 +15,21 @@ use Rattle.policy.specs.Machine.{Held, held, effect, causes8to11, causes
 use Rattle.policy.specs.Tables.{Tables, Unmet, decode, encode}
 use Rattle.policy.specs.Lookup.{contractAt}
 use Rattle.policy.specs.Sound.{sound}
-use Rattle.policy.specs.ShortCheck.{fine}
 use Rattle.policy.specs.Draft.{Look, Draft, look, draft, numberFor}
 use Rattle.policy.specs.Judge.{Out, refusal, tableCauses, lookCauses, judgeCauses, judged, judgeTables, judge}
 use Rattle.policy.specs.History.{SameContract, StandsFor}
+use Rattle.policy.specs.ShortCheck.{fine}
 use Rattle.policy.proofs.Sets.{T-true, not-false, nil-is}
-use Rattle.policy.proofs.Formed.{Formed, Lawful, Fitting, Stands, Turns, Valid}
+use Rattle.policy.proofs.Answers.{answer-zero, answer-append, ascends, answer-append-zero, ascends-front, none-of-four}
+use Rattle.policy.proofs.Formed.{Formed, Lawful, Fitting, Stands, Valid, Turns}
 use Rattle.policy.proofs.Facts.{lawful-of}
-use Rattle.policy.proofs.SoundFacts.{sound-formed, sound-image}
-use Rattle.policy.proofs.RoundTrip.{round-trip, length-encode, header-encode}
 use Rattle.policy.proofs.ContractAt.{same-contract, has-contract}
 use Rattle.policy.proofs.ParseFacts.{parse-valid}
+use Rattle.policy.proofs.RoundTrip.{header-encode, length-encode, round-trip}
+use Rattle.policy.proofs.SoundFacts.{sound-formed, sound-image}
 use Rattle.policy.proofs.Tests.{tests-agree}
 use Rattle.policy.proofs.Verdict.{looks-agree}
 use Rattle.policy.proofs.AllKinds.{kinds}
-use Rattle.policy.proofs.Answers.{ascends-front, answer-zero, answer-append, ascends, answer-append-zero, none-of-four}
 
 -- ---- images and tables
 pub stands-of : (L : Layout) (img : List ℕ) (cs : List Contract) → StandsFor L img cs → Stands (decode L img) [] cs

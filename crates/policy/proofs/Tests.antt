@@ -19,11 +19,11 @@ use Rattle.policy.specs.Tables.{Tables, Unmet}
 use Rattle.policy.specs.Lookup.{numbers, places, usedNumbers, numberOf, freeNumber, freeService, contractAt}
 use Rattle.policy.specs.Judge.{absent, holds, tableCauses}
 use Rattle.policy.specs.History.{SameContract}
-use Rattle.policy.proofs.Sets.{T-eq, T-true, T-false, same-has, in-map, map-in, once-map}
-use Rattle.policy.proofs.Sets.{length-keep, length-from, keep-in, in-keep, once-keep, upto-in, in-upto, once-upto, length-le, same-length}
+use Rattle.policy.proofs.Sets.{T-eq, T-true, T-false, length-le, same-length, keep-in, in-keep, once-keep, length-keep, in-map, map-in, once-map, same-has, length-from, upto-in, in-upto}
+use Rattle.policy.proofs.Sets.{once-upto}
 use Rattle.policy.proofs.Equal.{eqTok→, eqTok-refl, eqRow→, eqRow-refl}
 use Rattle.policy.proofs.Formed.{Names, Formed, HasContract, Stands}
-use Rattle.policy.proofs.Found.{NumberIs, number-is, FreeIs, free-number-is, free-service-is}
+use Rattle.policy.proofs.Found.{NumberIs, FreeIs, free-number-is, free-service-is, number-is}
 use Rattle.policy.proofs.Facts.{at-aid, under-i, under-e}
 use Rattle.policy.proofs.ContractAt.{provided, provided-in, once-provided, same-contract}
 

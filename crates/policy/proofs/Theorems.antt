@@ -23,16 +23,16 @@ use Rattle.policy.specs.Judge.{Out, refusal, judgeTables, judge, loadRec
 use Rattle.policy.specs.History.{SameContract, StandsFor, answers, imageAfter, machineAnswers, contractsAfter}
 use Rattle.policy.specs.Marked.{Case, cases}
 use Rattle.policy.specs.Claims.{MarkedCases, Agreement, History, FitsLimits, AcceptedExactly, IsFirst, FirstCause, SoundStands, ShortIsFull, ReadOutAgain}
-use Rattle.policy.proofs.Sets.{each-one, cond-true, cond-false, and-l, and-r, and-i, not-e, test, every-in, exists-in, in-map}
-use Rattle.policy.proofs.Answers.{ascends, ascends-front, answer-append-zero, first-is, none-of-four, four-none}
-use Rattle.policy.proofs.SoundFacts.{sound-formed, sound-lawful, sound-fitting}
-use Rattle.policy.proofs.RoundTrip.{emptyTables, empty-formed, empty-fitting, empty-encode}
+use Rattle.policy.proofs.Sets.{and-l, and-r, and-i, test, not-e, cond-true, cond-false, every-in, exists-in, in-map, each-one}
+use Rattle.policy.proofs.Answers.{ascends, answer-append-zero, first-is, ascends-front, none-of-four, four-none}
 use Rattle.policy.proofs.ContractAt.{same-contract, stands-self}
-use Rattle.policy.proofs.Tests.{packages-fit, services-fit}
 use Rattle.policy.proofs.LawfulCard.{calls-granted, needs-present}
+use Rattle.policy.proofs.ParseFacts.{parse-valid}
+use Rattle.policy.proofs.RoundTrip.{emptyTables, empty-formed, empty-fitting, empty-encode}
+use Rattle.policy.proofs.SoundFacts.{sound-formed, sound-lawful, sound-fitting}
 use Rattle.policy.proofs.Written.{loadOf, requestOf}
 use Rattle.policy.proofs.ReadOut.{read-out-parses, read-out-proper}
-use Rattle.policy.proofs.ParseFacts.{parse-valid}
+use Rattle.policy.proofs.Tests.{packages-fit, services-fit}
 use Rattle.policy.proofs.AllKinds.{kinds}
 use Rattle.policy.proofs.Step.{stands-of, image-stands, step}
 

@@ -15,11 +15,12 @@ use Rattle.policy.specs.Tables.{Tables, Unmet, Waiting}
 use Rattle.policy.specs.Lookup.{serviceAt, wanted, grantAt}
 use Rattle.policy.specs.Draft.{Draft, callRow, look}
 use Rattle.policy.specs.Judge.{lookCauses}
-use Rattle.policy.proofs.Sets.{T-eq, implies-i, implies-e, not-i, not-e, same-length, every-in, in-every, keep-in, in-keep, once-keep, in-map, map-in, once-map, in-flat, flat-in, once-flat, nil-is, map-inj, once-of-map}
+use Rattle.policy.proofs.Sets.{T-eq, implies-i, implies-e, not-i, not-e, nil-is, same-length, every-in, in-every, keep-in, in-keep, once-keep, in-map, map-in, once-map, map-inj, once-of-map}
+use Rattle.policy.proofs.Sets.{in-flat, flat-in, once-flat}
 use Rattle.policy.proofs.Equal.{has-tok, tok-has, has-row, row-has}
+use Rattle.policy.proofs.EveryBit.{among}
 use Rattle.policy.proofs.Formed.{Off, grantBit, Formed, ProvidesAt, RowAt, GrantAt, HasContract, Stands}
 use Rattle.policy.proofs.Found.{same-place}
-use Rattle.policy.proofs.EveryBit.{among}
 use Rattle.policy.proofs.Facts.{contract-of, under-i, under-e, need-bits, lawful-of, of-lawful}
 
 module _ (L : Layout) (t : Tables) (lost : List Unmet) (ds : List Contract) (g : Formed L t) (st : Stands t lost ds) where
