@@ -80,26 +80,28 @@ module _ (L : Layout) where
   abbrev Judged : List ℕ → Out → Type 0
   Judged img o = ((o .answered ≡ 0) × (o .second < L .packages)) ⊎ RefusesWith (from 1 11) 255 img o
 
-  judging : (img s : List ℕ) → Judged img (judge L img s)
-  unfolding judge
-  judging img s = by-test (Judged img) (judgeTables L img (decode L img) (parse L s)) (refusal 1 255 img) (sound L img) (λ ok. read ok (parse L s)) (λ _. inr (1, here refl, refl))
-    where
-      t : Tables
-      t = decode L img
+  module _ (img : List ℕ) where
+    abbrev t : Tables
+    t = decode L img
 
-      settled : T (sound L img) → (q : Request) (n : ℕ) → answer (judgeCauses L (decode L img) q) ≡ n
-          → Judged img (judged L img (numberFor L (decode L img) (q .aid)) (draft L (decode L img) (q .aid) (q .change) .tables) n)
-      settled ok q zero e =
-          let p = answer-append-zero 2 (3 when not (proper (q .aid) (q .change)) ∷ tableCauses L (decode L img) (q .aid) (q .change)) _ (judge-ascends L (decode L img) (q .aid) (not (proper (q .aid) (q .change))) (q .change)) e in
-          let k = known (decode L img) (q .aid) (q .change) (answer-zero 2 (not (proper (q .aid) (q .change))) (tableCauses L (decode L img) (q .aid) (q .change)) (p .0) .1) in
-          inl (refl, number-lt (decode L img) (q .aid) (sound-formed L img ok .names) k)
-      settled ok q (suc n) e =
-          let w = judge-causes L (decode L img) (q .aid) (look L (draft L (decode L img) (q .aid) (q .change))) (not (proper (q .aid) (q .change))) (q .change) in
-          inr (suc n, numbered (judgeCauses L (decode L img) q) (w .0) (w .1) n e, refl)
+    settled : T (sound L img) → (q : Request) (n : ℕ) → answer (judgeCauses L t q) ≡ n
+        → Judged img (judged L img (numberFor L t (q .aid)) (draft L t (q .aid) (q .change) .tables) n)
+    settled ok q zero e =
+        let bad = not (proper (q .aid) (q .change)) in
+        let early = tableCauses L t (q .aid) (q .change) in
+        let p = answer-append-zero 2 (3 when bad ∷ early) _ (judge-ascends L t (q .aid) bad (q .change)) e in
+        inl (refl, number-lt t (q .aid) (sound-formed L img ok .names) (known t (q .aid) (q .change) (answer-zero 2 bad early (p .0) .1)))
+    settled ok q (suc n) e =
+        let w = judge-causes L t (q .aid) (look L (draft L t (q .aid) (q .change))) (not (proper (q .aid) (q .change))) (q .change) in
+        inr (suc n, numbered (judgeCauses L t q) (w .0) (w .1) n e, refl)
 
-      read : T (sound L img) → (o : Option Request) → Judged img (judgeTables L img (decode L img) o)
-      read ok none = inr (2, there (here refl), refl)
-      read ok (some q) = settled ok q (answer (judgeCauses L (decode L img) q)) refl
+    read : T (sound L img) → (o : Option Request) → Judged img (judgeTables L img t o)
+    read ok none = inr (2, there (here refl), refl)
+    read ok (some q) = settled ok q (answer (judgeCauses L t q)) refl
+
+    judging : (s : List ℕ) → Judged img (judge L img s)
+    unfolding judge
+    judging s = by-test (Judged img) (judgeTables L img t (parse L s)) (refusal 1 255 img) (sound L img) (λ ok. read ok (parse L s)) (λ _. inr (1, here refl, refl))
 
   checking : (img : List ℕ) → ((check L img .answered ≡ 0) × (check L img .second ≤ L .packages) × (check L img .bytes ≡ img)) ⊎ RefusesWith (1 ∷ []) 255 img (check L img)
   unfolding check
