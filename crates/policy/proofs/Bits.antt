@@ -143,4 +143,5 @@ module _ (L : Layout) where
             ap (λ (z : List (List ℕ)). bitOf L (L .services) (getD z j []) k) line
             ∙ read-line (b i) (λ j k t. let h = lt i j k t in (h .1, h .2)) (writeLine (b i)) [] (sym (append-nil (writeLine (b i)))) j k
         go (inr p) =
-            off (L .services) (getD (getD lines i []) j []) (b i j k) k (ap (λ (z : List (List ℕ)). getD z j []) (read-off (L .packages * L .width) (L .packages) bs (pieces (L .width) (L .packages)) [] i p)) (λ t. not-le-of-lt (lt i j k t .0) p)
+            off (L .services) (getD (getD lines i []) j []) (b i j k) k
+            (ap (λ (z : List (List ℕ)). getD z j []) (read-off (L .packages * L .width) (L .packages) bs (pieces (L .width) (L .packages)) [] i p)) (λ t. not-le-of-lt (lt i j k t .0) p)
