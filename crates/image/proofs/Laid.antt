@@ -17,7 +17,7 @@ use Rattle.policy.specs.Sound.{soundTables, sound}
 use Rattle.policy.proofs.Sets.{and-l, and-r, test, eqBytes→}
 use Rattle.policy.proofs.Bits.{length-bits, read-bits, read-line, read-lines}
 use Rattle.policy.proofs.Pieces.{in-or-off, piece-at, piece-only, read-at, read-off, read-list, length-aid, read-aid, length-unmet, read-unmet, length-waiting, read-waiting}
-use Rattle.policy.proofs.RoundTrip.{valid-short}
+use Rattle.policy.proofs.Pieces.{valid-short}
 use Rattle.policy.proofs.Formed.{Formed, Fitting}
 use Rattle.policy.proofs.SoundFacts.{sound-formed, sound-fitting}
 use Rattle.geometry.specs.declared.Table.{Table}

@@ -9,7 +9,8 @@ use lib.ListN.{length, getD, take, drop, length-append}
 use lib.Seq.{take-at, drop-at, getD-at, getD-take, getD-drop, drop-drop}
 use Rattle.policy.specs.Lists.{flat, from, upto}
 use Rattle.policy.proofs.Sets.{from-in, upto-in}
-use Rattle.policy.proofs.Pieces.{length-flat, length-from, length-table}
+use Rattle.policy.proofs.Sets.{length-from}
+use Rattle.policy.proofs.Pieces.{length-flat, length-table}
 use Rattle.image.specs.Laid.{over}
 
 -- a has s from `off` on, b has s′ there, and for the rest they are equal

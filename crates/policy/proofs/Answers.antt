@@ -1,7 +1,7 @@
 -- The first cause of a list that applies.
-use Prim.Native.Nat.{ℕ, zero, suc, _≤_, _<_, zero-le}
+use Prim.Native.Nat.{ℕ, suc, _≤_, _<_}
 use native.Mathlib.Omega.{arith}
-use mathlib.Core.Path.{_≡_, refl, sym, ap, _∙_}
+use mathlib.Core.Path.{_≡_, refl, ap, _∙_}
 use mathlib.Core.Logic.{_⊎_, inl, inr}
 use mathlib.Core.Bool.{Bool, true, false, not, _&&_, cond}
 use mathlib.Core.List.{List, [], _∷_, _++_}
@@ -9,7 +9,7 @@ use mathlib.Core.List.{List·Memᴰ as In, List·Memᴰ·head as here, List·Mem
 use lib.Dec.{T, ltb, ltb→lt}
 use Rattle.policy.specs.Causes.{Cause, _when_, answer}
 use Rattle.policy.specs.Claims.{IsFirst}
-use Rattle.policy.proofs.Sets.{and-l, and-r, and-i, true-T, false-T}
+use Rattle.policy.proofs.Sets.{true-T, false-T, and-l, and-r, and-i}
 
 -- answered 0: the first cause does not apply, and the others are answered 0
 pub answer-zero : (n : ℕ) (b : Bool) (l : List Cause) → answer (suc n when b ∷ l) ≡ 0 → (b ≡ false) × (answer l ≡ 0)
@@ -31,7 +31,7 @@ abbrev pub ascends : ℕ → List Cause → Bool
 ascends n [] = true
 ascends n (c ∷ l) = ltb n (c .number) && ascends (c .number) l
 
-pub ascends-lt : (n : ℕ) (l : List Cause) → T (ascends n l) → (k : Cause) → In k l → n < k .number
+ascends-lt : (n : ℕ) (l : List Cause) → T (ascends n l) → (k : Cause) → In k l → n < k .number
 ascends-lt n [] t k m = absurd (in-nil m)
 ascends-lt n (c ∷ l) t k m =
     let h : n < c .number = ltb→lt n (c .number) (and-l (ltb n (c .number)) (ascends (c .number) l) t) in

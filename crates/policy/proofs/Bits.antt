@@ -14,6 +14,7 @@ use Rattle.policy.specs.Lists.{flat, upto}
 use Rattle.policy.specs.Layout.{Layout, LayoutOk}
 use Rattle.policy.specs.Tables.{bit, rowOf, readNumber, writeNumber, bitOf, writeBits, pieces, readTable, writeTable}
 use Rattle.policy.proofs.Sets.{T-eq, T-false, and-l, and-r, and-i}
+use Rattle.policy.proofs.EveryBit.{BitIn}
 use Rattle.policy.proofs.Pieces.{in-or-off, length-table, piece-at, piece-off, read-at, read-off, Zeros}
 
 -- ---- a row of bits
@@ -25,7 +26,7 @@ bit-rest : (r k : ℕ) → bit r (suc k) ≡ bit (r / 2) k
 unfolding bit
 bit-rest r k = ap (λ (x : ℕ). eqb (x % 2) 1) (ap (λ (m : ℕ). r / 2 ^ m) (sym (one-add k)) ∙ sym (shr-shr r 1 k))
 
-bit-none : (k : ℕ) → bit zero k ≡ false
+pub bit-none : (k : ℕ) → bit zero k ≡ false
 bit-none zero = bit-low zero
 bit-none (suc k) = bit-rest zero k ∙ bit-none k
 
@@ -61,7 +62,7 @@ rowOf-none zero = refl
 rowOf-none (suc n) = ap (λ (x : ℕ). x * 2 + 0) (rowOf-none n)
 
 -- ---- a number of w bytes, before what follows
-length-number : (w n : ℕ) (bs : List ℕ) → length (writeNumber w n bs) ≡ w + length bs
+pub length-number : (w n : ℕ) (bs : List ℕ) → length (writeNumber w n bs) ≡ w + length bs
 length-number zero n bs = omega arith
 length-number (suc w) n bs = length-number w (n / 256) (n % 256 ∷ bs) ∙ omega arith
 
@@ -107,47 +108,40 @@ module _ (L : Layout) where
   zeros-bits n = subst (λ (z : ℕ). Zeros (writeNumber (L .width) z [])) (sym (rowOf-none n)) (zeros-number (L .width) {bs = []} refl)
 
   -- ---- tables of bits: a row of services for each package, and a line of such rows for each package
-  abbrev n : ℕ
-  n = L .packages
-
-  abbrev m : ℕ
-  m = L .services
-
-  abbrev w : ℕ
-  w = L .width
-
   abbrev pub writeLine : (ℕ → ℕ → Bool) → List ℕ
-  writeLine f = flat (λ j. writeBits L m (f j)) (upto n)
+  writeLine f = flat (λ j. writeBits L (L .services) (f j)) (upto (L .packages))
 
-  pub length-line : (f : ℕ → ℕ → Bool) → length (writeLine f) ≡ n * w
-  length-line f = length-table (λ j. writeBits L m (f j)) w n (λ j p. length-bits m (f j))
+  pub length-line : (f : ℕ → ℕ → Bool) → length (writeLine f) ≡ L .packages * (L .width)
+  length-line f = length-table (λ j. writeBits L (L .services) (f j)) (L .width) (L .packages) (λ j p. length-bits (L .services) (f j))
 
-  pub length-lines : (b : ℕ → ℕ → ℕ → Bool) → length (writeTable L b) ≡ n * (n * w)
-  length-lines b = length-table (λ i. writeLine (b i)) (n * w) n (λ i p. length-line (b i))
+  pub length-lines : (b : ℕ → ℕ → ℕ → Bool) → length (writeTable L b) ≡ L .packages * (L .packages * L .width)
+  length-lines b = length-table (λ i. writeLine (b i)) (L .packages * L .width) (L .packages) (λ i p. length-line (b i))
 
   module _ (lo : LayoutOk L) where
-    pub read-line : (f : ℕ → ℕ → Bool) → ((j k : ℕ) → T (f j k) → (j < n) × (k < m)) → (bs rest : List ℕ) → bs ≡ writeLine f ++ rest
-        → (j k : ℕ) → bitOf L m (getD (pieces w n bs) j []) k ≡ f j k
-    read-line f lt bs rest e j k = go (in-or-off j n)
+    pub read-line : (f : ℕ → ℕ → Bool) → ((j k : ℕ) → T (f j k) → (j < L .packages) × (k < L .services)) → (bs rest : List ℕ) → bs ≡ writeLine f ++ rest
+        → (j k : ℕ) → bitOf L (L .services) (getD (pieces (L .width) (L .packages) bs) j []) k ≡ f j k
+    read-line f lt bs rest e j k = go (in-or-off j (L .packages))
       where
-        go : (j < n) ⊎ (n ≤ j) → bitOf L m (getD (pieces w n bs) j []) k ≡ f j k
+        go : (j < L .packages) ⊎ (L .packages ≤ j) → bitOf L (L .services) (getD (pieces (L .width) (L .packages) bs) j []) k ≡ f j k
         go (inl p) =
-            ap (λ (z : List ℕ). bitOf L m z k) (piece-at (λ j. writeBits L m (f j)) w n (λ j p. length-bits m (f j)) bs rest e j p)
-            ∙ read-bits m (f j) (lo .services-fit) (λ k t. lt j k t .1) k
-        go (inr p) = off m (getD (pieces w n bs) j []) (f j k) k (piece-off w n bs j p) (λ t. not-le-of-lt (lt j k t .0) p)
+            ap (λ (z : List ℕ). bitOf L (L .services) z k) (piece-at (λ j. writeBits L (L .services) (f j)) (L .width) (L .packages) (λ j p. length-bits (L .services) (f j)) bs rest e j p)
+            ∙ read-bits (L .services) (f j) (lo .services-fit) (λ k t. lt j k t .1) k
+        go (inr p) = off (L .services) (getD (pieces (L .width) (L .packages) bs) j []) (f j k) k (piece-off (L .width) (L .packages) bs j p) (λ t. not-le-of-lt (lt j k t .0) p)
 
-    pub read-lines : (b : ℕ → ℕ → ℕ → Bool) → ((i j k : ℕ) → T (b i j k) → (i < n) × (j < n) × (k < m)) → (bs rest : List ℕ) → bs ≡ writeTable L b ++ rest
+    pub read-lines : (b : ℕ → ℕ → ℕ → Bool) → ((i j k : ℕ) → T (b i j k) → BitIn L i j k) → (bs rest : List ℕ) → bs ≡ writeTable L b ++ rest
         → (i j k : ℕ) → readTable L bs i j k ≡ b i j k
-    read-lines b lt bs rest e i j k = go (in-or-off i n)
+    read-lines b lt bs rest e i j k = go (in-or-off i (L .packages))
       where
         lines : List (List (List ℕ))
-        lines = map (pieces w n) (pieces (n * w) n bs)
+        lines = map (pieces (L .width) (L .packages)) (pieces (L .packages * L .width) (L .packages) bs)
 
-        go : (i < n) ⊎ (n ≤ i) → bitOf L m (getD (getD lines i []) j []) k ≡ b i j k
+        go : (i < L .packages) ⊎ (L .packages ≤ i) → bitOf L (L .services) (getD (getD lines i []) j []) k ≡ b i j k
         go (inl p) =
-            let line : getD lines i [] ≡ pieces w n (writeLine (b i)) =
-            read-at (n * w) n bs (pieces w n) [] i p ∙ ap (pieces w n) (piece-at (λ i. writeLine (b i)) (n * w) n (λ i p. length-line (b i)) bs rest e i p) in
-            ap (λ (z : List (List ℕ)). bitOf L m (getD z j []) k) line
+            let line : getD lines i [] ≡ pieces (L .width) (L .packages) (writeLine (b i)) =
+            read-at (L .packages * L .width) (L .packages) bs (pieces (L .width) (L .packages)) [] i p
+            ∙ ap (pieces (L .width) (L .packages)) (piece-at (λ i. writeLine (b i)) (L .packages * L .width) (L .packages) (λ i p. length-line (b i)) bs rest e i p) in
+            ap (λ (z : List (List ℕ)). bitOf L (L .services) (getD z j []) k) line
             ∙ read-line (b i) (λ j k t. let h = lt i j k t in (h .1, h .2)) (writeLine (b i)) [] (sym (append-nil (writeLine (b i)))) j k
         go (inr p) =
-            off m (getD (getD lines i []) j []) (b i j k) k (ap (λ (z : List (List ℕ)). getD z j []) (read-off (n * w) n bs (pieces w n) [] i p)) (λ t. not-le-of-lt (lt i j k t .0) p)
+            off (L .services) (getD (getD lines i []) j []) (b i j k) k
+            (ap (λ (z : List (List ℕ)). getD z j []) (read-off (L .packages * L .width) (L .packages) bs (pieces (L .width) (L .packages)) [] i p)) (λ t. not-le-of-lt (lt i j k t .0) p)

@@ -7,47 +7,33 @@ use mathlib.Core.List.{List, [], _++_, map}
 use mathlib.Core.List.{List·Memᴰ as In, List·Memᴰ·not-nil as in-nil}
 use mathlib.Core.List.{Memᴰ·append-left as in-left, Memᴰ·append-right as in-right, List·Memᴰ·append-cases as in-append, Memᴰ·cast as in-cast}
 use lib.Dec.{T, eqb, eqb→eq, eqb-refl}
-use Rattle.policy.specs.Lists.{NoRepeat, keep, flat}
+use Rattle.policy.specs.Lists.{NoRepeat, keep}
 use Rattle.policy.specs.Contract.{Tok, Row, Contract}
 use Rattle.policy.specs.Layout.{Layout}
 use Rattle.policy.specs.Tables.{Tables, Unmet, Waiting}
 use Rattle.policy.specs.Lookup.{numbers, places, usedNumbers, serviceAt, wanted, grantAt, contractAt}
 use Rattle.policy.specs.Draft.{callRow}
 use Rattle.policy.specs.History.{SameContract, FourSets}
-use Rattle.policy.proofs.Sets.{in-keep, keep-in, once-keep, in-map, map-in, once-map, in-flat, flat-in, once-flat, once-append, in-upto, once-upto}
+use Rattle.policy.proofs.Sets.{keep-in, in-keep, once-keep, in-map, map-in, once-map, once-append, pairs, pairs-in, in-pairs, once-pairs, in-upto, once-upto}
+use Rattle.policy.proofs.Equal.{row-path}
+use Rattle.policy.proofs.Formed.{Names, Bits, Formed, ProvidesAt, RowAt, GrantAt, HasContract, Stands}
 use Rattle.policy.proofs.Found.{same-place}
-use Rattle.policy.proofs.Formed.{Names, Formed, ProvidesAt, RowAt, GrantAt, HasContract, Stands}
+use Rattle.policy.proofs.Facts.{place-in, bit-in, need-bits}
 
 module _ (L : Layout) (t : Tables) where
   -- ---- the bits of a package's row, read as rows of its contract
+  abbrev bitRows : (ℕ → ℕ → Row) → (ℕ → ℕ → Bool) → List Row
+  bitRows name b = pairs name b (places L t) (numbers L t)
+
   module _ (name : ℕ → ℕ → Row) (b : ℕ → ℕ → Bool) where
-    abbrev bitRows : List Row
-    bitRows = flat (λ j. map (name j) (keep (b j) (places L t))) (numbers L t)
+    bits-in : {r : Row} → In r (bitRows name b) → (j : ℕ) × (k : ℕ) × T (b j k) × (r ≡ name j k)
+    bits-in = pairs-in name b (places L t) (numbers L t)
 
-    bits-in : {r : Row} → In r bitRows → (j : ℕ) × (k : ℕ) × T (b j k) × (r ≡ name j k)
-    bits-in m =
-        let p = flat-in (λ j. map (name j) (keep (b j) (places L t))) (numbers L t) m in
-        let q = map-in (name (p .0)) (keep (b (p .0)) (places L t)) (p .2) in
-        (p .0, q .0, keep-in (b (p .0)) (places L t) (q .1) .1, q .2)
+    in-bits : (j k : ℕ) → (j < L .packages) × (k < L .services) → T (b j k) → In (name j k) (bitRows name b)
+    in-bits j k l = in-pairs name b (places L t) (numbers L t) j k (in-upto (L .packages) j (l .0)) (in-upto (L .services) k (l .1))
 
-    in-bits : (j k : ℕ) → j < L .packages → k < L .services → T (b j k) → In (name j k) bitRows
-    in-bits j k lj lk h =
-        in-flat (λ i. map (name i) (keep (b i) (places L t))) (in-upto (L .packages) j lj) (in-map (name j) (in-keep (b j) (in-upto (L .services) k lk) h))
-
-    once-bits : ((j k j′ k′ : ℕ) → T (b j k) → T (b j′ k′) → name j k ≡ name j′ k′ → (j ≡ j′) × (k ≡ k′)) → NoRepeat bitRows
-    once-bits inj = once-flat (λ j. map (name j) (keep (b j) (places L t))) (numbers L t) (once-upto (L .packages)) line apart
-      where
-        bit-of : (j : ℕ) {k : ℕ} → In k (keep (b j) (places L t)) → T (b j k)
-        bit-of j m = keep-in (b j) (places L t) m .1
-
-        line : (j : ℕ) → In j (numbers L t) → NoRepeat (map (name j) (keep (b j) (places L t)))
-        line j m = once-map (name j) (keep (b j) (places L t)) (λ k l p q e. inj j k j l (bit-of j p) (bit-of j q) e .1) (once-keep (b j) (places L t) (once-upto (L .services)))
-
-        apart : (i j : ℕ) (r : Row) → In i (numbers L t) → In j (numbers L t) → In r (map (name i) (keep (b i) (places L t))) → In r (map (name j) (keep (b j) (places L t))) → i ≡ j
-        apart i j r mi mj p q =
-            let x = map-in (name i) (keep (b i) (places L t)) p in
-            let y = map-in (name j) (keep (b j) (places L t)) q in
-            inj i (x .0) j (y .0) (bit-of i (x .1)) (bit-of j (y .1)) (sym (x .2) ∙ y .2) .0
+    once-bits : ((j k j′ k′ : ℕ) → T (b j k) → T (b j′ k′) → name j k ≡ name j′ k′ → (j ≡ j′) × (k ≡ k′)) → NoRepeat (bitRows name b)
+    once-bits = once-pairs name b (places L t) (numbers L t) (once-upto (L .services)) (once-upto (L .packages))
 
   -- ---- the services of package n, as a set
   abbrev pub provided : ℕ → List Tok
@@ -76,10 +62,6 @@ module _ (L : Layout) (t : Tables) where
     unfolding contractAt
     provides-at = provided-in (formed .names) n
 
-    -- a bit of a provided service stands within the tables
-    bounds : (j k : ℕ) → T (t .provides j k) → (j < L .packages) × (k < L .services)
-    bounds j k h = (formed .names .used-lt j (formed .names .prov-used j k h), formed .names .prov-lt j k h)
-
     -- the rows of unmet calls of package n
     abbrev own : Unmet → Bool
     own u = eqb (u .caller) n
@@ -87,9 +69,9 @@ module _ (L : Layout) (t : Tables) where
     own-row : (u : Unmet) → T (own u) → callRow n (wanted u) ≡ u
     own-row u h = λ i. record { callee = u .callee; tok = u .tok; caller = sym (eqb→eq (u .caller) n h) i }
 
-    -- a bit of calls, or of needs as these are among them, in full
-    calls-bit : (r : Row) (b : ℕ → ℕ → ℕ → Bool) → ((i j k : ℕ) → T (b i j k) → T (t .calls i j k)) → (j k : ℕ) → T (b n j k) → r ≡ serviceAt t j k → In r (bitRows (serviceAt t) (b n))
-    calls-bit r b sub j k h e = let l = bounds j k (formed .calls .of-prov n j k (sub n j k h)) in in-cast e (in-bits (serviceAt t) (b n) j k (l .0) (l .1) h)
+    -- a bit of calls or of needs, in full
+    calls-bit : (r : Row) {b : ℕ → ℕ → ℕ → Bool} → Bits (t .used) (t .provides) b → (j k : ℕ) → T (b n j k) → r ≡ serviceAt t j k → In r (bitRows (serviceAt t) (b n))
+    calls-bit r {b} bits j k h e = in-cast e (in-bits (serviceAt t) (b n) j k (place-in L t (formed .names) j k (bits .of-prov n j k h)) h)
 
     pub calls-at : (r : Row) → In r (contractAt L t n .calls) ↔ RowAt t (t .calls) (t .unmet) n r
     unfolding contractAt
@@ -103,7 +85,7 @@ module _ (L : Layout) (t : Tables) where
             RowAt.row (in-cast (ap (callRow n) (p .2) ∙ own-row (p .0) (q .1)) (q .0))
 
         of : RowAt t (t .calls) (t .unmet) n r → In r (bitRows (serviceAt t) (t .calls n) ++ map wanted (keep own (t .unmet)))
-        of (RowAt.bit j k h e) = in-left (map wanted (keep own (t .unmet))) (calls-bit r (t .calls) (λ i j k h. h) j k h e)
+        of (RowAt.bit j k h e) = in-left (map wanted (keep own (t .unmet))) (calls-bit r (formed .calls) j k h e)
         of (RowAt.row m) = in-right (bitRows (serviceAt t) (t .calls n)) (in-map wanted (in-keep own m (eqb-refl n)))
 
     pub needs-at : (r : Row) → In r (contractAt L t n .needs) ↔ RowAt t (t .needs) [] n r
@@ -111,7 +93,7 @@ module _ (L : Layout) (t : Tables) where
     needs-at r = (λ m. let p = bits-in (serviceAt t) (t .needs n) m in RowAt.bit (p .0) (p .1) (p .2) (p .3), of)
       where
         of : RowAt t (t .needs) [] n r → In r (bitRows (serviceAt t) (t .needs n))
-        of (RowAt.bit j k h e) = calls-bit r (t .needs) (formed .need-call) j k h e
+        of (RowAt.bit j k h e) = calls-bit r (need-bits L t formed) j k h e
         of (RowAt.row m) = absurd (in-nil m)
 
     -- a grant bit of package n, in full
@@ -143,9 +125,9 @@ module _ (L : Layout) (t : Tables) where
 
         of : GrantAt t n r → In r (bitRows granted (t .grants n) ++ map (grantAt t) (keep ownGrant (t .waiting)))
         of (GrantAt.bit i k h a s) =
-            let l = formed .names .used-lt i (formed .grants .by-used i n k h) in
-            let e : r ≡ granted i k = λ z. record { aid = a z; tok = s z } in
-            in-left (map (grantAt t) (keep ownGrant (t .waiting))) (in-cast e (in-bits granted (t .grants n) i k l (bounds n k (formed .grants .of-prov i n k h) .1) h))
+            let l = bit-in L t (formed .names) (formed .grants) i n k h in
+            let e : r ≡ granted i k = row-path a s in
+            in-left (map (grantAt t) (keep ownGrant (t .waiting))) (in-cast e (in-bits granted (t .grants n) i k (l .0, l .2) h))
         of (GrantAt.row k m s) =
             let e : r ≡ grantAt t (record { caller = r .aid; callee = n; service = k }) = λ z. record { aid = r .aid; tok = s z } in
             in-right (bitRows granted (t .grants n)) (in-cast e (in-map (grantAt t) (in-keep ownGrant m (eqb-refl n))))

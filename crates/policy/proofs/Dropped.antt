@@ -3,39 +3,20 @@ use Prim.Native.Nat.{ℕ}
 use mathlib.Core.Path.{_≡_, sym, ap, _∙_, subst}
 use mathlib.Core.Logic.{_⊎_, inl, inr, _↔_}
 use mathlib.Core.Bool.{Bool, _&&_}
-use mathlib.Core.List.{List, [], _++_, map}
+use mathlib.Core.List.{List, [], _++_}
 use mathlib.Core.List.{List·Memᴰ as In, List·Memᴰ·not-nil as in-nil, Memᴰ·append-left as in-left, Memᴰ·append-right as in-right, List·Memᴰ·append-cases as in-append, Memᴰ·cast as in-cast}
 use lib.Dec.{T, eqb, eqb→eq}
-use Rattle.policy.specs.Lists.{keep, flat, NoRepeat}
+use Rattle.policy.specs.Lists.{NoRepeat}
 use Rattle.policy.specs.Contract.{Row, validAid}
 use Rattle.policy.specs.Layout.{Layout}
 use Rattle.policy.specs.Tables.{Tables, Unmet, noTok}
 use Rattle.policy.specs.Lookup.{serviceAt, wanted, places, numbers}
 use Rattle.policy.specs.Draft.{callRow, leftBy}
-use Rattle.policy.proofs.Sets.{and-l, and-r, and-i, test, keep-in, in-keep, once-keep, map-in, in-map, once-map, flat-in, in-flat, once-flat, once-append, each-append, once-upto, in-upto}
-use Rattle.policy.proofs.Equal.{eqb-of}
-use Rattle.policy.proofs.Formed.{Formed, Lawful, Names, Bits, Off, UnmetRows, WaitingRows, grantBit, RowAt, bit, row}
+use Rattle.policy.proofs.Sets.{and-l, and-r, and-i, test, once-append, each-append, pairs-in, in-pairs, once-pairs, in-upto, once-upto}
+use Rattle.policy.proofs.Equal.{eqb-of, row-path}
+use Rattle.policy.proofs.Formed.{Names, Bits, Off, UnmetRows, WaitingRows, grantBit, Formed, Lawful, RowAt, bit, row}
 use Rattle.policy.proofs.Found.{same-place}
-
--- ---- rows g i k for the pairs that pass f
-module _ {B : Type 0} (g : ℕ → ℕ → B) (f : ℕ → ℕ → Bool) (l m : List ℕ) where
-  pub pairs-in : {x : B} → In x (flat (λ i. map (g i) (keep (f i) l)) m) → (i : ℕ) × (k : ℕ) × T (f i k) × (x ≡ g i k)
-  pairs-in h =
-      let p = flat-in (λ i. map (g i) (keep (f i) l)) m h in
-      let q = map-in (g (p .0)) (keep (f (p .0)) l) (p .2) in
-      (p .0, q .0, keep-in (f (p .0)) l (q .1) .1, q .2)
-
-  pub in-pairs : (i k : ℕ) → In i m → In k l → T (f i k) → In (g i k) (flat (λ i. map (g i) (keep (f i) l)) m)
-  in-pairs i k a b h = in-flat (λ i. map (g i) (keep (f i) l)) a (in-map (g i) (in-keep (f i) b h))
-
-  pub once-pairs : NoRepeat l → NoRepeat m → ((i k i′ k′ : ℕ) → T (f i k) → T (f i′ k′) → g i k ≡ g i′ k′ → (i ≡ i′) × (k ≡ k′))
-      → NoRepeat (flat (λ i. map (g i) (keep (f i) l)) m)
-  once-pairs dl dm inj = once-flat (λ i. map (g i) (keep (f i) l)) m dm
-      (λ i _. once-map (g i) (keep (f i) l) (λ k k′ a b e. inj i k i k′ (keep-in (f i) l a .1) (keep-in (f i) l b .1) e .1) (once-keep (f i) l dl))
-      (λ i i′ x _ _ a b.
-      let p = map-in (g i) (keep (f i) l) a in
-      let q = map-in (g i′) (keep (f i′) l) b in
-      inj i (p .0) i′ (q .0) (keep-in (f i) l (p .1) .1) (keep-in (f i′) l (q .1) .1) (sym (p .2) ∙ q .2) .0)
+use Rattle.policy.proofs.Facts.{no-rows, bit-in, need-bits}
 
 -- ---- what the bits of b on the services d of package j leave
 module _ (L : Layout) (t : Tables) (names : Names L (t .used) (t .aid) (t .tok) (t .provides)) (j : ℕ) (d : ℕ → Bool)
@@ -47,8 +28,9 @@ module _ (L : Layout) (t : Tables) (names : Names L (t .used) (t .aid) (t .tok) 
 
   pub in-left-by : (i k : ℕ) → T (b i j k) → T (d k) → In (callRow i (serviceAt t j k)) (leftBy L t b j d)
   in-left-by i k h g =
+      let l = bit-in L t names bits i j k h in
       in-pairs (λ i k. callRow i (serviceAt t j k)) (λ i k. b i j k && d k) (places L t) (numbers L t) i k
-      (in-upto (L .packages) i (names .used-lt i (bits .by-used i j k h))) (in-upto (L .services) k (names .prov-lt j k (bits .of-prov i j k h)))
+      (in-upto (L .packages) i (l .0)) (in-upto (L .services) k (l .2))
       (and-i (b i j k) (d k) h g)
 
   pub once-left : NoRepeat (leftBy L t b j d)
@@ -99,13 +81,6 @@ pub record Dropping (L : Layout) (t t′ : Tables) (j : ℕ) (d : ℕ → Bool) 
 none-stay : (t′ : Tables) → RowsStay t′ [] []
 none-stay t′ = record { old = λ u m. m; used = λ u m. absurd (in-nil m); stays = λ u m _. m; once = tt }
 
-pub need-bits : {L : Layout} {t : Tables} → Formed L t → Bits (t .used) (t .provides) (t .needs)
-need-bits fm = record {
-  by-used = λ x y z h. fm .calls .by-used x y z (fm .need-call x y z h);
-  of-prov = λ x y z h. fm .calls .of-prov x y z (fm .need-call x y z h);
-  other = λ x y z h. fm .calls .other x y z (fm .need-call x y z h);
-}
-
 module _ (L : Layout) (t t′ : Tables) (names : Names L (t .used) (t .aid) (t .tok) (t .provides)) (j : ℕ) (d : ℕ → Bool) (w : Without t t′ j d) where
   names-without : Names L (t′ .used) (t′ .aid) (t′ .tok) (t′ .provides)
   names-without = record {
@@ -120,7 +95,7 @@ module _ (L : Layout) (t t′ : Tables) (names : Names L (t .used) (t .aid) (t .
   }
 
   service-same : (y z : ℕ) → T (t′ .provides y z) → serviceAt t′ y z ≡ serviceAt t y z
-  service-same y z p = λ i. record { aid = w .aid-same y (w .prov-used y z p) i; tok = w .tok-same y z p i }
+  service-same y z p = row-path (w .aid-same y (w .prov-used y z p)) (w .tok-same y z p)
 
   module _ (b : ℕ → ℕ → ℕ → Bool) (bits : Bits (t .used) (t .provides) b) where
     caller-stays : (i k : ℕ) → T (b i j k) → T (t′ .used i)
@@ -194,9 +169,6 @@ module _ (L : Layout) (t t′ : Tables) (names : Names L (t .used) (t .aid) (t .
                 let p = left-in L t names j d b bits g in
                 bit j (p .1) (subst (λ (x : ℕ). T (b x j (p .1))) (sym (ap (λ (u : Unmet). u .caller) (p .4))) (p .2)) (ap (λ (u : Unmet). wanted u) (p .4))
 
-        row-without : {l′ : List Row} → (In r l′ ↔ RowAt t b l n r) → In r l′ ↔ RowAt t′ b′ rows′ n r
-        row-without h = (λ x. row-stays (h .0 x), λ x. h .1 (row-old x))
-
 module _ (L : Layout) (t t′ : Tables) (j : ℕ) (d : ℕ → Bool) (m : List Unmet) (fm : Formed L t) (dr : Dropping L t t′ j d m) where
   pub formed-dropped : Formed L t′
   formed-dropped = record {
@@ -211,16 +183,20 @@ module _ (L : Layout) (t t′ : Tables) (j : ℕ) (d : ℕ → Bool) (m : List U
   }
 
   pub lost-dropped : Off (t′ .used) (t′ .aid) (t′ .tok) (t′ .provides) (leftBy L t (t .needs) j d)
-  lost-dropped = off-without L t t′ (fm .names) j d (dr .without) (t .needs) (need-bits fm) [] [] (none-stay t′)
-      (record { off-used = λ u h. absurd (in-nil h); off-card = λ u h. absurd (in-nil h) })
+  lost-dropped = off-without L t t′ (fm .names) j d (dr .without) (t .needs) (need-bits L t fm) [] [] (none-stay t′) (no-rows t)
 
   -- ---- the contract of a package that stays
-  pub calls-dropped : (n : ℕ) → T (t′ .used n) → (r : Row) {l : List Row} → (In r l ↔ RowAt t (t .calls) (t .unmet) n r) → In r l ↔ RowAt t′ (t′ .calls) (t′ .unmet) n r
-  calls-dropped n u r {l} h = subst (λ (x : List Unmet). In r l ↔ RowAt t′ (t′ .calls) x n r) (sym (dr .unmet-is))
-      (row-without L t t′ (fm .names) j d (dr .without) (t .calls) (fm .calls) (t .unmet) m (dr .unmet-stay) (t′ .calls) (dr .calls-stay) n u r h)
+  pub calls-dropped : (n : ℕ) → T (t′ .used n) → (r : Row) → RowAt t (t .calls) (t .unmet) n r ↔ RowAt t′ (t′ .calls) (t′ .unmet) n r
+  calls-dropped n u r = subst (λ (x : List Unmet). RowAt t (t .calls) (t .unmet) n r ↔ RowAt t′ (t′ .calls) x n r) (sym (dr .unmet-is)) (
+    row-stays L t t′ (fm .names) j d (dr .without) (t .calls) (fm .calls) (t .unmet) m (dr .unmet-stay) (t′ .calls) (dr .calls-stay) n u r,
+    row-old L t t′ (fm .names) j d (dr .without) (t .calls) (fm .calls) (t .unmet) m (dr .unmet-stay) (t′ .calls) (dr .calls-stay) n u r,
+  )
 
-  pub needs-dropped : (n : ℕ) → T (t′ .used n) → (r : Row) {l : List Row} → (In r l ↔ RowAt t (t .needs) [] n r) → In r l ↔ RowAt t′ (t′ .needs) (leftBy L t (t .needs) j d) n r
-  needs-dropped n u r h = row-without L t t′ (fm .names) j d (dr .without) (t .needs) (need-bits fm) [] [] (none-stay t′) (t′ .needs) (dr .needs-stay) n u r h
+  pub needs-dropped : (n : ℕ) → T (t′ .used n) → (r : Row) → RowAt t (t .needs) [] n r ↔ RowAt t′ (t′ .needs) (leftBy L t (t .needs) j d) n r
+  needs-dropped n u r = (
+    row-stays L t t′ (fm .names) j d (dr .without) (t .needs) (need-bits L t fm) [] [] (none-stay t′) (t′ .needs) (dr .needs-stay) n u r,
+    row-old L t t′ (fm .names) j d (dr .without) (t .needs) (need-bits L t fm) [] [] (none-stay t′) (t′ .needs) (dr .needs-stay) n u r,
+  )
 
   pub lawful-dropped : Lawful t → Lawful t′
   lawful-dropped law x y z h =

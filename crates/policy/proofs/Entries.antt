@@ -1,10 +1,10 @@
 -- Demand 1: every entry's answer and second number are of document 01's table, and a refusal leaves what was lent.
-use Prim.Native.Nat.{ℕ, zero, suc, _+_, _-_, _≤_, _<_}
+use Prim.Native.Nat.{ℕ, zero, suc, _≤_, _<_}
 use native.Mathlib.Omega.{arith}
-use mathlib.Core.Path.{_≡_, refl, sym, ap, _∙_, subst}
+use mathlib.Core.Path.{_≡_, refl, _∙_}
 use mathlib.Core.Logic.{_⊎_, inl, inr}
 use mathlib.Core.Bool.{Bool, true, false, not, _&&_, cond}
-use mathlib.Core.List.{List, [], _∷_, _++_, tail}
+use mathlib.Core.List.{List, [], _∷_, tail}
 use mathlib.Core.List.{List·Memᴰ as In, List·Memᴰ·head as here, List·Memᴰ·tail as there}
 use mathlib.Core.Option.{Option, none, some}
 use lib.Dec.{T, eqb, eqb→eq, leb, leb→le, ltb, ltb→lt}
@@ -16,23 +16,22 @@ use Rattle.policy.specs.Layout.{Layout, size}
 use Rattle.policy.specs.Record.{Request, Change, load, remove, addService, removeService, addCall, removeCall, addGrant, removeGrant, addNeed, removeNeed, parse, proper}
 use Rattle.policy.specs.Causes.{Cause, _when_, answer}
 use Rattle.policy.specs.Tables.{Tables, decode, emptyImage}
-use Rattle.policy.specs.Lookup.{numbers, usedNumbers, numberOf, freeNumber, contractAt}
+use Rattle.policy.specs.Lookup.{numbers, numberOf, freeNumber, contractAt}
 use Rattle.policy.specs.Sound.{sound}
-use Rattle.policy.specs.Draft.{Look, look, draft, numberFor}
-use Rattle.policy.specs.Judge.{Out, refusal, tableCauses, lookCauses, judgeCauses, judged, judgeTables, judge, check, writeEmpty, loadRecord, wrote, readOutTables, readOut}
+use Rattle.policy.specs.Draft.{look, draft, numberFor}
+use Rattle.policy.specs.Judge.{Out, refusal, tableCauses, judgeCauses, judged, judgeTables, judge, check, writeEmpty, loadRecord, readOut}
 use Rattle.policy.specs.Claims.{IsFirst, RefusesWith, AnswersAlways}
-use Rattle.policy.proofs.Sets.{T-true, true-T, false-T, every-in, in-from}
-use Rattle.policy.proofs.Formed.{Names}
-use Rattle.policy.proofs.Found.{NumberIs, FreeIs, number-is, free-number-is}
+use Rattle.policy.proofs.Sets.{not-false, every-in, length-keep, length-from, in-from}
 use Rattle.policy.proofs.Answers.{answer-zero, ascends, answer-append-zero, first-is}
+use Rattle.policy.proofs.Formed.{Names}
+use Rattle.policy.proofs.Found.{NumberIs, FreeIs, free-number-is, number-is}
 use Rattle.policy.proofs.SoundFacts.{sound-formed}
-use Rattle.policy.proofs.ReadOut.{length-keep, length-from}
-use Rattle.policy.proofs.Step.{judge-ascends}
+use Rattle.policy.proofs.Step.{judge-causes, judge-ascends}
 
 module _ (L : Layout) where
   -- ---- judging: the numbers
-  numbered : (l : List Cause) → T (every (λ k. ltb (k .number) 12) l) → T (ascends 0 l) → (n : ℕ) → answer l ≡ suc n → In (suc n) (from 1 11)
-  numbered l t up n e = go (first-is 0 l up)
+  numbered : (l : List Cause) → T (every (λ k. ltb (k .number) 12) l) → T (ascends 2 l) → (n : ℕ) → answer l ≡ suc n → In (suc n) (from 1 11)
+  numbered l t up n e = go (first-is 2 l up)
     where
       go : IsFirst (answer l) l → In (suc n) (from 1 11)
       go (inl p) = absurd (omega (arith, e, p .0))
@@ -40,38 +39,18 @@ module _ (L : Layout) where
           let low = ltb→lt (p .0 .number) 12 (every-in (λ k. ltb (k .number) 12) l t (p .1)) in
           in-from 1 11 (suc n) (omega arith) (omega (arith, p .2, e))
 
-  module _ (t : Tables) (k : Look) (a : Aid) (b : Bool) where
-    abbrev causesOf : Change → List Cause
-    causesOf c = 3 when b ∷ tableCauses L t a c ++ lookCauses L k
-
-    in-table : (c : Change) → T (every (λ k. ltb (k .number) 12) (causesOf c)) × T (ascends 0 (causesOf c))
-    in-table (load p c g n) = (tt, tt)
-    in-table remove = (tt, tt)
-    in-table (addService s l) = (tt, tt)
-    in-table (removeService s) = (tt, tt)
-    in-table (addCall r) = (tt, tt)
-    in-table (removeCall r) = (tt, tt)
-    in-table (addGrant r) = (tt, tt)
-    in-table (removeGrant r) = (tt, tt)
-    in-table (addNeed r) = (tt, tt)
-    in-table (removeNeed r) = (tt, tt)
-
   -- ---- judging: the package number of an acceptance
   module _ (t : Tables) (a : Aid) where
     -- a package that is installed, or for a load a free number
     abbrev Known : Type 0
-    Known = (isSome (numberOf L t a) ≡ true) ⊎ (isSome (freeNumber L t) ≡ true)
-
-    met : (b : Bool) → not b ≡ false → b ≡ true
-    met true e = refl
-    met false e = absurd (false-T e tt)
+    Known = T (isSome (numberOf L t a)) ⊎ T (isSome (freeNumber L t))
 
     present : (l : List Cause) → answer (5 when not (isSome (numberOf L t a)) ∷ l) ≡ 0 → Known
-    present l e = inl (met (isSome (numberOf L t a)) (answer-zero 4 (not (isSome (numberOf L t a))) l e .0))
+    present l e = inl (not-false (isSome (numberOf L t a)) (answer-zero 4 (not (isSome (numberOf L t a))) l e .0))
 
     known : (c : Change) → answer (tableCauses L t a c) ≡ 0 → Known
     known (load p c g n) e =
-        inr (met (isSome (freeNumber L t)) (answer-zero 6 (not (isSome (freeNumber L t))) [] (answer-zero 3 (isSome (numberOf L t a)) (7 when not (isSome (freeNumber L t)) ∷ []) e .1) .0))
+        inr (not-false (isSome (freeNumber L t)) (answer-zero 6 (not (isSome (freeNumber L t))) [] (answer-zero 3 (isSome (numberOf L t a)) (7 when not (isSome (freeNumber L t)) ∷ []) e .1) .0))
     known remove e = present [] e
     known (addService s l) e = present (tail (tableCauses L t a (addService s l))) e
     known (removeService s) e = present (tail (tableCauses L t a (removeService s))) e
@@ -86,11 +65,11 @@ module _ (L : Layout) where
     unfolding numberFor
     number-lt names = go (numberOf L t a) (number-is L t names a) (freeNumber L t) (free-number-is L t)
       where
-        go : (o : Option ℕ) → NumberIs t a o → (f : Option ℕ) → FreeIs (L .packages) (t .used) f → (isSome o ≡ true) ⊎ (isSome f ≡ true) → orElse o (orElse f 255 (λ n. n)) (λ n. n) < L .packages
+        go : (o : Option ℕ) → NumberIs t a o → (f : Option ℕ) → FreeIs (L .packages) (t .used) f → T (isSome o) ⊎ T (isSome f) → orElse o (orElse f 255 (λ n. n)) (λ n. n) < L .packages
         go (some n) h f i w = names .used-lt n (h .0)
         go none h (some n) i w = i .0
-        go none h none i (inl e) = absurd (true-T e)
-        go none h none i (inr e) = absurd (true-T e)
+        go none h none i (inl e) = absurd e
+        go none h none i (inr e) = absurd e
 
   -- ---- an entry on an image
   module _ {A : Type 0} (P : A → Type 0) (x y : A) where
@@ -101,26 +80,28 @@ module _ (L : Layout) where
   abbrev Judged : List ℕ → Out → Type 0
   Judged img o = ((o .answered ≡ 0) × (o .second < L .packages)) ⊎ RefusesWith (from 1 11) 255 img o
 
-  judging : (img s : List ℕ) → Judged img (judge L img s)
-  unfolding judge
-  judging img s = by-test (Judged img) (judgeTables L img (decode L img) (parse L s)) (refusal 1 255 img) (sound L img) (λ ok. read ok (parse L s)) (λ _. inr (1, here refl, refl))
-    where
-      t : Tables
-      t = decode L img
+  module _ (img : List ℕ) where
+    abbrev t : Tables
+    t = decode L img
 
-      settled : T (sound L img) → (q : Request) (n : ℕ) → answer (judgeCauses L (decode L img) q) ≡ n
-          → Judged img (judged L img (numberFor L (decode L img) (q .aid)) (draft L (decode L img) (q .aid) (q .change) .tables) n)
-      settled ok q zero e =
-          let p = answer-append-zero 2 (3 when not (proper (q .aid) (q .change)) ∷ tableCauses L (decode L img) (q .aid) (q .change)) _ (judge-ascends L (decode L img) (q .aid) (not (proper (q .aid) (q .change))) (q .change)) e in
-          let k = known (decode L img) (q .aid) (q .change) (answer-zero 2 (not (proper (q .aid) (q .change))) (tableCauses L (decode L img) (q .aid) (q .change)) (p .0) .1) in
-          inl (refl, number-lt (decode L img) (q .aid) (sound-formed L img ok .names) k)
-      settled ok q (suc n) e =
-          let w = in-table (decode L img) (look L (draft L (decode L img) (q .aid) (q .change))) (q .aid) (not (proper (q .aid) (q .change))) (q .change) in
-          inr (suc n, numbered (judgeCauses L (decode L img) q) (w .0) (w .1) n e, refl)
+    settled : T (sound L img) → (q : Request) (n : ℕ) → answer (judgeCauses L t q) ≡ n
+        → Judged img (judged L img (numberFor L t (q .aid)) (draft L t (q .aid) (q .change) .tables) n)
+    settled ok q zero e =
+        let bad = not (proper (q .aid) (q .change)) in
+        let early = tableCauses L t (q .aid) (q .change) in
+        let p = answer-append-zero 2 (3 when bad ∷ early) _ (judge-ascends L t (q .aid) bad (q .change)) e in
+        inl (refl, number-lt t (q .aid) (sound-formed L img ok .names) (known t (q .aid) (q .change) (answer-zero 2 bad early (p .0) .1)))
+    settled ok q (suc n) e =
+        let w = judge-causes L t (q .aid) (look L (draft L t (q .aid) (q .change))) (not (proper (q .aid) (q .change))) (q .change) in
+        inr (suc n, numbered (judgeCauses L t q) (w .0) (w .1) n e, refl)
 
-      read : T (sound L img) → (o : Option Request) → Judged img (judgeTables L img (decode L img) o)
-      read ok none = inr (2, there (here refl), refl)
-      read ok (some q) = settled ok q (answer (judgeCauses L (decode L img) q)) refl
+    read : T (sound L img) → (o : Option Request) → Judged img (judgeTables L img t o)
+    read ok none = inr (2, there (here refl), refl)
+    read ok (some q) = settled ok q (answer (judgeCauses L t q)) refl
+
+    judging : (s : List ℕ) → Judged img (judge L img s)
+    unfolding judge
+    judging s = by-test (Judged img) (judgeTables L img t (parse L s)) (refusal 1 255 img) (sound L img) (λ ok. read ok (parse L s)) (λ _. inr (1, here refl, refl))
 
   checking : (img : List ℕ) → ((check L img .answered ≡ 0) × (check L img .second ≤ L .packages) × (check L img .bytes ≡ img)) ⊎ RefusesWith (1 ∷ []) 255 img (check L img)
   unfolding check

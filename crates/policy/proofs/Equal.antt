@@ -1,16 +1,16 @@
 -- The equality tests of AIDs, tokens and rows, read as equations.
 use Prim.Native.Nat.{ℕ}
-use mathlib.Core.Path.{_≡_, refl, sym, ap, _∙_, subst}
-use mathlib.Core.Bool.{Bool, true, false, _&&_}
-use mathlib.Core.List.{List, [], _∷_}
+use mathlib.Core.Path.{_≡_, subst}
+use mathlib.Core.Bool.{_&&_}
+use mathlib.Core.List.{List}
 use mathlib.Core.List.{List·Memᴰ as In}
 use lib.Dec.{T, eqb, eqb→eq, eqb-refl}
-use Rattle.policy.specs.Lists.{exists, NoRepeat, eqBytes}
+use Rattle.policy.specs.Lists.{exists}
 use Rattle.policy.specs.Contract.{Aid, eqAid, Tok, eqTok, Row, eqRow, hasTok, hasRow}
 use Rattle.policy.specs.Tables.{Unmet, Waiting}
 use Rattle.policy.specs.Sound.{eqUnmet, eqWaiting}
 use Rattle.policy.specs.Draft.{hasUnmet, hasWaiting}
-use Rattle.policy.proofs.Sets.{and-l, and-r, and-i, eqBytes→, eqBytes-refl, has-in, in-has}
+use Rattle.policy.proofs.Sets.{and-l, and-r, and-i, has-in, in-has, eqBytes→, eqBytes-refl}
 
 pub eqAid→ : (a b : Aid) → T (eqAid a b) → a ≡ b
 eqAid→ a b t = eqBytes→ a b t
@@ -36,11 +36,15 @@ eqTok-refl s = and-i (eqb (s .itf) (s .itf)) (eqb (s .mth) (s .mth)) (eqb-refl (
 pub eqTok-of : {s t : Tok} → s ≡ t → T (eqTok s t)
 eqTok-of {s} e = subst (λ (z : Tok). T (eqTok s z)) e (eqTok-refl s)
 
+-- a row by its AID and its tokens
+pub row-path : {r s : Row} → r .aid ≡ s .aid → r .tok ≡ s .tok → r ≡ s
+row-path e f = λ i. record { aid = e i; tok = f i }
+
 pub eqRow→ : (r s : Row) → T (eqRow r s) → r ≡ s
 eqRow→ r s h =
     let a = eqAid (r .aid) (s .aid) in
     let b = eqTok (r .tok) (s .tok) in
-    λ i. record { aid = eqAid→ (r .aid) (s .aid) (and-l a b h) i; tok = eqTok→ (r .tok) (s .tok) (and-r a b h) i }
+    row-path (eqAid→ (r .aid) (s .aid) (and-l a b h)) (eqTok→ (r .tok) (s .tok) (and-r a b h))
 
 pub eqRow-refl : (r : Row) → T (eqRow r r)
 eqRow-refl r = and-i (eqAid (r .aid) (r .aid)) (eqTok (r .tok) (r .tok)) (eqAid-refl (r .aid)) (eqTok-refl (r .tok))

@@ -3,7 +3,7 @@ use Prim.Native.Nat.{ℕ, _≤_, _<_}
 use mathlib.Core.Path.{_≡_}
 use mathlib.Core.Logic.{_↔_}
 use mathlib.Core.Bool.{Bool}
-use mathlib.Core.List.{List, [], _∷_, map}
+use mathlib.Core.List.{List, [], map}
 use mathlib.Core.List.{List·Memᴰ as In}
 use lib.Dec.{T}
 use lib.ListN.{length}
@@ -14,10 +14,11 @@ use Rattle.policy.specs.Record.{Change, load, remove, addService, remove
 use Rattle.policy.specs.Causes.{answer}
 use Rattle.policy.specs.Machine.{effect}
 use Rattle.policy.specs.Tables.{Tables, Unmet, Waiting, noTok}
-use Rattle.policy.specs.Lookup.{serviceAt, wanted}
-use Rattle.policy.specs.Draft.{Draft, callRow, draft}
+use Rattle.policy.specs.Lookup.{serviceAt}
+use Rattle.policy.specs.Draft.{Draft, callRow, draft, look}
 use Rattle.policy.specs.Judge.{tableCauses}
 use Rattle.policy.specs.History.{FourSets}
+use Rattle.policy.specs.ShortCheck.{shortLook}
 
 -- ---- facts about tables, by their parts, so that an unchanged part is passed on as it is
 -- Formed holds of every draft's tables; Lawful and Fitting besides of a sound image's
@@ -126,3 +127,8 @@ pub record Turns (L : Layout) (d : Draft) (ds : List Contract) : Type 0 where
 abbrev pub KindTurns : Change → Type 0
 KindTurns c = (L : Layout) (t : Tables) (cs : List Contract) (a : Aid) → Formed L t → Stands t [] cs → T (validAid a) → Valid L c → T (proper a c)
     → answer (tableCauses L t a c) ≡ 0 → Turns L (draft L t a c) (effect cs a c)
+
+-- and its short check says what the full look at its draft says, where the tables are lawful and fit
+abbrev pub KindShort : Change → Type 0
+KindShort c = (L : Layout) (t : Tables) (a : Aid) → Formed L t → Lawful t → Fitting L t → Valid L c → T (proper a c) → answer (tableCauses L t a c) ≡ 0
+    → look L (draft L t a c) ≡ shortLook L t a c

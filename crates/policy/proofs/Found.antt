@@ -1,9 +1,7 @@
 -- What the searches for numbers find, and what it says when they find nothing.
 use Prim.Native.Nat.{ℕ, _<_}
-use mathlib.Core.Path.{_≡_, refl, sym, ap, _∙_, subst}
-use mathlib.Core.Bool.{Bool, true, false, not, _&&_}
-use mathlib.Core.List.{List, [], _∷_}
-use mathlib.Core.List.{List·Memᴰ as In}
+use mathlib.Core.Path.{_≡_, sym, ap, _∙_, subst}
+use mathlib.Core.Bool.{Bool, not, _&&_}
 use mathlib.Core.Option.{Option, none, some}
 use lib.Dec.{T}
 use Rattle.policy.specs.Lists.{first, upto, orElse}
@@ -11,7 +9,7 @@ use Rattle.policy.specs.Contract.{Aid, eqAid, Tok, eqTok, Row}
 use Rattle.policy.specs.Layout.{Layout}
 use Rattle.policy.specs.Tables.{Tables}
 use Rattle.policy.specs.Lookup.{Place, numbers, places, numberOf, serviceOf, serverOf, freeNumber, freeService}
-use Rattle.policy.proofs.Sets.{and-l, and-r, and-i, not-e, not-i, Found, found, upto-in, in-upto}
+use Rattle.policy.proofs.Sets.{and-l, and-r, and-i, not-e, not-not, Found, found, upto-in, in-upto}
 use Rattle.policy.proofs.Equal.{eqAid→, eqAid-of, eqTok→, eqTok-of}
 use Rattle.policy.proofs.Formed.{Names}
 
@@ -31,15 +29,11 @@ abbrev pub FreeIs : ℕ → (ℕ → Bool) → Option ℕ → Type 0
 FreeIs most taken none = (n : ℕ) → n < most → T (taken n)
 FreeIs most taken (some n) = (n < most) × (T (taken n) → ⊥)
 
-all-taken : (b : Bool) → (T (not b) → ⊥) → T b
-all-taken true h = tt
-all-taken false h = h tt
-
 free-is : (most : ℕ) (taken : ℕ → Bool) → FreeIs most taken (first (λ n. not (taken n)) (upto most))
 free-is most taken = go (first (λ n. not (taken n)) (upto most)) (found (λ n. not (taken n)) (upto most))
   where
     go : (o : Option ℕ) → Found (λ n. not (taken n)) (upto most) o → FreeIs most taken o
-    go none h = λ n l. all-taken (taken n) (h n (in-upto most n l))
+    go none h = λ n l. not-not (taken n) (h n (in-upto most n l))
     go (some n) h = (upto-in most (h .0), not-e (taken n) (h .1))
 
 module _ (L : Layout) (t : Tables) where

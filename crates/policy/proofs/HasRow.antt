@@ -18,7 +18,7 @@ use Rattle.policy.proofs.Equal.{has-tok, tok-has, has-row, row-has, has
 use Rattle.policy.proofs.Formed.{Formed, ProvidesAt, at, RowAt, bit, row, GrantAt}
 use Rattle.policy.proofs.Found.{NumberIs, ServiceIs, ServerIs, number-is, service-is, server-is, same-place}
 use Rattle.policy.proofs.ContractAt.{provides-at, calls-at, needs-at, grants-at}
-use Rattle.policy.proofs.Reach.{granted-provided}
+use Rattle.policy.proofs.Facts.{granted-provided}
 
 -- a row stands in a list exactly where a test passes
 row-test : (r : Row) (l : List Row) (b : Bool) → (In r l → T b) → (T b → In r l) → hasRow r l ≡ b

@@ -1,33 +1,30 @@
 -- Kind 3: a service added with its grants. Unmet calls on it become bits; a grant is a bit where its caller is installed, else it waits.
 use Prim.Native.Nat.{ℕ, _<_}
 use mathlib.Core.Path.{_≡_, refl, sym, ap, _∙_, subst}
-use mathlib.Core.Logic.{_⊎_, inl, inr, _↔_, Iff·trans}
-use mathlib.Core.Bool.{Bool, true, false, not, _&&_, _||_}
-use mathlib.Core.List.{List, [], _∷_, _++_, map}
-use mathlib.Core.List.{List·Memᴰ as In, List·Memᴰ·head as here, List·Memᴰ·cases-cons as in-cons, List·Memᴰ·not-nil as in-nil}
+use mathlib.Core.Logic.{_⊎_, inl, inr, _↔_}
+use mathlib.Core.Bool.{Bool, not, _&&_}
+use mathlib.Core.List.{List, [], map}
+use mathlib.Core.List.{List·Memᴰ as In}
 use mathlib.Core.List.{Memᴰ·append-left as in-left, Memᴰ·append-right as in-right, List·Memᴰ·append-cases as in-append, Memᴰ·cast as in-cast}
 use mathlib.Core.Option.{Option, none, some}
-use lib.Dec.{T, eqb, eqb→eq}
-use Rattle.policy.specs.Lists.{every, exists, keep, isSome, orElse, distinct, NoRepeat}
-use Rattle.policy.specs.Contract.{Aid, eqAid, Tok, eqTok, Row, Contract, validAid, hasTok}
+use lib.Dec.{T}
+use Rattle.policy.specs.Lists.{every, exists, keep, isSome, distinct, NoRepeat}
+use Rattle.policy.specs.Contract.{Aid, eqAid, Tok, eqTok, Row, Contract, validAid}
 use Rattle.policy.specs.Layout.{Layout}
 use Rattle.policy.specs.Record.{addService, proper}
-use Rattle.policy.specs.Causes.{_when_, answer}
 use Rattle.policy.specs.Machine.{altered, alter}
 use Rattle.policy.specs.Tables.{Tables, Unmet, Waiting}
-use Rattle.policy.specs.Lookup.{serviceAt, numberOf, freeService, contractAt}
-use Rattle.policy.specs.Draft.{callRow, hasUnmet, asksFor, addServiceAt, kept, draft}
-use Rattle.policy.proofs.Sets.{test, and-l, and-r, and-i, or-l, or-r, or-e, not-i, not-e, false-T}
-use Rattle.policy.proofs.Sets.{every-in, keep-in, in-keep, once-keep, in-map, map-in, once-map, once-append, once-snoc, each-append, distinct→once}
-use Rattle.policy.proofs.Equal.{eqAid→, eqAid-refl, eqAid-of, eqb-of, eqTok→, eqTok-of, tok-has, has-aid, aid-has, has-unmet, unmet-has}
-use Rattle.policy.proofs.Formed.{Names, Bits, Formed, ProvidesAt, at, grantBit, RowAt, bit, row, GrantAt, HasContract, Stands, Turns, KindTurns}
-use Rattle.policy.proofs.Found.{NumberIs, number-is, FreeIs, free-service-is}
-use Rattle.policy.proofs.Answers.{answer-zero}
-use Rattle.policy.proofs.Alter.{stands-alter}
-use Rattle.policy.proofs.Put2.{NewPlace, new-place}
-use Rattle.policy.proofs.Grown.{More, more-others, more-own}
-use Rattle.policy.proofs.Reach.{last-no, granted-provided, at-package}
-use Rattle.policy.proofs.ContractAt.{provides-at}
+use Rattle.policy.specs.Lookup.{serviceAt, numberOf}
+use Rattle.policy.specs.Draft.{callRow, hasUnmet, asksFor, addServiceAt}
+use Rattle.policy.proofs.Sets.{and-l, and-r, and-i, test, not-i, not-e, none-to, every-in, keep-in, in-keep, once-keep, in-map, map-in, once-map, each-map-keep, once-append, each-append}
+use Rattle.policy.proofs.Sets.{distinct→once}
+use Rattle.policy.proofs.Equal.{eqAid→, eqAid-refl, eqAid-of, eqTok→, eqTok-of, row-path, has-aid, aid-has, has-unmet, unmet-has}
+use Rattle.policy.proofs.Put.{NewPlace, new-place, orNew, OldOrNew, old-or-new}
+use Rattle.policy.proofs.Formed.{Names, Bits, grantBit, Formed, ProvidesAt, at, RowAt, bit, row, GrantAt, Stands, Turns, KindTurns}
+use Rattle.policy.proofs.Found.{NumberIs, number-is}
+use Rattle.policy.proofs.Facts.{no-rows, row-kept, need-bits, granted-provided}
+use Rattle.policy.proofs.Reach.{reach-3}
+use Rattle.policy.proofs.Alter.{More, turned-same, turned-more, turned-one, stands-turned}
 
 module _ (L : Layout) (t : Tables) (f : Formed L t) (j k : ℕ) (uj : T (t .used j)) (k< : k < L .services) (free : T (t .provides j k) → ⊥)
     (s : Tok) (fresh : ProvidesAt t j s → ⊥) (l : List Aid) (valid : (b : Aid) → In b l → T (validAid b)) (others : (b : Aid) → In b l → b ≡ t .aid j → ⊥) (once : NoRepeat l) where
@@ -68,43 +65,23 @@ module _ (L : Layout) (t : Tables) (f : Formed L t) (j k : ℕ) (uj : T (t .used
       inj x y z e (inr p) (inl b) = absurd (clash x z y (b .0) (b .1) p (sym e))
       inj x y z e (inr p) (inr q) = f .names .tok-inj x y z p q (sym (place .old-tok x y p) ∙ e ∙ place .old-tok x z q)
 
-  -- ---- a bit that was set, or one of the new service with a caller of c
-  abbrev orNew : (ℕ → ℕ → ℕ → Bool) → (ℕ → Bool) → ℕ → ℕ → ℕ → Bool
-  orNew b c x y z = b x y z || (eqb y j && eqb z k && c x)
-
   module _ (b : ℕ → ℕ → ℕ → Bool) (c : ℕ → Bool) where
-    abbrev OldOrNew : ℕ → ℕ → ℕ → Type 0
-    OldOrNew x y z = T (b x y z) ⊎ ((y ≡ j) × (z ≡ k) × T (c x))
-
-    bit-is : (x y z : ℕ) → T (orNew b c x y z) ↔ OldOrNew x y z
-    bit-is x y z = (λ h. out (or-e (b x y z) (eqb y j && eqb z k && c x) h), into)
-      where
-        out : T (b x y z) ⊎ T (eqb y j && eqb z k && c x) → OldOrNew x y z
-        out (inl h) = inl h
-        out (inr h) =
-            let yz : T (eqb y j && eqb z k) = and-l (eqb y j && eqb z k) (c x) h in
-            inr (eqb→eq y j (and-l (eqb y j) (eqb z k) yz), eqb→eq z k (and-r (eqb y j) (eqb z k) yz), and-r (eqb y j && eqb z k) (c x) h)
-
-        into : OldOrNew x y z → T (orNew b c x y z)
-        into (inl h) = or-l (b x y z) (eqb y j && eqb z k && c x) h
-        into (inr h) = or-r (b x y z) (eqb y j && eqb z k && c x) (and-i (eqb y j && eqb z k) (c x) (and-i (eqb y j) (eqb z k) (eqb-of (h .0)) (eqb-of (h .1))) (h .2))
-
-    bits : Bits (t .used) (t .provides) b → ((x : ℕ) → T (c x) → T (t .used x)) → ((x : ℕ) → T (c x) → x ≡ j → ⊥) → Bits (t .used) (after .provides) (orNew b c)
+    bits : Bits (t .used) (t .provides) b → ((x : ℕ) → T (c x) → T (t .used x)) → ((x : ℕ) → T (c x) → x ≡ j → ⊥) → Bits (t .used) (after .provides) (orNew j k b c)
     bits old u ne = record {
-      by-used = λ x y z h. used x y z (bit-is x y z .0 h);
-      of-prov = λ x y z h. prov x y z (bit-is x y z .0 h);
-      other = λ x y z h. apart x y z (bit-is x y z .0 h);
+      by-used = λ x y z h. used x y z (old-or-new j k b c x y z .0 h);
+      of-prov = λ x y z h. prov x y z (old-or-new j k b c x y z .0 h);
+      other = λ x y z h. apart x y z (old-or-new j k b c x y z .0 h);
     }
       where
-        used : (x y z : ℕ) → OldOrNew x y z → T (t .used x)
+        used : (x y z : ℕ) → OldOrNew j k b c x y z → T (t .used x)
         used x y z (inl h) = old .by-used x y z h
         used x y z (inr h) = u x (h .2)
 
-        prov : (x y z : ℕ) → OldOrNew x y z → T (after .provides y z)
+        prov : (x y z : ℕ) → OldOrNew j k b c x y z → T (after .provides y z)
         prov x y z (inl h) = place .old-prov y z (old .of-prov x y z h)
         prov x y z (inr h) = rw (h .0, h .1) (place .new-prov)
 
-        apart : (x y z : ℕ) → OldOrNew x y z → x ≡ y → ⊥
+        apart : (x y z : ℕ) → OldOrNew j k b c x y z → x ≡ y → ⊥
         apart x y z (inl h) e = old .other x y z h e
         apart x y z (inr h) e = ne x (h .2) (e ∙ h .0)
 
@@ -129,11 +106,7 @@ module _ (L : Layout) (t : Tables) (f : Formed L t) (j k : ℕ) (uj : T (t .used
   lone b = not (isSome (numberOf L t b))
 
   lone-off : (b : Aid) → T (lone b) → NumberIs t b none
-  lone-off b h = go (numberOf L t b) (number-is L t (f .names) b) h
-    where
-      go : (o : Option ℕ) → NumberIs t b o → T (not (isSome o)) → NumberIs t b none
-      go none n q = n
-      go (some x) n q = absurd q
+  lone-off b = none-to (NumberIs t b) (numberOf L t b) (number-is L t (f .names) b)
 
   abbrev wait : ℕ → ℕ → Aid → Waiting
   wait n z b = record { caller = b; callee = n; service = z }
@@ -141,11 +114,8 @@ module _ (L : Layout) (t : Tables) (f : Formed L t) (j k : ℕ) (uj : T (t .used
   abbrev waits : Aid → Waiting
   waits b = wait j k b
 
-  new-row : (w : Waiting) → In w (map waits (keep lone l)) → (b : Aid) × In b l × T (lone b) × (w ≡ waits b)
-  new-row w m =
-      let p = map-in waits (keep lone l) m in
-      let q = keep-in lone l (p .1) in
-      (p .0, q .0, q .1, p .2)
+  each-wait : (P : Waiting → Type 0) → ((b : Aid) → In b l → T (lone b) → P (waits b)) → (w : Waiting) → In w (map waits (keep lone l)) → P w
+  each-wait P = each-map-keep waits P lone l
 
   was-unmet : (u : Unmet) → In u (after .unmet) → In u (t .unmet) × (T (asksFor L t (t .aid j) s u) → ⊥)
   was-unmet u m = let p = keep-in (λ v. not (asksFor L t (t .aid j) s v)) (t .unmet) m in (p .0, not-e (asksFor L t (t .aid j) s u) (p .1))
@@ -157,7 +127,7 @@ module _ (L : Layout) (t : Tables) (f : Formed L t) (j k : ℕ) (uj : T (t .used
         (λ x h e. f .unmet .unmet-other (asks x) (was-asked x h) (ap (t .aid) (sym e)));
     grants = bits (grantBit t) granted (f .grants) (λ x h. and-l (t .used x) (exists (eqAid (t .aid x)) l) h)
         (λ x h e. others (t .aid x) (in-l x h) (ap (t .aid) e));
-    need-call = λ x y z h. bit-is (t .calls) asked x y z .1 (inl (f .need-call x y z h));
+    need-call = λ x y z h. old-or-new j k (t .calls) asked x y z .1 (inl (f .need-call x y z h));
     unmet = record {
       off = record {
         off-used = λ u m. f .unmet .off .off-used u (was-unmet u m .0);
@@ -169,14 +139,14 @@ module _ (L : Layout) (t : Tables) (f : Formed L t) (j k : ℕ) (uj : T (t .used
     };
     waiting = record {
       wait-valid = each-append (t .waiting) (map waits (keep lone l)) (f .waiting .wait-valid)
-          (λ w m. let p = new-row w m in rw (p .3) (valid (p .0) (p .1)));
+          (each-wait (λ w. T (validAid (w .caller))) (λ b m _. valid b m));
       wait-off = each-append (t .waiting) (map waits (keep lone l)) (f .waiting .wait-off)
-          (λ w m n u e. let p = new-row w m in lone-off (p .0) (p .2) n u (e ∙ ap (λ (v : Waiting). v .caller) (p .3)));
+          (each-wait (λ w. (n : ℕ) → T (t .used n) → t .aid n ≡ w .caller → ⊥) (λ b _ h. lone-off b h));
       wait-prov = each-append (t .waiting) (map waits (keep lone l)) (λ w m. place .old-prov (w .callee) (w .service) (f .waiting .wait-prov w m))
-          (λ w m. let p = new-row w m in rw (p .3) (place .new-prov));
+          (each-wait (λ w. T (after .provides (w .callee) (w .service))) (λ b _ _. place .new-prov));
       wait-once = once-append (t .waiting) (map waits (keep lone l)) (f .waiting .wait-once)
           (once-map waits (keep lone l) (λ b c m n e. ap (λ (v : Waiting). v .caller) e) (once-keep lone l once))
-          (λ w m n. let p = new-row w n in free (rw (p .3) at (f .waiting .wait-prov w m)));
+          (λ w m n. each-wait (λ v. T (t .provides (v .callee) (v .service)) → ⊥) (λ b _ _. free) w n (f .waiting .wait-prov w m));
     };
   }
     where
@@ -195,54 +165,46 @@ module _ (L : Layout) (t : Tables) (f : Formed L t) (j k : ℕ) (uj : T (t .used
   service-as : (x y : ℕ) → T (t .provides x y) → serviceAt after x y ≡ serviceAt t x y
   service-as x y p = λ i. record { aid = t .aid x; tok = place .old-tok x y p i }
 
-  more-provided : More (ProvidesAt t) (ProvidesAt after) j (s ∷ [])
+  more-provided : More j (λ x. x ≡ s) (ProvidesAt t) (ProvidesAt after)
   more-provided n x = (cases, back)
     where
-      which : (z : ℕ) → x ≡ after .tok n z → ((n ≡ j) × (z ≡ k)) ⊎ T (t .provides n z) → ProvidesAt t n x ⊎ ((n ≡ j) × In x (s ∷ []))
-      which z e (inl q) = inr (q .0, here (e ∙ tok-new n z (q .0) (q .1)))
+      which : (z : ℕ) → x ≡ after .tok n z → ((n ≡ j) × (z ≡ k)) ⊎ T (t .provides n z) → ProvidesAt t n x ⊎ ((n ≡ j) × (x ≡ s))
+      which z e (inl q) = inr (q .0, e ∙ tok-new n z (q .0) (q .1))
       which z e (inr p) = inl (at z p (e ∙ place .old-tok n z p))
 
-      cases : ProvidesAt after n x → ProvidesAt t n x ⊎ ((n ≡ j) × In x (s ∷ []))
+      cases : ProvidesAt after n x → ProvidesAt t n x ⊎ ((n ≡ j) × (x ≡ s))
       cases (at z p e) = which z e (place .prov-cases n z p)
 
-      old : ProvidesAt t n x → ProvidesAt after n x
-      old (at z p e) = at z (place .old-prov n z p) (e ∙ sym (place .old-tok n z p))
-
-      new : n ≡ j → (x ≡ s) ⊎ In x [] → ProvidesAt after n x
-      new en (inl e) = at k (rw en (place .new-prov)) (e ∙ sym (tok-new n k en refl))
-      new en (inr m) = absurd (in-nil m)
-
-      back : ProvidesAt t n x ⊎ ((n ≡ j) × In x (s ∷ [])) → ProvidesAt after n x
-      back (inl p) = old p
-      back (inr p) = new (p .0) (in-cons (p .1))
+      back : ProvidesAt t n x ⊎ ((n ≡ j) × (x ≡ s)) → ProvidesAt after n x
+      back (inl (at z p e)) = at z (place .old-prov n z p) (e ∙ sym (place .old-tok n z p))
+      back (inr q) = at k (rw (q .0) (place .new-prov)) (q .1 ∙ sym (tok-new n k (q .0) refl))
 
   abbrev grantTo : Aid → Row
   grantTo b = record { aid = b; tok = s }
 
-  more-granted : More (GrantAt t) (GrantAt after) j (map grantTo l)
+  more-granted : More j (λ x. In x (map grantTo l)) (GrantAt t) (GrantAt after)
   more-granted n x = (cases, back)
     where
       -- a grant at the new place to an AID of l
       is-new : (z : ℕ) → n ≡ j → z ≡ k → x .tok ≡ after .tok n z → In (x .aid) l → (n ≡ j) × In x (map grantTo l)
       is-new z en ez q m = let e : x .tok ≡ s = q ∙ tok-new n z en ez in (en, in-cast (λ i. record { aid = x .aid; tok = e i }) (in-map grantTo m))
 
-      by-bit : (i z : ℕ) → x .aid ≡ t .aid i → x .tok ≡ after .tok n z → OldOrNew (grantBit t) granted i n z → GrantAt t n x ⊎ ((n ≡ j) × In x (map grantTo l))
+      by-bit : (i z : ℕ) → x .aid ≡ t .aid i → x .tok ≡ after .tok n z → OldOrNew j k (grantBit t) granted i n z → GrantAt t n x ⊎ ((n ≡ j) × In x (map grantTo l))
       by-bit i z e q (inl b) = inl (bit i z b e (q ∙ place .old-tok n z (f .grants .of-prov i n z b)))
       by-bit i z e q (inr h) = inr (is-new z (h .0) (h .1) q (in-cast e (in-l i (h .2))))
 
       by-row : (z : ℕ) → x .tok ≡ after .tok n z → In (wait n z (x .aid)) (t .waiting) ⊎ In (wait n z (x .aid)) (map waits (keep lone l))
           → GrantAt t n x ⊎ ((n ≡ j) × In x (map grantTo l))
       by-row z q (inl m) = inl (row z m (q ∙ place .old-tok n z (f .waiting .wait-prov (wait n z (x .aid)) m)))
-      by-row z q (inr m) =
-          let p = new-row (wait n z (x .aid)) m in
-          inr (is-new z (ap (λ (v : Waiting). v .callee) (p .3)) (ap (λ (v : Waiting). v .service) (p .3)) q (in-cast (ap (λ (v : Waiting). v .caller) (p .3)) (p .1)))
+      by-row z q (inr m) = inr (each-wait (λ w. wait n z (x .aid) ≡ w → (n ≡ j) × In x (map grantTo l))
+          (λ b i _ e. is-new z (ap (λ (v : Waiting). v .callee) e) (ap (λ (v : Waiting). v .service) e) q (in-cast (ap (λ (v : Waiting). v .caller) e) i)) (wait n z (x .aid)) m refl)
 
       cases : GrantAt after n x → GrantAt t n x ⊎ ((n ≡ j) × In x (map grantTo l))
-      cases (bit i z b e q) = by-bit i z e q (bit-is (grantBit t) granted i n z .0 b)
+      cases (bit i z b e q) = by-bit i z e q (old-or-new j k (grantBit t) granted i n z .0 b)
       cases (row z m q) = by-row z q (in-append (t .waiting) m)
 
       old : GrantAt t n x → GrantAt after n x
-      old (bit i z b e q) = bit i z (bit-is (grantBit t) granted i n z .1 (inl b)) e (q ∙ sym (place .old-tok n z (f .grants .of-prov i n z b)))
+      old (bit i z b e q) = bit i z (old-or-new j k (grantBit t) granted i n z .1 (inl b)) e (q ∙ sym (place .old-tok n z (f .grants .of-prov i n z b)))
       old (row z m q) = row z (in-left (map waits (keep lone l)) m) (q ∙ sym (place .old-tok n z (f .waiting .wait-prov (wait n z (x .aid)) m)))
 
       -- by whether the caller is installed
@@ -250,7 +212,7 @@ module _ (L : Layout) (t : Tables) (f : Formed L t) (j k : ℕ) (uj : T (t .used
       new b m none h g = row k (in-right (t .waiting) (in-map waits (in-keep lone m (g tt)))) (sym (place .new-tok))
       new b m (some i) h g =
           let q : T (granted i) = and-i (t .used i) (exists (eqAid (t .aid i)) l) (h .0) (aid-has (in-cast (h .1) m)) in
-          bit i k (bit-is (grantBit t) granted i j k .1 (inr (refl, refl, q))) (sym (h .1)) (sym (place .new-tok))
+          bit i k (old-or-new j k (grantBit t) granted i j k .1 (inr (refl, refl, q))) (sym (h .1)) (sym (place .new-tok))
 
       back : GrantAt t n x ⊎ ((n ≡ j) × In x (map grantTo l)) → GrantAt after n x
       back (inl p) = old p
@@ -268,14 +230,14 @@ module _ (L : Layout) (t : Tables) (f : Formed L t) (j k : ℕ) (uj : T (t .used
           let es : r .tok ≡ s = eqTok→ (r .tok) s (and-r (eqAid (r .aid) (t .aid j)) (eqTok (r .tok) s) h) in
           let e : r .tok ≡ after .tok j k = es ∙ sym (place .new-tok) in
           let h : T (asked n) = unmet-has (in-cast (λ i. record { callee = sym ea i; tok = sym es i; caller = n }) m) in
-          bit j k (bit-is (t .calls) asked n j k .1 (inr (refl, refl, h))) (λ i. record { aid = ea i; tok = e i })
+          bit j k (old-or-new j k (t .calls) asked n j k .1 (inr (refl, refl, h))) (row-path ea e)
       met m (inr h) = row (in-keep (λ v. not (asksFor L t (t .aid j) s v)) m (not-i (asksFor L t (t .aid j) s (callRow n r)) h))
 
       there : RowAt t (t .calls) (t .unmet) n r → RowAt after (after .calls) (after .unmet) n r
-      there (bit y z b e) = bit y z (bit-is (t .calls) asked n y z .1 (inl b)) (e ∙ sym (service-as y z (f .calls .of-prov n y z b)))
+      there (bit y z b e) = bit y z (old-or-new j k (t .calls) asked n y z .1 (inl b)) (e ∙ sym (service-as y z (f .calls .of-prov n y z b)))
       there (row m) = met m (test (asksFor L t (t .aid j) s (callRow n r)))
 
-      was : (y z : ℕ) → r ≡ serviceAt after y z → OldOrNew (t .calls) asked n y z → RowAt t (t .calls) (t .unmet) n r
+      was : (y z : ℕ) → r ≡ serviceAt after y z → OldOrNew j k (t .calls) asked n y z → RowAt t (t .calls) (t .unmet) n r
       was y z e (inl b) = bit y z b (e ∙ service-as y z (f .calls .of-prov n y z b))
       was y z e (inr h) =
           let es : r .tok ≡ s = ap (λ (v : Row). v .tok) e ∙ tok-new y z (h .0) (h .1) in
@@ -283,64 +245,31 @@ module _ (L : Layout) (t : Tables) (f : Formed L t) (j k : ℕ) (uj : T (t .used
           row (in-cast (λ i. record { callee = ea i; tok = es i; caller = n }) (was-asked n (h .2)))
 
       back : RowAt after (after .calls) (after .unmet) n r → RowAt t (t .calls) (t .unmet) n r
-      back (bit y z b e) = was y z e (bit-is (t .calls) asked n y z .0 b)
+      back (bit y z b e) = was y z e (old-or-new j k (t .calls) asked n y z .0 b)
       back (row m) = row (was-unmet (callRow n r) m .0)
 
   needs-as : (n : ℕ) (r : Row) → RowAt t (t .needs) [] n r ↔ RowAt after (t .needs) [] n r
-  needs-as n r = (there, back)
-    where
-      prov : (y z : ℕ) → T (t .needs n y z) → T (t .provides y z)
-      prov y z b = f .calls .of-prov n y z (f .need-call n y z b)
+  needs-as n = row-kept t after n (t .needs) [] (λ y z h. sym (service-as y z (need-bits L t f .of-prov n y z h)))
 
-      there : RowAt t (t .needs) [] n r → RowAt after (t .needs) [] n r
-      there (bit y z b e) = bit y z b (e ∙ sym (service-as y z (prov y z b)))
-      there (row m) = row m
-
-      back : RowAt after (t .needs) [] n r → RowAt t (t .needs) [] n r
-      back (bit y z b e) = bit y z b (e ∙ service-as y z (prov y z b))
-      back (row m) = row m
-
-  -- ---- the package's contract gets the service and its grants, every other one stays
-  has : (n : ℕ) (c : Contract) (p : List Tok) (g : List Row) → HasContract t [] n c → ((x : Tok) → In x p ↔ ProvidesAt after n x) → ((x : Row) → In x g ↔ GrantAt after n x)
-      → HasContract after [] n (record { aid = c .aid; provides = p; calls = c .calls; grants = g; needs = c .needs })
-  has n c p g h e q = record
-      { aid = h .aid; provides = e; calls = λ r. Iff·trans (h .calls r) (calls-as n r); grants = q; needs = λ r. Iff·trans (h .needs r) (needs-as n r) }
-
+  -- ---- the package's contract gets the service and its grants
   service-turns : (cs : List Contract) (a : Aid) → Stands t [] cs → t .aid j ≡ a → Turns L (addServiceAt L t j k s l) (alter a (altered (addService s l)) cs)
   service-turns cs a st aj = record {
     formed = formed;
-    lost-off = record { off-used = λ u m. absurd (in-nil m); off-card = λ u m. absurd (in-nil m) };
-    stands = stands-alter L t after [] cs a (altered (addService s l)) j (f .names) st uj aj refl refl (λ c. refl)
-        (λ n c u ne h. has n c (c .provides) (c .grants) h
-        (more-others (ProvidesAt t) (ProvidesAt after) j (s ∷ []) more-provided n ne (c .provides) (h .provides))
-        (more-others (GrantAt t) (GrantAt after) j (map grantTo l) more-granted n ne (c .grants) (h .grants)))
-        (λ c h. has j c (c .provides ++ (s ∷ [])) (c .grants ++ map grantTo l) h
-        (more-own (ProvidesAt t) (ProvidesAt after) j (s ∷ []) more-provided (c .provides) (h .provides))
-        (more-own (GrantAt t) (GrantAt after) j (map grantTo l) more-granted (c .grants) (h .grants)))
-        (λ c h d. record {
-          provides = once-snoc (c .provides) s (d .provides) (λ m. fresh (h .provides s .0 m));
-          calls = d .calls;
-          grants = once-append (c .grants) (map grantTo l) (d .grants) (once-map grantTo l (λ x y m n e. ap (λ (v : Row). v .aid) e) once)
-              (λ x m n. fresh (subst (ProvidesAt t j) (ap (λ (v : Row). v .tok) (map-in grantTo l n .2)) (granted-provided L t f j x (h .grants x .0 m))));
-          needs = d .needs;
-        });
+    lost-off = no-rows after;
+    stands = stands-turned L t after [] cs a j (f .names) st uj aj refl refl
+        (turned-one s more-provided fresh)
+        (turned-same uj (λ n _. calls-as n))
+        (turned-more (λ x. In x (map grantTo l)) (map grantTo l) (λ x. (λ m. m, λ m. m)) (once-map grantTo l (λ x y m n e. ap (λ (v : Row). v .aid) e) once) more-granted
+        (λ x m g. fresh (subst (ProvidesAt t j) (ap (λ (v : Row). v .tok) (map-in grantTo l m .2)) (granted-provided L t f j x g))))
+        (turned-same uj (λ n _. needs-as n));
   }
 
 pub kind-3 : (s : Tok) (l : List Aid) → KindTurns (addService s l)
-unfolding draft proper
-kind-3 s l L t cs a f st va vl pr e =
-    at-package L t (f .names) (λ d. Turns L d (alter a (altered (addService s l)) cs)) (λ j. orElse (freeService L t j) (kept t) (λ k. addServiceAt L t j k s l)) a
-    (λ o. 6 when orElse o false (λ i. hasTok s (contractAt L t i .provides)) ∷ 7 when orElse o false (λ j. not (isSome (freeService L t j))) ∷ []) e
-    (λ j uj aj q.
-    let p = answer-zero 5 (hasTok s (contractAt L t j .provides)) (7 when not (isSome (freeService L t j)) ∷ []) q in
-    at-free j uj aj (λ h. false-T (p .0) (tok-has (provides-at L t f j s .1 h))) (freeService L t j) (free-service-is L t j) (p .1))
+unfolding proper
+kind-3 s l L t cs a f st va vl pr =
+    reach-3 L t f a (λ d _. Turns L d (alter a (altered (addService s l)) cs)) s l (λ j k uj aj fresh free.
+    service-turns L t f j k uj (free .0) (free .1) s fresh l vl (λ b m e. apart b m (e ∙ aj))
+    (distinct→once eqAid eqAid→ eqAid-refl l (and-r (every (λ b. not (eqAid b a)) l) (distinct eqAid l) pr)) cs a st aj)
   where
     apart : (b : Aid) → In b l → b ≡ a → ⊥
     apart b m e = not-e (eqAid b a) (every-in (λ b. not (eqAid b a)) l (and-l (every (λ b. not (eqAid b a)) l) (distinct eqAid l) pr) m) (eqAid-of e)
-
-    at-free : (j : ℕ) → T (t .used j) → t .aid j ≡ a → (ProvidesAt t j s → ⊥) → (o : Option ℕ) → FreeIs (L .services) (t .provides j) o
-        → answer (7 when not (isSome o) ∷ []) ≡ 0 → Turns L (orElse o (kept t) (λ k. addServiceAt L t j k s l)) (alter a (altered (addService s l)) cs)
-    at-free j uj aj fresh none h q = absurd (last-no 6 true q tt)
-    at-free j uj aj fresh (some k) h q =
-        service-turns L t f j k uj (h .0) (h .1) s fresh l vl (λ b m e. apart b m (e ∙ aj))
-        (distinct→once eqAid eqAid→ eqAid-refl l (and-r (every (λ b. not (eqAid b a)) l) (distinct eqAid l) pr)) cs a st aj

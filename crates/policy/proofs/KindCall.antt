@@ -1,59 +1,29 @@
 -- Kinds 5 and 6: a call of package i added or removed.
 use Prim.Native.Nat.{ℕ}
-use mathlib.Core.Path.{_≡_, refl, sym, ap, _∙_, subst}
-use mathlib.Core.Logic.{_⊎_, inl, inr}
+use mathlib.Core.Path.{_≡_, refl, sym, ap, _∙_}
 use mathlib.Core.Bool.{Bool, true, false, not}
 use mathlib.Core.List.{List, [], _∷_, _++_}
 use mathlib.Core.List.{List·Memᴰ as In, List·Memᴰ·not-nil as in-nil}
 use mathlib.Core.Option.{Option, none, some}
 use lib.Dec.{T}
-use Rattle.policy.specs.Lists.{keep, orElse}
-use Rattle.policy.specs.Contract.{Aid, eqAid, Row, Contract, hasRow, validAid}
+use Rattle.policy.specs.Lists.{keep}
+use Rattle.policy.specs.Contract.{Aid, eqAid, Row, Contract, validAid}
 use Rattle.policy.specs.Layout.{Layout}
 use Rattle.policy.specs.Record.{addCall, removeCall, proper}
-use Rattle.policy.specs.Causes.{_when_}
-use Rattle.policy.specs.Machine.{alter, altered, effect, withoutRow}
+use Rattle.policy.specs.Machine.{alter, altered}
 use Rattle.policy.specs.Tables.{Tables, Unmet}
-use Rattle.policy.specs.Lookup.{Place, serverOf, contractAt}
+use Rattle.policy.specs.Lookup.{Place}
 use Rattle.policy.specs.Sound.{eqUnmet}
-use Rattle.policy.specs.Draft.{callRow, put3, addCallAt, removeCallAt, kept, draft}
-use Rattle.policy.proofs.Sets.{false-T, not-e, each-snoc, keep-in, once-snoc, once-keep}
-use Rattle.policy.proofs.Equal.{eqAid-of, row-has}
-use Rattle.policy.proofs.Formed.{Bits, UnmetRows, Formed, RowAt, row, Stands, Turns, KindTurns}
-use Rattle.policy.proofs.Found.{ServerIs, server-is}
-use Rattle.policy.proofs.Answers.{answer-zero}
-use Rattle.policy.proofs.Put.{At, put3-cases, put3-keep, put3-less}
-use Rattle.policy.proofs.ContractAt.{calls-at}
-use Rattle.policy.proofs.AtNumber.{at-number}
-use Rattle.policy.proofs.Rows.{row-same, row-more, row-less, bit-more, bit-less, turned-same, turned-more, turned-less, after, stands-rows, no-lost, is-service, no-bit, one-bit, no-row}
-
--- ---- bits with one more or one less
-module _ {used : ℕ → Bool} {provides : ℕ → ℕ → Bool} {b : ℕ → ℕ → ℕ → Bool} (i j k : ℕ) (h : Bits used provides b) where
-  bits-more : T (used i) → T (provides j k) → (i ≡ j → ⊥) → Bits used provides (put3 i j k true b)
-  bits-more ui p ne = record {
-    by-used = λ x y z m. by x y z (put3-cases i j k b x y z m);
-    of-prov = λ x y z m. prov x y z (put3-cases i j k b x y z m);
-    other = λ x y z m. differ x y z (put3-cases i j k b x y z m);
-  }
-    where
-      by : (x y z : ℕ) → At i j k x y z ⊎ T (b x y z) → T (used x)
-      by x y z (inl e) = subst (λ (w : ℕ). T (used w)) (sym (e .0)) ui
-      by x y z (inr m) = h .by-used x y z m
-
-      prov : (x y z : ℕ) → At i j k x y z ⊎ T (b x y z) → T (provides y z)
-      prov x y z (inl e) = rw (e .1, e .2) p
-      prov x y z (inr m) = h .of-prov x y z m
-
-      differ : (x y z : ℕ) → At i j k x y z ⊎ T (b x y z) → x ≡ y → ⊥
-      differ x y z (inl e) q = ne (sym (e .0) ∙ q ∙ e .1)
-      differ x y z (inr m) q = h .other x y z m q
-
-  bits-less : Bits used provides (put3 i j k false b)
-  bits-less = record {
-    by-used = λ x y z m. h .by-used x y z (put3-less i j k b x y z .0 m .0);
-    of-prov = λ x y z m. h .of-prov x y z (put3-less i j k b x y z .0 m .0);
-    other = λ x y z m. h .other x y z (put3-less i j k b x y z .0 m .0);
-  }
+use Rattle.policy.specs.Draft.{callRow, put3, addCallAt, removeCallAt}
+use Rattle.policy.proofs.Sets.{not-e, once-snoc, keep-in, once-keep, each-snoc}
+use Rattle.policy.proofs.Equal.{eqAid-of}
+use Rattle.policy.proofs.Put.{put3-keep, put3-cases, put3-less}
+use Rattle.policy.proofs.Formed.{UnmetRows, Formed, RowAt, row, Stands, Turns, KindTurns}
+use Rattle.policy.proofs.Found.{ServerIs}
+use Rattle.policy.proofs.Facts.{no-rows, row-kept, bits-sub, bits-more, need-bits}
+use Rattle.policy.proofs.Reach.{reach-5, reach-6}
+use Rattle.policy.proofs.Alter.{turned-same, turned-one}
+use Rattle.policy.proofs.Rows.{turned-without, row-more, row-less, bit-more, bit-less, recalled, turns-calls, is-service, no-bit, one-bit, no-row}
 
 module _ (L : Layout) (t : Tables) (cs : List Contract) (a : Aid) (fo : Formed L t) (st : Stands t [] cs) (r : Row)
     (i : ℕ) (ui : T (t .used i)) (ai : t .aid i ≡ a) where
@@ -75,33 +45,20 @@ module _ (L : Layout) (t : Tables) (cs : List Contract) (a : Aid) (fo : Formed L
     more-call : (o : Option Place) → ServerIs t r o → Turns L (addCallAt L t i r o) (alter a (altered (addCall r)) cs)
     more-call none s =
         let u = t .unmet ++ (callRow i r ∷ []) in
-        let t′ = after L t (t .calls) (t .needs) u [] in
-        record {
-          formed = record { names = fo .names; calls = fo .calls; grants = fo .grants; need-call = fo .need-call; unmet = unmet-more s; waiting = fo .waiting };
-          lost-off = no-lost t;
-          stands = stands-rows L t (t .calls) (t .needs) u [] cs a i (λ l. l ++ (r ∷ [])) (λ l. l) fo st ui ai
-              (turned-more i r (row-more t t′ (λ j k. refl) (t .calls) (t .unmet) i r) new)
-              (turned-same i (row-same t t′ (λ j k. refl) (t .needs) []));
-        }
+        let t′ = recalled t (t .calls) (t .needs) u in
+        turns-calls L t cs a fo st i ui ai (t .calls) (t .needs) u [] (fo .calls) (fo .need-call) (unmet-more s) (no-rows t)
+        (turned-one r (row-more t t′ (λ j k. refl) (t .calls) (t .unmet) i r) new)
+        (turned-same ui (λ n _. row-kept t t′ n (t .needs) [] (λ j k _. refl)))
     more-call (some p) s =
         let j = p .callee in
         let k = p .service in
         let c = put3 i j k true (t .calls) in
-        let t′ = after L t c (t .needs) (t .unmet) [] in
-        record {
-          formed = record {
-            names = fo .names;
-            calls = bits-more i j k (fo .calls) ui (s .0) (λ e. other (sym (s .1) ∙ ap (t .aid) (sym e) ∙ ai));
-            grants = fo .grants;
-            need-call = λ x y z h. put3-keep i j k (t .calls) x y z (fo .need-call x y z h);
-            unmet = fo .unmet;
-            waiting = fo .waiting;
-          };
-          lost-off = no-lost t;
-          stands = stands-rows L t c (t .needs) (t .unmet) [] cs a i (λ l. l ++ (r ∷ [])) (λ l. l) fo st ui ai
-              (turned-more i r (bit-more t t′ (λ y z. refl) (t .calls) (t .unmet) i r j k (is-service t r p s)) new)
-              (turned-same i (row-same t t′ (λ y z. refl) (t .needs) []));
-        }
+        let t′ = recalled t c (t .needs) (t .unmet) in
+        turns-calls L t cs a fo st i ui ai c (t .needs) (t .unmet) []
+        (bits-more i j k (fo .calls) ui (s .0) (λ e. other (sym (s .1) ∙ ap (t .aid) (sym e) ∙ ai)) (put3-cases i j k (t .calls)))
+        (λ x y z h. put3-keep i j k (t .calls) x y z (fo .need-call x y z h)) (fo .unmet) (no-rows t)
+        (turned-one r (bit-more t t′ (λ y z. refl) (t .calls) (t .unmet) i r j k (is-service t r p s)) new)
+        (turned-same ui (λ n _. row-kept t t′ n (t .needs) [] (λ j k _. refl)))
 
   -- ---- kind 6
   unmet-less : UnmetRows (t .used) (t .aid) (t .tok) (t .provides) (keep (λ u. not (eqUnmet (callRow i r) u)) (t .unmet))
@@ -124,50 +81,25 @@ module _ (L : Layout) (t : Tables) (cs : List Contract) (a : Aid) (fo : Formed L
   less-call : (o : Option Place) → ServerIs t r o → Turns L (removeCallAt L t i r o) (alter a (altered (removeCall r)) cs)
   less-call none s =
       let u = keep (λ v. not (eqUnmet (callRow i r) v)) (t .unmet) in
-      let t′ = after L t (t .calls) (t .needs) u [] in
-      record {
-        formed = record { names = fo .names; calls = fo .calls; grants = fo .grants; need-call = fo .need-call; unmet = unmet-less; waiting = fo .waiting };
-        lost-off = no-lost t;
-        stands = stands-rows L t (t .calls) (t .needs) u [] cs a i (withoutRow r) (withoutRow r) fo st ui ai
-            (turned-less i r (row-less t t′ (λ j k. refl) (t .calls) (t .unmet) i r (no-bit L t fo (t .calls) (λ x y z h. h) r s i)))
-            (turned-less i r (row-less t t′ (λ j k. refl) (t .needs) [] i r (no-bit L t fo (t .needs) (fo .need-call) r s i)));
-      }
+      let t′ = recalled t (t .calls) (t .needs) u in
+      turns-calls L t cs a fo st i ui ai (t .calls) (t .needs) u [] (fo .calls) (fo .need-call) unmet-less (no-rows t)
+      (turned-without r (row-less t t′ (λ j k. refl) (t .calls) (t .unmet) i r (no-bit L t fo (fo .calls) r s i)))
+      (turned-without r (row-less t t′ (λ j k. refl) (t .needs) [] i r (no-bit L t fo (need-bits L t fo) r s i)))
   less-call (some p) s =
       let j = p .callee in
       let k = p .service in
       let c = put3 i j k false (t .calls) in
       let d = put3 i j k false (t .needs) in
-      let t′ = after L t c d (t .unmet) [] in
-      record {
-        formed = record {
-          names = fo .names;
-          calls = bits-less i j k (fo .calls);
-          grants = fo .grants;
-          need-call = λ x y z h. let q = put3-less i j k (t .needs) x y z .0 h in put3-less i j k (t .calls) x y z .1 (fo .need-call x y z (q .0), q .1);
-          unmet = fo .unmet;
-          waiting = fo .waiting;
-        };
-        lost-off = no-lost t;
-        stands = stands-rows L t c d (t .unmet) [] cs a i (withoutRow r) (withoutRow r) fo st ui ai
-            (turned-less i r (bit-less t t′ (λ y z. refl) (t .calls) (t .unmet) i r j k (is-service t r p s) (one-bit L t fo (t .calls) (λ x y z h. h) j k (s .0) i) (no-row L t fo r p s i)))
-            (turned-less i r (bit-less t t′ (λ y z. refl) (t .needs) [] i r j k (is-service t r p s) (one-bit L t fo (t .needs) (fo .need-call) j k (s .0) i) in-nil));
-      }
-
-not-own : (r : Row) (a : Aid) → T (not (eqAid (r .aid) a)) → r .aid ≡ a → ⊥
-not-own r a h e = not-e (eqAid (r .aid) a) h (eqAid-of e)
+      let t′ = recalled t c d (t .unmet) in
+      turns-calls L t cs a fo st i ui ai c d (t .unmet) [] (bits-sub (fo .calls) (λ x y z h. put3-less i j k (t .calls) x y z .0 h .0))
+      (λ x y z h. let q = put3-less i j k (t .needs) x y z .0 h in put3-less i j k (t .calls) x y z .1 (fo .need-call x y z (q .0), q .1)) (fo .unmet) (no-rows t)
+      (turned-without r (bit-less t t′ (λ y z. refl) (t .calls) (t .unmet) i r j k (is-service t r p s) (one-bit L t fo (fo .calls) j k (s .0) i) (no-row L t fo r p s i)))
+      (turned-without r (bit-less t t′ (λ y z. refl) (t .needs) [] i r j k (is-service t r p s) (one-bit L t fo (need-bits L t fo) j k (s .0) i) in-nil))
 
 pub kind-5 : (r : Row) → KindTurns (addCall r)
-unfolding draft proper
-kind-5 r L t cs a fo st va vr own ans =
-    at-number L t (fo .names) a (λ o. Turns L (orElse o (kept t) (λ i. addCallAt L t i r (serverOf L t r))) (effect cs a (addCall r)))
-    (λ o. 6 when orElse o false (λ i. hasRow r (contractAt L t i .calls)) ∷ []) ans
-    (λ i ui ai six.
-    let h = false-T (answer-zero 5 (hasRow r (contractAt L t i .calls)) [] six .0) in
-    more-call L t cs a fo st r i ui ai vr (not-own r a own) (λ m. h (row-has (calls-at L t fo i r .1 m))) (serverOf L t r) (server-is L t (fo .names) r))
+unfolding proper
+kind-5 r L t cs a fo st va vr own =
+    reach-5 L t fo a (λ d _. Turns L d (alter a (altered (addCall r)) cs)) r (λ i ui ai. more-call L t cs a fo st r i ui ai vr (λ e. not-e (eqAid (r .aid) a) own (eqAid-of e)))
 
 pub kind-6 : (r : Row) → KindTurns (removeCall r)
-unfolding draft
-kind-6 r L t cs a fo st va vr own ans =
-    at-number L t (fo .names) a (λ o. Turns L (orElse o (kept t) (λ i. removeCallAt L t i r (serverOf L t r))) (effect cs a (removeCall r)))
-    (λ o. 6 when not (orElse o false (λ i. hasRow r (contractAt L t i .calls))) ∷ []) ans
-    (λ i ui ai six. less-call L t cs a fo st r i ui ai (serverOf L t r) (server-is L t (fo .names) r))
+kind-6 r L t cs a fo st va vr own = reach-6 L t fo a (λ d _. Turns L d (alter a (altered (removeCall r)) cs)) r (less-call L t cs a fo st r)

@@ -1,82 +1,30 @@
 -- Kinds 7 and 8: a grant added, a grant removed. It is a bit where its caller is installed, else a row that waits.
 use Prim.Native.Nat.{ℕ}
 use mathlib.Core.Path.{_≡_, refl, sym, ap, _∙_, subst}
-use mathlib.Core.Logic.{_⊎_, inl, inr, _↔_, Iff·trans}
-use mathlib.Core.Bool.{Bool, true, false, not, _||_}
+use mathlib.Core.Logic.{_⊎_, inl, inr}
+use mathlib.Core.Bool.{true, false, not}
 use mathlib.Core.List.{List, [], _∷_, _++_}
-use mathlib.Core.List.{List·Memᴰ as In, List·Memᴰ·head as here, List·Memᴰ·cases-cons as in-cons, List·Memᴰ·not-nil as in-nil}
+use mathlib.Core.List.{List·Memᴰ as In, List·Memᴰ·head as here}
 use mathlib.Core.List.{Memᴰ·append-left as in-left, Memᴰ·append-right as in-right, List·Memᴰ·append-cases as in-append}
 use mathlib.Core.Option.{Option, none, some}
 use lib.Dec.{T}
-use Rattle.policy.specs.Lists.{keep, orElse, NoRepeat}
-use Rattle.policy.specs.Contract.{Aid, eqAid, Tok, Row, eqRow, Contract, validAid, hasTok, hasRow}
+use Rattle.policy.specs.Lists.{keep}
+use Rattle.policy.specs.Contract.{Aid, eqAid, Row, Contract, validAid}
 use Rattle.policy.specs.Layout.{Layout}
 use Rattle.policy.specs.Record.{addGrant, removeGrant, proper}
-use Rattle.policy.specs.Causes.{_when_}
-use Rattle.policy.specs.Machine.{withoutRow, altered, alter}
-use Rattle.policy.specs.Tables.{Tables, Unmet, Waiting}
-use Rattle.policy.specs.Lookup.{numberOf, contractAt}
+use Rattle.policy.specs.Machine.{altered, alter}
+use Rattle.policy.specs.Tables.{Tables, Waiting}
 use Rattle.policy.specs.Sound.{eqWaiting}
-use Rattle.policy.specs.Draft.{kept, withGrants, put3, addGrantAt, removeGrantAt, draft}
-use Rattle.policy.proofs.Sets.{not-i, not-e, or-l, or-r, keep-in, in-keep, once-keep, once-snoc, each-snoc}
-use Rattle.policy.proofs.Equal.{eqAid-of, eqRow→, eqRow-refl, eqWaiting→, eqWaiting-refl, has-tok, has-row, row-has}
-use Rattle.policy.proofs.Formed.{Bits, WaitingRows, Formed, ProvidesAt, at, RowAt, bit, row, GrantAt, HasContract, Stands, Turns, KindTurns}
-use Rattle.policy.proofs.Found.{NumberIs, number-is}
-use Rattle.policy.proofs.Alter.{stands-alter}
+use Rattle.policy.specs.Draft.{put3, addGrantAt, removeGrantAt}
+use Rattle.policy.proofs.Sets.{not-i, not-e, once-snoc, keep-in, in-keep, once-keep, each-one, each-snoc}
+use Rattle.policy.proofs.Equal.{eqAid-of, row-path, eqWaiting→, eqWaiting-refl}
 use Rattle.policy.proofs.Put.{At, put3-new, put3-keep, put3-cases, put3-less}
-use Rattle.policy.proofs.Grown.{More, more-others, more-own}
-use Rattle.policy.proofs.Reach.{last-no, not-no, granted-provided, at-place}
-use Rattle.policy.proofs.ContractAt.{provides-at, grants-at}
-
--- ---- tables with other grants, and all else as it was
-module _ (t : Tables) (g : ℕ → ℕ → ℕ → Bool) (w : List Waiting) where
-  provides-as : (n : ℕ) (s : Tok) → ProvidesAt t n s ↔ ProvidesAt (withGrants g w t) n s
-  provides-as n s = (there, back)
-    where
-      there : ProvidesAt t n s → ProvidesAt (withGrants g w t) n s
-      there (at k p e) = at k p e
-
-      back : ProvidesAt (withGrants g w t) n s → ProvidesAt t n s
-      back (at k p e) = at k p e
-
-  row-as : (b : ℕ → ℕ → ℕ → Bool) (l : List Unmet) (n : ℕ) (r : Row) → RowAt t b l n r ↔ RowAt (withGrants g w t) b l n r
-  row-as b l n r = (there, back)
-    where
-      there : RowAt t b l n r → RowAt (withGrants g w t) b l n r
-      there (bit j k h e) = bit j k h e
-      there (row m) = row m
-
-      back : RowAt (withGrants g w t) b l n r → RowAt t b l n r
-      back (bit j k h e) = bit j k h e
-      back (row m) = row m
-
-  regranted : (n : ℕ) (c : Contract) (l : List Row) → HasContract t [] n c → ((x : Row) → In x l ↔ GrantAt (withGrants g w t) n x)
-      → HasContract (withGrants g w t) [] n (record { aid = c .aid; provides = c .provides; calls = c .calls; grants = l; needs = c .needs })
-  regranted n c l h e = record {
-    aid = h .aid;
-    provides = λ s. Iff·trans (h .provides s) (provides-as n s);
-    calls = λ r. Iff·trans (h .calls r) (row-as (t .calls) (t .unmet) n r);
-    grants = e;
-    needs = λ r. Iff·trans (h .needs r) (row-as (t .needs) [] n r);
-  }
-
-  -- what the grants have to satisfy: f makes the list of package j's grants
-  turns : (L : Layout) (cs : List Contract) (a : Aid) (j : ℕ) (f : List Row → List Row) → Formed L t → Stands t [] cs → T (t .used j) → t .aid j ≡ a
-      → Bits (t .used) (t .provides) (λ x y z. g y x z) → WaitingRows (t .used) (t .aid) (t .provides) w
-      → ((n : ℕ) → (n ≡ j → ⊥) → (l : List Row) → ((x : Row) → In x l ↔ GrantAt t n x) → (x : Row) → In x l ↔ GrantAt (withGrants g w t) n x)
-      → ((l : List Row) → ((x : Row) → In x l ↔ GrantAt t j x) → (x : Row) → In x (f l) ↔ GrantAt (withGrants g w t) j x)
-      → ((l : List Row) → ((x : Row) → In x l ↔ GrantAt t j x) → NoRepeat l → NoRepeat (f l))
-      → Turns L (kept (withGrants g w t))
-      (alter a (λ c. record { aid = c .aid; provides = c .provides; calls = c .calls; grants = f (c .grants); needs = c .needs }) cs)
-  turns L cs a j f h st uj aj bits rows others own once = record {
-    formed = record { names = h .names; calls = h .calls; grants = bits; need-call = h .need-call; unmet = h .unmet; waiting = rows };
-    lost-off = record { off-used = λ u m. absurd (in-nil m); off-card = λ u m. absurd (in-nil m) };
-    stands = stands-alter L t (withGrants g w t) [] cs a (λ c. record { aid = c .aid; provides = c .provides; calls = c .calls; grants = f (c .grants); needs = c .needs }) j
-        (h .names) st uj aj refl refl (λ c. refl)
-        (λ n c u ne k. regranted n c (c .grants) k (others n ne (c .grants) (k .grants)))
-        (λ c k. regranted j c (f (c .grants)) k (own (c .grants) (k .grants)))
-        (λ c k s. record { provides = s .provides; calls = s .calls; grants = once (c .grants) (k .grants) (s .grants); needs = s .needs });
-  }
+use Rattle.policy.proofs.Formed.{Formed, bit, row, GrantAt, Stands, Turns, KindTurns}
+use Rattle.policy.proofs.Found.{NumberIs}
+use Rattle.policy.proofs.Facts.{bits-sub, bits-more}
+use Rattle.policy.proofs.Reach.{reach-7, reach-8}
+use Rattle.policy.proofs.Alter.{More, Less, turned-one}
+use Rattle.policy.proofs.Rows.{turned-without, turns-grants}
 
 -- ---- the grant r of service k of package j
 module _ (L : Layout) (t : Tables) (f : Formed L t) (r : Row) (j k : ℕ) (pk : T (t .provides j k)) (ek : t .tok j k ≡ r .tok) where
@@ -88,9 +36,7 @@ module _ (L : Layout) (t : Tables) (f : Formed L t) (r : Row) (j k : ℕ) (pk : 
   is-k z p e = f .names .tok-inj j z k p pk (sym e ∙ sym ek)
 
   is-r : (n z : ℕ) (x : Row) → x .aid ≡ r .aid → n ≡ j → z ≡ k → x .tok ≡ t .tok n z → x ≡ r
-  is-r n z x ea en ez et =
-      let e : x .tok ≡ r .tok = et ∙ (λ i. t .tok (en i) (ez i)) ∙ ek in
-      λ i. record { aid = ea i; tok = e i }
+  is-r n z x ea en ez et = row-path ea (et ∙ (λ i. t .tok (en i) (ez i)) ∙ ek)
 
   abbrev wait : Aid → ℕ → ℕ → Waiting
   wait b n z = record { caller = b; callee = n; service = z }
@@ -109,43 +55,33 @@ module _ (L : Layout) (t : Tables) (f : Formed L t) (r : Row) (j k : ℕ) (pk : 
   new none h = row k (in-right (t .waiting) (here refl)) (sym ek)
   new (some i) h = bit i k (put3-new j i k (t .grants)) (sym (h .1)) (sym ek)
 
-  cases : (o : Option ℕ) → NumberIs t (r .aid) o → (n : ℕ) (x : Row) → GrantAt (added o) n x → GrantAt t n x ⊎ ((n ≡ j) × In x (r ∷ []))
+  cases : (o : Option ℕ) → NumberIs t (r .aid) o → (n : ℕ) (x : Row) → GrantAt (added o) n x → GrantAt t n x ⊎ ((n ≡ j) × (x ≡ r))
   cases none h n x (bit i z b e q) = inl (bit i z b e q)
   cases none h n x (row z m q) = split (in-append (t .waiting) m)
     where
-      last : (wait (x .aid) n z ≡ asked) ⊎ In (wait (x .aid) n z) [] → (n ≡ j) × In x (r ∷ [])
-      last (inl e) =
-          let en : n ≡ j = ap (λ (y : Waiting). y .callee) e in
-          (en, here (is-r n z x (ap (λ (y : Waiting). y .caller) e) en (ap (λ (y : Waiting). y .service) e) q))
-      last (inr p) = absurd (in-nil p)
+      last : wait (x .aid) n z ≡ asked → (n ≡ j) × (x ≡ r)
+      last e = let en : n ≡ j = ap (λ (y : Waiting). y .callee) e in (en, is-r n z x (ap (λ (y : Waiting). y .caller) e) en (ap (λ (y : Waiting). y .service) e) q)
 
-      split : In (wait (x .aid) n z) (t .waiting) ⊎ In (wait (x .aid) n z) (asked ∷ []) → GrantAt t n x ⊎ ((n ≡ j) × In x (r ∷ []))
+      split : In (wait (x .aid) n z) (t .waiting) ⊎ In (wait (x .aid) n z) (asked ∷ []) → GrantAt t n x ⊎ ((n ≡ j) × (x ≡ r))
       split (inl p) = inl (row z p q)
-      split (inr p) = inr (last (in-cons p))
+      split (inr p) = inr (last (each-one (λ y. y ≡ asked) asked refl (wait (x .aid) n z) p))
   cases (some i) h n x (bit y z b e q) = split (put3-cases j i k (t .grants) n y z b)
     where
-      split : At j i k n y z ⊎ T (t .grants n y z) → GrantAt t n x ⊎ ((n ≡ j) × In x (r ∷ []))
-      split (inl p) = inr (p .0, here (is-r n z x (e ∙ ap (t .aid) (p .1) ∙ h .1) (p .0) (p .2) q))
+      split : At j i k n y z ⊎ T (t .grants n y z) → GrantAt t n x ⊎ ((n ≡ j) × (x ≡ r))
+      split (inl p) = inr (p .0, is-r n z x (e ∙ ap (t .aid) (p .1) ∙ h .1) (p .0) (p .2) q)
       split (inr b) = inl (bit y z b e q)
   cases (some i) h n x (row z m q) = inl (row z m q)
 
-  more : (o : Option ℕ) → NumberIs t (r .aid) o → More (GrantAt t) (GrantAt (added o)) j (r ∷ [])
+  more : (o : Option ℕ) → NumberIs t (r .aid) o → More j (λ x. x ≡ r) (GrantAt t) (GrantAt (added o))
   more o h n x = (cases o h n x, back)
     where
-      moved : n ≡ j → (x ≡ r) ⊎ In x [] → GrantAt (added o) n x
-      moved en (inl e) = rw (en, e) (new o h)
-      moved en (inr m) = absurd (in-nil m)
-
-      back : GrantAt t n x ⊎ ((n ≡ j) × In x (r ∷ [])) → GrantAt (added o) n x
+      back : GrantAt t n x ⊎ ((n ≡ j) × (x ≡ r)) → GrantAt (added o) n x
       back (inl p) = old o n x p
-      back (inr p) = moved (p .0) (in-cons (p .1))
+      back (inr q) = rw (q .0, q .1) (new o h)
 
   -- ---- kind 8
   abbrev removed : Option ℕ → Tables
   removed o = removeGrantAt L t j (r .aid) k o .tables
-
-  abbrev Less : Tables → Type 0
-  Less t′ = (n : ℕ) (x : Row) → GrantAt t′ n x ↔ (GrantAt t n x × ((n ≡ j) × (x ≡ r) → ⊥))
 
   left : (o : Option ℕ) → NumberIs t (r .aid) o → (n : ℕ) (x : Row) → GrantAt (removed o) n x → GrantAt t n x × ((n ≡ j) × (x ≡ r) → ⊥)
   left none h n x (bit i z b e q) = (bit i z b e q, λ p. h i (f .grants .by-used i n z b) (sym e ∙ ap (λ (y : Row). y .aid) (p .1)))
@@ -186,7 +122,7 @@ module _ (L : Layout) (t : Tables) (f : Formed L t) (r : Row) (j k : ℕ) (pk : 
       bit y z (put3-less j i k (t .grants) n y z .1 (b, λ p. ne (p .0, is-r n z x (e ∙ ap (t .aid) (p .1) ∙ h .1) (p .0) (p .2) q))) e q
   stays (some i) h n x ne (row z m q) = row z m q
 
-  less : (o : Option ℕ) → NumberIs t (r .aid) o → Less (removed o)
+  less : (o : Option ℕ) → NumberIs t (r .aid) o → Less j (λ x. x ≡ r) (GrantAt t) (GrantAt (removed o))
   less o h n x = (left o h n x, λ p. stays o h n x (p .1) (p .0))
 
   -- ---- both leave tables that turn as the contracts do
@@ -194,98 +130,46 @@ module _ (L : Layout) (t : Tables) (f : Formed L t) (r : Row) (j k : ℕ) (pk : 
     uj : T (t .used j)
     uj = f .names .prov-used j k pk
 
-    module _ (g : ℕ → ℕ → ℕ → Bool) (w : List Waiting) (bits : Bits (t .used) (t .provides) (λ x y z. g y x z)) (rows : WaitingRows (t .used) (t .aid) (t .provides) w) where
-      turns-more : More (GrantAt t) (GrantAt (withGrants g w t)) j (r ∷ []) → (GrantAt t j r → ⊥) → Turns L (kept (withGrants g w t)) (alter a (altered (addGrant r)) cs)
-      turns-more m fresh = turns t g w L cs a j (λ l. l ++ (r ∷ [])) f st uj aj bits rows
-          (more-others (GrantAt t) (GrantAt (withGrants g w t)) j (r ∷ []) m)
-          (more-own (GrantAt t) (GrantAt (withGrants g w t)) j (r ∷ []) m)
-          (λ l h d. once-snoc l r d (λ i. fresh (h r .0 i)))
-
-      turns-less : Less (withGrants g w t) → Turns L (kept (withGrants g w t)) (alter a (altered (removeGrant r)) cs)
-      turns-less m = turns t g w L cs a j (withoutRow r) f st uj aj bits rows
-          (λ n ne l h x. (λ i. m n x .1 (h x .0 i, λ p. ne (p .0)), λ q. h x .1 (m n x .0 q .0)))
-          (λ l h x. (
-            λ i. let p = keep-in (λ y. not (eqRow r y)) l i in m j x .1 (h x .0 (p .0), λ e. not-e (eqRow r x) (p .1) (rw (e .1) (eqRow-refl r))),
-            λ q. in-keep (λ y. not (eqRow r y)) (h x .1 (m j x .0 q .0)) (not-i (eqRow r x) (λ e. m j x .0 q .1 (refl, sym (eqRow→ r x e)))),
-          ))
-          (λ l h d. once-keep (λ y. not (eqRow r y)) l d)
-
     add-turns : T (validAid (r .aid)) → (r .aid ≡ a → ⊥) → (GrantAt t j r → ⊥) → (o : Option ℕ) → NumberIs t (r .aid) o
         → Turns L (addGrantAt L t j (r .aid) k o) (alter a (altered (addGrant r)) cs)
-    add-turns valid other fresh none h = turns-more (t .grants) (t .waiting ++ (asked ∷ [])) (f .grants)
+    add-turns valid other fresh none h = turns-grants L t cs a f st j uj aj (t .grants) (t .waiting ++ (asked ∷ [])) (f .grants)
         (record {
           wait-valid = each-snoc (t .waiting) asked (f .waiting .wait-valid) valid;
           wait-off = each-snoc (t .waiting) asked (f .waiting .wait-off) h;
           wait-prov = each-snoc (t .waiting) asked (f .waiting .wait-prov) pk;
           wait-once = once-snoc (t .waiting) asked (f .waiting .wait-once) (λ m. fresh (row k m (sym ek)));
         })
-        (more none h) fresh
-    add-turns valid other fresh (some i) h = turns-more (put3 j i k true (t .grants)) (t .waiting)
-        (record {
-          by-used = λ x y z b. used x y z (put3-cases j i k (t .grants) y x z b);
-          of-prov = λ x y z b. prov x y z (put3-cases j i k (t .grants) y x z b);
-          other = λ x y z b. apart x y z (put3-cases j i k (t .grants) y x z b);
-        })
-        (f .waiting) (more (some i) h) fresh
+        (turned-one r (more none h) fresh)
+    add-turns valid other fresh (some i) h = turns-grants L t cs a f st j uj aj (put3 j i k true (t .grants)) (t .waiting)
+        (bits-more i j k (f .grants) (h .0) pk (λ e. other (sym (h .1) ∙ ap (t .aid) e ∙ aj)) (λ x y z b. swap x y z (put3-cases j i k (t .grants) y x z b)))
+        (f .waiting) (turned-one r (more (some i) h) fresh)
       where
-        used : (x y z : ℕ) → At j i k y x z ⊎ T (t .grants y x z) → T (t .used x)
-        used x y z (inl p) = rw (p .1) (h .0)
-        used x y z (inr b) = f .grants .by-used x y z b
-
-        prov : (x y z : ℕ) → At j i k y x z ⊎ T (t .grants y x z) → T (t .provides y z)
-        prov x y z (inl p) = rw (p .0, p .2) pk
-        prov x y z (inr b) = f .grants .of-prov x y z b
-
-        apart : (x y z : ℕ) → At j i k y x z ⊎ T (t .grants y x z) → x ≡ y → ⊥
-        apart x y z (inl p) e = other (sym (h .1) ∙ ap (t .aid) (sym (p .1) ∙ e ∙ p .0) ∙ aj)
-        apart x y z (inr b) e = f .grants .other x y z b e
+        swap : (x y z : ℕ) → At j i k y x z ⊎ T (t .grants y x z) → At i j k x y z ⊎ T (t .grants y x z)
+        swap x y z (inl p) = inl (p .1, p .0, p .2)
+        swap x y z (inr b) = inr b
 
     remove-turns : (o : Option ℕ) → NumberIs t (r .aid) o → Turns L (removeGrantAt L t j (r .aid) k o) (alter a (altered (removeGrant r)) cs)
-    remove-turns none h = turns-less (t .grants) (keep (λ w. not (eqWaiting asked w)) (t .waiting)) (f .grants)
+    remove-turns none h = turns-grants L t cs a f st j uj aj (t .grants) (keep (λ w. not (eqWaiting asked w)) (t .waiting)) (f .grants)
         (record {
           wait-valid = λ w m. f .waiting .wait-valid w (was m);
           wait-off = λ w m. f .waiting .wait-off w (was m);
           wait-prov = λ w m. f .waiting .wait-prov w (was m);
           wait-once = once-keep (λ w. not (eqWaiting asked w)) (t .waiting) (f .waiting .wait-once);
         })
-        (less none h)
+        (turned-without r (less none h))
       where
         was : {w : Waiting} → In w (keep (λ w. not (eqWaiting asked w)) (t .waiting)) → In w (t .waiting)
         was m = keep-in (λ w. not (eqWaiting asked w)) (t .waiting) m .0
-    remove-turns (some i) h = turns-less (put3 j i k false (t .grants)) (t .waiting)
-        (record {
-          by-used = λ x y z b. f .grants .by-used x y z (was x y z b);
-          of-prov = λ x y z b. f .grants .of-prov x y z (was x y z b);
-          other = λ x y z b. f .grants .other x y z (was x y z b);
-        })
-        (f .waiting) (less (some i) h)
-      where
-        was : (x y z : ℕ) → T (put3 j i k false (t .grants) y x z) → T (t .grants y x z)
-        was x y z b = put3-less j i k (t .grants) y x z .0 b .0
+    remove-turns (some i) h = turns-grants L t cs a f st j uj aj (put3 j i k false (t .grants)) (t .waiting)
+        (bits-sub (f .grants) (λ x y z b. put3-less j i k (t .grants) y x z .0 b .0)) (f .waiting) (turned-without r (less (some i) h))
 
 -- ---- the two kinds
 pub kind-7 : (r : Row) → KindTurns (addGrant r)
-unfolding draft proper
-kind-7 r L t cs a f st va vr pr e =
-    at-place L t (f .names) (λ d. Turns L d (alter a (altered (addGrant r)) cs)) (λ j k. addGrantAt L t j (r .aid) k (numberOf L t (r .aid))) a (r .tok)
-    (λ o. 6 when (not (orElse o false (λ i. hasTok (r .tok) (contractAt L t i .provides))) || orElse o false (λ i. hasRow r (contractAt L t i .grants))) ∷ []) e
-    (λ j q. provides-at L t f j (r .tok) .0 (has-tok (r .tok) (contractAt L t j .provides)
-    (not-no (has j) (λ h. last-no 5 (not (has j) || had j) q (or-l (not (has j)) (had j) h)))))
-    (λ j k aj q pk ek. add-turns L t f r j k pk ek cs st a aj vr (λ o. not-e (eqAid (r .aid) a) pr (eqAid-of o))
-    (λ g. last-no 5 (not (has j) || had j) q (or-r (not (has j)) (had j) (row-has (grants-at L t f j r .1 g))))
-    (numberOf L t (r .aid)) (number-is L t (f .names) (r .aid)))
-  where
-    has : ℕ → Bool
-    has j = hasTok (r .tok) (contractAt L t j .provides)
-
-    had : ℕ → Bool
-    had j = hasRow r (contractAt L t j .grants)
+unfolding proper
+kind-7 r L t cs a f st va vr own =
+    reach-7 L t f a (λ d _. Turns L d (alter a (altered (addGrant r)) cs)) r
+    (λ j k p aj ek. add-turns L t f r j k p ek cs st a aj vr (λ e. not-e (eqAid (r .aid) a) own (eqAid-of e)))
 
 pub kind-8 : (r : Row) → KindTurns (removeGrant r)
-unfolding draft
-kind-8 r L t cs a f st va vr pr e =
-    at-place L t (f .names) (λ d. Turns L d (alter a (altered (removeGrant r)) cs)) (λ j k. removeGrantAt L t j (r .aid) k (numberOf L t (r .aid))) a (r .tok)
-    (λ o. 6 when not (orElse o false (λ i. hasRow r (contractAt L t i .grants))) ∷ []) e
-    (λ j q. let had = hasRow r (contractAt L t j .grants) in
-    granted-provided L t f j r (grants-at L t f j r .0 (has-row r (contractAt L t j .grants) (not-no had (last-no 5 (not had) q)))))
-    (λ j k aj q pk ek. remove-turns L t f r j k pk ek cs st a aj (numberOf L t (r .aid)) (number-is L t (f .names) (r .aid)))
+kind-8 r L t cs a f st va vr own =
+    reach-8 L t f a (λ d _. Turns L d (alter a (altered (removeGrant r)) cs)) r (λ j k p aj ek. remove-turns L t f r j k p ek cs st a aj)

@@ -1,7 +1,7 @@
 -- Kind 1 (load) keeps the tables formed and standing for the machine's contracts: the newcomer has its contract, and the others keep theirs.
 use Prim.Native.Nat.{ℕ}
 use mathlib.Core.Path.{_≡_, refl, sym, ap, _∙_, subst}
-use mathlib.Core.Logic.{_⊎_, inl, inr, _↔_}
+use mathlib.Core.Logic.{_⊎_, inl, inr, _↔_, Iff·trans}
 use mathlib.Core.Bool.{Bool, not, _&&_}
 use mathlib.Core.List.{List, [], _∷_, map}
 use mathlib.Core.List.{List·Memᴰ as In, List·Memᴰ·head as here, List·Memᴰ·tail as there, List·Memᴰ·cases-cons as in-cons, List·Memᴰ·not-nil as in-nil}
@@ -14,13 +14,15 @@ use Rattle.policy.specs.Layout.{Layout}
 use Rattle.policy.specs.Record.{load}
 use Rattle.policy.specs.Tables.{Tables, Unmet, Waiting}
 use Rattle.policy.specs.Lookup.{Place, serviceAt, numberOf, serverOf}
-use Rattle.policy.specs.Draft.{Draft, callRow, loadedNames, notServed, loadedService, loadAt}
+use Rattle.policy.specs.Draft.{callRow, loadedNames, notServed, loadedService, loadAt}
 use Rattle.policy.specs.History.{FourSets}
-use Rattle.policy.proofs.Sets.{and-l, and-r, test, not-i, in-map, map-in, keep-in, in-keep}
-use Rattle.policy.proofs.Equal.{eqAid→, has-tok}
+use Rattle.policy.proofs.Sets.{and-l, and-r, test, not-i, keep-in, in-keep, in-map, map-in}
+use Rattle.policy.proofs.Equal.{eqAid→, row-path, has-tok}
+use Rattle.policy.proofs.Put.{by-number}
 use Rattle.policy.proofs.Formed.{ProvidesAt, at, RowAt, GrantAt, HasContract, Stands, Turns, KindTurns}
-use Rattle.policy.proofs.Found.{NumberIs, number-is, ServerIs, server-is}
-use Rattle.policy.proofs.LoadNames.{row-path, Newcomer, Loaded, loaded, service-old, tok-in, in-tok, by-number, load-draft}
+use Rattle.policy.proofs.Found.{NumberIs, ServerIs, number-is, server-is}
+use Rattle.policy.proofs.Facts.{provides-kept}
+use Rattle.policy.proofs.LoadNames.{Newcomer, Loaded, loaded, service-old, tok-in, in-tok, load-reached}
 use Rattle.policy.proofs.LoadBits.{Named, CallIs, GrantIs, call-is, grant-is, need-new, need-old}
 use Rattle.policy.proofs.LoadFormed.{unmetStill, waitsStill, leftOff, uninstalled, waitingFor, each-left, names-on, service-loaded, left-off, each-unmet, each-waiting, load-formed}
 
@@ -116,13 +118,7 @@ module _ (L : Layout) (t : Tables) (m : ℕ) (k : Contract) (new : Newcomer L t 
     n-ne = l .old-ne n u
 
     provides-old : (s : Tok) → ProvidesAt t n s ↔ ProvidesAt after n s
-    provides-old s = (to, back)
-      where
-        to : ProvidesAt t n s → ProvidesAt after n s
-        to (at y p e) = at y (l .prov-old n y p) (e ∙ sym (l .tok-old n y n-ne))
-
-        back : ProvidesAt after n s → ProvidesAt t n s
-        back (at y p e) = at y (l .prov-back n y n-ne p) (e ∙ l .tok-old n y n-ne)
+    provides-old = provides-kept t after n (l .prov-old n) (λ y. l .prov-back n y n-ne) (λ y. sym (l .tok-old n y n-ne))
 
     calls-old : (r : Row) → RowAt t (t .calls) (t .unmet) n r ↔ RowAt after (after .calls) (after .unmet) n r
     calls-old r = (to, back)
@@ -197,14 +193,11 @@ module _ (L : Layout) (t : Tables) (m : ℕ) (k : Contract) (new : Newcomer L t 
     has-old : (c : Contract) → HasContract t [] n c → HasContract after lost n c
     has-old c h = record {
       aid = h .aid ∙ sym (l .aid-old n n-ne);
-      provides = λ s. through (h .provides s) (provides-old s);
-      calls = λ r. through (h .calls r) (calls-old r);
-      grants = λ r. through (h .grants r) (grants-old r);
-      needs = λ r. through (h .needs r) (needs-old r);
+      provides = λ s. Iff·trans (h .provides s) (provides-old s);
+      calls = λ r. Iff·trans (h .calls r) (calls-old r);
+      grants = λ r. Iff·trans (h .grants r) (grants-old r);
+      needs = λ r. Iff·trans (h .needs r) (needs-old r);
     }
-      where
-        through : {A B C : Type 0} → A ↔ B → B ↔ C → A ↔ C
-        through f g = ((λ x. g .0 (f .0 x)), (λ x. f .1 (g .1 x)))
 
   load-stands : (cs : List Contract) → Stands t [] cs → Stands after lost (k ∷ cs)
   load-stands cs st = record {
@@ -225,9 +218,9 @@ module _ (L : Layout) (t : Tables) (m : ℕ) (k : Contract) (new : Newcomer L t 
       four c (inr i) = st .four-sets c i
 
 pub kind-1 : (p : List Tok) (c g n : List Row) → KindTurns (load p c g n)
-kind-1 p c g n L t cs a f st va v pr an =
+kind-1 p c g n L t cs a f st va v pr =
     let k : Contract = record { aid = a; provides = p; calls = c; grants = g; needs = n } in
-    load-draft L t a p c g n (λ (d : Draft). Turns L d (k ∷ cs)) f (v .0) pr an
+    load-reached L t a p c g n (λ d _. Turns L d (k ∷ cs)) f (v .0) pr
     (λ m new. record {
       formed = load-formed L t m k new va (v .1) (v .2);
       lost-off = left-off L t m k new va n;

@@ -1,37 +1,26 @@
 -- Kind 2: a package goes; calls on it are unmet, and grants to it wait.
 use Prim.Native.Nat.{ℕ}
 use mathlib.Core.Path.{_≡_, refl, sym, ap, _∙_, subst}
-use mathlib.Core.Logic.{_⊎_, inl, inr}
-use mathlib.Core.Bool.{Bool, true, false, not, _&&_, _||_, cond}
-use mathlib.Core.List.{List, [], _∷_, map}
+use mathlib.Core.Logic.{_⊎_, inl, inr, Iff·trans}
+use mathlib.Core.Bool.{Bool, true, false, not, _&&_, _||_}
+use mathlib.Core.List.{List, []}
 use mathlib.Core.List.{List·Memᴰ as In, Memᴰ·append-left as in-left, Memᴰ·append-right as in-right, List·Memᴰ·append-cases as in-append, Memᴰ·cast as in-cast}
-use mathlib.Core.Option.{Option, none, some}
 use lib.Dec.{T, eqb, eqb→eq}
-use Rattle.policy.specs.Lists.{keep, flat, isSome, orElse, NoRepeat}
-use Rattle.policy.specs.Contract.{Aid, eqAid, Tok, Row, Contract, validAid}
+use Rattle.policy.specs.Lists.{keep}
+use Rattle.policy.specs.Contract.{Aid, eqAid, Row, Contract, validAid}
 use Rattle.policy.specs.Layout.{Layout}
 use Rattle.policy.specs.Record.{remove}
-use Rattle.policy.specs.Causes.{_when_, answer}
 use Rattle.policy.specs.Tables.{Tables, Unmet, Waiting, noTok}
-use Rattle.policy.specs.Lookup.{numberOf, numbers, places}
-use Rattle.policy.specs.Draft.{kept, Draft, Look, draft, removeAt}
-use Rattle.policy.specs.Judge.{tableCauses}
-use Rattle.policy.specs.ShortCheck.{fine, shortRemove, shortLook}
-use Rattle.policy.proofs.Sets.{and-l, and-r, and-i, or-l, or-r, not-i, not-e, false-T, T-false, test, keep-in, in-keep, once-keep, map-in, in-map, once-append, each-append, in-upto, once-upto}
+use Rattle.policy.specs.Lookup.{numbers, places}
+use Rattle.policy.specs.Draft.{removeAt}
+use Rattle.policy.proofs.Sets.{and-l, and-r, and-i, or-l, or-r, test, not-i, not-e, cond-either, cond-off, keep-in, in-keep, once-keep, once-map-keep, once-append, each-append, pairs, pairs-in}
+use Rattle.policy.proofs.Sets.{in-pairs, once-pairs, in-upto, once-upto}
 use Rattle.policy.proofs.Equal.{eqAid→, eqAid-of, eqb-of}
-use Rattle.policy.proofs.Formed.{Formed, Bits, WaitingRows, grantBit, ProvidesAt, at, GrantAt, bit, row, HasContract, Stands, Turns, KindTurns}
-use Rattle.policy.proofs.Found.{NumberIs, number-is}
-use Rattle.policy.proofs.Answers.{answer-zero}
-use Rattle.policy.proofs.Dropped.{pairs-in, in-pairs, once-pairs, Without, BitsStay, RowsStay, Dropping, need-bits, formed-dropped, lost-dropped, calls-dropped, needs-dropped}
-
--- ---- a list of which some stay has no more repetitions, by what is read of each
-once-map-keep : {A B : Type 0} (g : A → B) (f : A → Bool) (l : List A) → NoRepeat (map g l) → NoRepeat (map g (keep f l))
-once-map-keep g f [] d = tt
-once-map-keep g f (x ∷ l) d = go (f x) (once-map-keep g f l (d .1))
-  where
-    go : (b : Bool) → NoRepeat (map g (keep f l)) → NoRepeat (map g (cond b (x ∷ keep f l) (keep f l)))
-    go true h = (λ m. let p = map-in g (keep f l) m in d .0 (in-cast (p .2) (in-map g (keep-in f l (p .1) .0))), h)
-    go false h = h
+use Rattle.policy.proofs.Put.{at-old}
+use Rattle.policy.proofs.Formed.{Bits, WaitingRows, grantBit, Formed, bit, row, GrantAt, HasContract, Stands, Turns, KindTurns}
+use Rattle.policy.proofs.Facts.{provides-kept, place-in, need-bits}
+use Rattle.policy.proofs.Reach.{reach-2}
+use Rattle.policy.proofs.Dropped.{Without, BitsStay, RowsStay, Dropping, formed-dropped, lost-dropped, calls-dropped, needs-dropped}
 
 -- neither end of a bit is n
 neither : (p q : Bool) → T (not (p || q)) → (T p → ⊥) × (T q → ⊥)
@@ -45,42 +34,24 @@ module _ (L : Layout) (t : Tables) (fm : Formed L t) (n : ℕ) (un : T (t .used 
   abbrev t′ : Tables
   t′ = removeAt L t n .tables
 
-  not-n : (x : ℕ) → (x ≡ n → ⊥) → eqb x n ≡ false
-  not-n x ne = T-false (eqb x n) (λ h. ne (eqb→eq x n h))
-
   -- a package that stays is another one
   used-e : (x : ℕ) → T (t′ .used x) → (x ≡ n → ⊥) × T (t .used x)
-  used-e x u = go (eqb x n) refl u
-    where
-      go : (b : Bool) → eqb x n ≡ b → T (cond b false (t .used x)) → (x ≡ n → ⊥) × T (t .used x)
-      go true e h = absurd h
-      go false e h = (λ f. false-T e (eqb-of f), h)
-
-  at-other : {A : Type 0} (x : ℕ) (v w : A) → (x ≡ n → ⊥) → cond (eqb x n) v w ≡ w
-  at-other {A} x v w ne = ap (λ (b : Bool). cond {A = A} b v w) (not-n x ne)
+  used-e x u = let p = cond-off (eqb x n) (t .used x) u in (λ e. p .1 (eqb-of e), p .0)
 
   used-i : (x : ℕ) → T (t .used x) → (x ≡ n → ⊥) → T (t′ .used x)
-  used-i x u ne = rw (at-other x false (t .used x) ne) u
+  used-i x u ne = rw (at-old n false (t .used x) x ne) u
 
   aid-same : (x : ℕ) → (x ≡ n → ⊥) → t′ .aid x ≡ t .aid x
-  aid-same x ne = at-other x [] (t .aid x) ne
+  aid-same x ne = at-old n [] (t .aid x) x ne
 
   tok-same : (y z : ℕ) → (y ≡ n → ⊥) → t′ .tok y z ≡ t .tok y z
-  tok-same y z ne = at-other y noTok (t .tok y z) ne
+  tok-same y z ne = at-old n noTok (t .tok y z) y ne
 
   prov-e : (y z : ℕ) → T (t′ .provides y z) → T (t .provides y z) × (y ≡ n → ⊥)
   prov-e y z p = (and-l (t .provides y z) (not (eqb y n)) p, λ e. not-e (eqb y n) (and-r (t .provides y z) (not (eqb y n)) p) (eqb-of e))
 
   prov-i : (y z : ℕ) → T (t .provides y z) → (y ≡ n → ⊥) → T (t′ .provides y z)
   prov-i y z p ne = and-i (t .provides y z) (not (eqb y n)) p (not-i (eqb y n) (λ h. ne (eqb→eq y n h)))
-
-  -- what stands at number n, or at another
-  blank : {A : Type 0} (x : ℕ) (v w : A) → ((x ≡ n → ⊥) → w ≡ v) → cond (eqb x n) v w ≡ v
-  blank {A} x v w h = go (eqb x n) refl
-    where
-      go : (b : Bool) → eqb x n ≡ b → cond b v w ≡ v
-      go true e = refl
-      go false e = h (λ f. false-T e (eqb-of f))
 
   without : Without t t′ n (λ z. true)
   without = record {
@@ -92,8 +63,8 @@ module _ (L : Layout) (t : Tables) (fm : Formed L t) (n : ℕ) (un : T (t .used 
     prov-used = λ y z p. let q = prov-e y z p in used-i y (fm .names .prov-used y z (q .0)) (q .1);
     aid-same = λ x u. aid-same x (used-e x u .0);
     tok-same = λ y z p. tok-same y z (prov-e y z p .1);
-    aid-blank = λ x h. blank x [] (t .aid x) (λ ne. fm .names .aid-blank x (λ u. h (used-i x u ne)));
-    tok-blank = λ y z h. blank y noTok (t .tok y z) (λ ne. fm .names .tok-blank y z (λ p. h (prov-i y z p ne)));
+    aid-blank = λ x h. cond-either (eqb x n) [] (t .aid x) (λ f. fm .names .aid-blank x (λ u. h (used-i x u (λ e. f (eqb-of e)))));
+    tok-blank = λ y z h. cond-either (eqb y n) noTok (t .tok y z) (λ f. fm .names .tok-blank y z (λ p. h (prov-i y z p (λ e. f (eqb-of e)))));
   }
 
   -- ---- bits with n at one end go
@@ -117,7 +88,7 @@ module _ (L : Layout) (t : Tables) (fm : Formed L t) (n : ℕ) (un : T (t .used 
   calls-stay = bits-stay (t .calls) (fm .calls) (λ x y. not (eqb x n || eqb y n)) away away-i
 
   needs-stay : BitsStay t′ n (λ z. true) (t .needs) (t′ .needs)
-  needs-stay = bits-stay (t .needs) (need-bits fm) (λ x y. not (eqb x n || eqb y n)) away away-i
+  needs-stay = bits-stay (t .needs) (need-bits L t fm) (λ x y. not (eqb x n || eqb y n)) away away-i
 
   grants-stay : BitsStay t′ n (λ z. true) (grantBit t) (grantBit t′)
   grants-stay = bits-stay (grantBit t) (fm .grants) (λ x y. not (eqb y n || eqb x n)) (λ x y h. let p = away y x h in (p .1, p .0)) (λ x y f g. away-i y x g f)
@@ -143,7 +114,7 @@ module _ (L : Layout) (t : Tables) (fm : Formed L t) (n : ℕ) (un : T (t .used 
   waitFor j k = record { caller = t .aid n; callee = j; service = k }
 
   abbrev nowWait : List Waiting
-  nowWait = flat (λ j. map (waitFor j) (keep (t .grants j n) (places L t))) (numbers L t)
+  nowWait = pairs waitFor (λ j. t .grants j n) (places L t) (numbers L t)
 
   -- ---- waiting grants: old ones of other packages, and the grants to n
   wait-old : {w : Waiting} → In w stayW → In w (t .waiting) × (w .callee ≡ n → ⊥)
@@ -181,14 +152,7 @@ module _ (L : Layout) (t : Tables) (fm : Formed L t) (n : ℕ) (un : T (t .used 
   dropping = record
       { without = without; calls-stay = calls-stay; grants-stay = grants-stay; needs-stay = needs-stay; unmet-stay = unmet-stay; unmet-is = refl; waiting = waiting′ }
 
-  -- ---- what another package provides and grants
-  module _ (m : ℕ) (ne : m ≡ n → ⊥) (s : Tok) where
-    provides-stays : ProvidesAt t m s → ProvidesAt t′ m s
-    provides-stays (at k p e) = at k (prov-i m k p ne) (e ∙ sym (tok-same m k ne))
-
-    provides-old : ProvidesAt t′ m s → ProvidesAt t m s
-    provides-old (at k p e) = at k (prov-e m k p .0) (e ∙ tok-same m k ne)
-
+  -- ---- what another package grants
   module _ (m : ℕ) (ne : m ≡ n → ⊥) (r : Row) where
     grant-stays : GrantAt t m r → GrantAt t′ m r
     grant-stays (bit i k h e f) = go (test (eqb i n))
@@ -197,10 +161,10 @@ module _ (L : Layout) (t : Tables) (fm : Formed L t) (n : ℕ) (un : T (t .used 
         go (inl q) =
             let ei : i ≡ n = eqb→eq i n q in
             let g : T (t .grants m n k) = subst (λ (x : ℕ). T (t .grants m x k)) ei h in
-            let p : T (t .provides m k) = fm .grants .of-prov n m k g in
+            let l = place-in L t (fm .names) m k (fm .grants .of-prov n m k g) in
             row k (in-right stayW (in-cast (λ z. record { caller = (e ∙ ap (t .aid) ei) z; callee = m; service = k })
             (in-pairs waitFor (λ j. t .grants j n) (places L t) (numbers L t) m k
-            (in-upto (L .packages) m (fm .names .used-lt m (fm .names .prov-used m k p))) (in-upto (L .services) k (fm .names .prov-lt m k p)) g)))
+            (in-upto (L .packages) m (l .0)) (in-upto (L .services) k (l .1)) g)))
             (f ∙ sym (tok-same m k ne))
         go (inr q) =
             let ni : i ≡ n → ⊥ = λ x. q (eqb-of x) in
@@ -227,10 +191,10 @@ module _ (L : Layout) (t : Tables) (fm : Formed L t) (n : ℕ) (un : T (t .used 
       let ne : m ≡ n → ⊥ = used-e m u .0 in
       record {
         aid = h .aid ∙ sym (aid-same m ne);
-        provides = λ s. (λ x. provides-stays m ne s (h .provides s .0 x), λ x. h .provides s .1 (provides-old m ne s x));
-        calls = λ r. calls-dropped L t t′ n (λ z. true) stayU fm dropping m u r (h .calls r);
-        grants = λ r. (λ x. grant-stays m ne r (h .grants r .0 x), λ x. h .grants r .1 (grant-old m ne r x));
-        needs = λ r. needs-dropped L t t′ n (λ z. true) stayU fm dropping m u r (h .needs r);
+        provides = λ s. Iff·trans (h .provides s) (provides-kept t t′ m (λ k p. prov-i m k p ne) (λ k p. prov-e m k p .0) (λ k. sym (tok-same m k ne)) s);
+        calls = λ r. Iff·trans (h .calls r) (calls-dropped L t t′ n (λ z. true) stayU fm dropping m u r);
+        grants = λ r. Iff·trans (h .grants r) (grant-stays m ne r, grant-old m ne r);
+        needs = λ r. Iff·trans (h .needs r) (needs-dropped L t t′ n (λ z. true) stayU fm dropping m u r);
       }
 
   module _ (cs : List Contract) (a : Aid) (ea : t .aid n ≡ a) (st : Stands t [] cs) where
@@ -262,15 +226,5 @@ module _ (L : Layout) (t : Tables) (fm : Formed L t) (n : ℕ) (un : T (t .used 
       stands = stands′;
     }
 
--- where cause 5 does not apply, the package is found
-pub removed : (L : Layout) (t : Tables) → Formed L t → (a : Aid) → answer (tableCauses L t a remove) ≡ 0 → (P : Draft → Look → Type 0)
-    → ((n : ℕ) → T (t .used n) → t .aid n ≡ a → P (removeAt L t n) (shortRemove L t n)) → P (draft L t a remove) (shortLook L t a remove)
-unfolding draft shortLook
-removed L t fm a ans P f = go (numberOf L t a) (number-is L t (fm .names) a) ans
-  where
-    go : (o : Option ℕ) → NumberIs t a o → answer (5 when not (isSome o) ∷ []) ≡ 0 → P (orElse o (kept t) (removeAt L t)) (orElse o fine (shortRemove L t))
-    go none h e = absurd (false-T (answer-zero 4 true [] e .0) tt)
-    go (some n) h e = f n (h .0) (h .1)
-
 pub kind-2 : KindTurns remove
-kind-2 L t cs a fm st _ _ _ ans = removed L t fm a ans (λ d _. Turns L d (keep (λ k. not (eqAid (k .aid) a)) cs)) (λ n u e. turns L t fm n u cs a e st)
+kind-2 L t cs a fm st _ _ _ = reach-2 L t fm a (λ d _. Turns L d (keep (λ k. not (eqAid (k .aid) a)) cs)) (λ n u e. turns L t fm n u cs a e st)

@@ -1,31 +1,23 @@
 -- Kind 4: a service goes, and its grants; calls on it are unmet.
 use Prim.Native.Nat.{ℕ}
 use mathlib.Core.Path.{_≡_, refl, sym, ap, _∙_, subst}
-use mathlib.Core.Logic.{_↔_}
-use mathlib.Core.Bool.{Bool, true, false, not, _&&_, cond}
-use mathlib.Core.List.{List, [], _∷_}
+use mathlib.Core.Bool.{Bool, false, not, _&&_}
+use mathlib.Core.List.{List, []}
 use mathlib.Core.List.{List·Memᴰ as In}
-use mathlib.Core.Option.{Option, none, some}
 use lib.Dec.{T, eqb, eqb→eq}
-use Rattle.policy.specs.Lists.{keep, isSome, orElse}
-use Rattle.policy.specs.Contract.{Aid, Tok, eqTok, Row, Contract, hasTok}
+use Rattle.policy.specs.Contract.{Aid, Tok, eqTok, Row, Contract}
 use Rattle.policy.specs.Layout.{Layout}
 use Rattle.policy.specs.Record.{removeService}
-use Rattle.policy.specs.Causes.{_when_, answer}
 use Rattle.policy.specs.Machine.{alter, altered}
 use Rattle.policy.specs.Tables.{Tables, Waiting, noTok}
-use Rattle.policy.specs.Lookup.{numberOf, serviceOf, contractAt}
-use Rattle.policy.specs.Draft.{Draft, Look, kept, draft, removeServiceAt}
-use Rattle.policy.specs.Judge.{tableCauses}
-use Rattle.policy.specs.ShortCheck.{fine, shortRemoveService, shortLook}
-use Rattle.policy.proofs.Sets.{and-l, and-r, and-i, not-i, not-e, false-T, T-false, keep-in, in-keep, once-keep}
-use Rattle.policy.proofs.Equal.{eqTok→, eqTok-of, eqb-of, has-tok}
-use Rattle.policy.proofs.Formed.{Formed, Bits, grantBit, ProvidesAt, at, GrantAt, bit, row, HasContract, Stands, Turns, KindTurns}
-use Rattle.policy.proofs.Found.{NumberIs, number-is, ServiceIs, service-is}
-use Rattle.policy.proofs.Answers.{answer-zero}
-use Rattle.policy.proofs.Alter.{stands-alter}
-use Rattle.policy.proofs.Dropped.{Without, BitsStay, Dropping, need-bits, formed-dropped, lost-dropped, calls-dropped, needs-dropped}
-use Rattle.policy.proofs.ContractAt.{provides-at}
+use Rattle.policy.specs.Draft.{removeServiceAt}
+use Rattle.policy.proofs.Sets.{and-l, and-r, and-i, not-i, not-e, cond-false, cond-either, cond-off, keep-in, in-keep, once-keep, differs}
+use Rattle.policy.proofs.Equal.{eqb-of, eqTok→, eqTok-refl}
+use Rattle.policy.proofs.Formed.{Bits, grantBit, Formed, ProvidesAt, at, bit, row, GrantAt, Stands, Turns, KindTurns}
+use Rattle.policy.proofs.Facts.{need-bits}
+use Rattle.policy.proofs.Reach.{reach-4}
+use Rattle.policy.proofs.Dropped.{Without, BitsStay, Dropping, formed-dropped, lost-dropped, calls-dropped, needs-dropped}
+use Rattle.policy.proofs.Alter.{turned-same, turned-less, stands-turned}
 
 module _ (L : Layout) (t : Tables) (fm : Formed L t) (j k : ℕ) (pk : T (t .provides j k)) where
   abbrev t′ : Tables
@@ -44,28 +36,17 @@ module _ (L : Layout) (t : Tables) (fm : Formed L t) (j k : ℕ) (pk : T (t .pro
   away-i : (y z : ℕ) → Away y z → T (eqb y j && eqb z k) → ⊥
   away-i y z h f = h (eqb→eq y j (and-l (eqb y j) (eqb z k) f)) (and-r (eqb y j) (eqb z k) f)
 
-  at-other : {A : Type 0} (y z : ℕ) (v w : A) → Away y z → cond (eqb y j && eqb z k) v w ≡ w
-  at-other {A} y z v w ne = ap (λ (b : Bool). cond {A = A} b v w) (T-false (eqb y j && eqb z k) (away-i y z ne))
-
   prov-e : (y z : ℕ) → T (t′ .provides y z) → T (t .provides y z) × Away y z
-  prov-e y z p = go (eqb y j && eqb z k) refl p
-    where
-      go : (b : Bool) → eqb y j && eqb z k ≡ b → T (cond b false (t .provides y z)) → T (t .provides y z) × Away y z
-      go true e h = absurd h
-      go false e h = (h, away y z (false-T e))
+  prov-e y z p = let q = cond-off (eqb y j && eqb z k) (t .provides y z) p in (q .0, away y z (q .1))
 
   prov-i : (y z : ℕ) → T (t .provides y z) → Away y z → T (t′ .provides y z)
-  prov-i y z p ne = rw (at-other y z false (t .provides y z) ne) p
+  prov-i y z p ne = rw (cond-false (eqb y j && eqb z k) false (t .provides y z) (away-i y z ne)) p
 
   tok-same : (y z : ℕ) → Away y z → t′ .tok y z ≡ t .tok y z
-  tok-same y z ne = at-other y z noTok (t .tok y z) ne
+  tok-same y z ne = cond-false (eqb y j && eqb z k) noTok (t .tok y z) (away-i y z ne)
 
   tok-blank : (y z : ℕ) → (T (t′ .provides y z) → ⊥) → t′ .tok y z ≡ noTok
-  tok-blank y z h = go (eqb y j && eqb z k) refl
-    where
-      go : (b : Bool) → eqb y j && eqb z k ≡ b → cond b noTok (t .tok y z) ≡ noTok
-      go true e = refl
-      go false e = fm .names .tok-blank y z (λ p. h (prov-i y z p (away y z (false-T e))))
+  tok-blank y z h = cond-either (eqb y j && eqb z k) noTok (t .tok y z) (λ f. fm .names .tok-blank y z (λ p. h (prov-i y z p (away y z f))))
 
   without : Without t t′ j d
   without = record {
@@ -103,7 +84,7 @@ module _ (L : Layout) (t : Tables) (fm : Formed L t) (j k : ℕ) (pk : T (t .pro
     without = without;
     calls-stay = bits-stay (t .calls) (fm .calls);
     grants-stay = bits-stay (grantBit t) (fm .grants);
-    needs-stay = bits-stay (t .needs) (need-bits fm);
+    needs-stay = bits-stay (t .needs) (need-bits L t fm);
     unmet-stay = record { old = λ u m. m; used = fm .unmet .off .off-used; stays = λ u m _. m; once = fm .unmet .unmet-once };
     unmet-is = refl;
     waiting = record {
@@ -117,15 +98,15 @@ module _ (L : Layout) (t : Tables) (fm : Formed L t) (j k : ℕ) (pk : T (t .pro
   -- ---- what package n provides and grants: all but the service of package j with tokens s
   module _ (s : Tok) (es : t .tok j k ≡ s) (n : ℕ) where
     abbrev Stay : Tok → Type 0
-    Stay x = n ≡ j → x ≡ s → ⊥
+    Stay x = (n ≡ j) × (x ≡ s) → ⊥
 
     -- by the place of tokens x
     stay-away : (z : ℕ) (x : Tok) → x ≡ t .tok n z → Stay x → Away n z
-    stay-away z x e h q f = h q (e ∙ (λ i. t .tok (q i) (eqb→eq z k f i)) ∙ es)
+    stay-away z x e h q f = h (q, e ∙ (λ i. t .tok (q i) (eqb→eq z k f i)) ∙ es)
 
     away-stay : (z : ℕ) (x : Tok) → T (t .provides n z) → x ≡ t .tok n z → Away n z → Stay x
-    away-stay z x p e h q f =
-        h q (eqb-of (fm .names .tok-inj j z k (subst (λ (y : ℕ). T (t .provides y z)) q p) pk (ap (λ (y : ℕ). t .tok y z) (sym q) ∙ sym e ∙ f ∙ sym es)))
+    away-stay z x p e h q =
+        h (q .0) (eqb-of (fm .names .tok-inj j z k (subst (λ (y : ℕ). T (t .provides y z)) (q .0) p) pk (ap (λ (y : ℕ). t .tok y z) (sym (q .0)) ∙ sym e ∙ q .1 ∙ sym es)))
 
     provides-stays : (x : Tok) → ProvidesAt t n x → Stay x → ProvidesAt t′ n x
     provides-stays x (at z p e) h = let ne = stay-away z x e h in at z (prov-i n z p ne) (e ∙ sym (tok-same n z ne))
@@ -151,74 +132,19 @@ module _ (L : Layout) (t : Tables) (fm : Formed L t) (j k : ℕ) (pk : T (t .pro
         let g = f ∙ tok-same n z (p .1) in
         (row z (p .0) g, away-stay z (r .tok) (fm .waiting .wait-prov _ (p .0)) g (p .1))
 
-    -- its contract, with those of its services p and grants g that stay
-    has′ : (c : Contract) (p : List Tok) (g : List Row) → T (t .used n) → HasContract t [] n c
-        → ((x : Tok) → In x p ↔ (In x (c .provides) × Stay x)) → ((r : Row) → In r g ↔ (In r (c .grants) × Stay (r .tok)))
-        → HasContract t′ (removeServiceAt L t j k .lost) n (record { aid = c .aid; provides = p; calls = c .calls; grants = g; needs = c .needs })
-    has′ c p g u h ps gs = record {
-      aid = h .aid;
-      provides = λ x. (λ m. let q = ps x .0 m in provides-stays x (h .provides x .0 (q .0)) (q .1), λ y. let q = provides-old x y in ps x .1 (h .provides x .1 (q .0), q .1));
-      calls = λ r. calls-dropped L t t′ j d (t .unmet) fm dropping n u r (h .calls r);
-      grants = λ r. (λ m. let q = gs r .0 m in grant-stays r (h .grants r .0 (q .0)) (q .1), λ y. let q = grant-old r y in gs r .1 (h .grants r .1 (q .0), q .1));
-      needs = λ r. needs-dropped L t t′ j d (t .unmet) fm dropping n u r (h .needs r);
-    }
-
-  module _ (s : Tok) (es : t .tok j k ≡ s) (cs : List Contract) (a : Aid) (ea : t .aid j ≡ a) (st : Stands t [] cs) where
-    uj : T (t .used j)
-    uj = fm .names .prov-used j k pk
-
-    others : (n : ℕ) (c : Contract) → T (t .used n) → (n ≡ j → ⊥) → HasContract t [] n c → HasContract t′ (removeServiceAt L t j k .lost) n c
-    others n c u ne h = has′ s es n c (c .provides) (c .grants) u h (λ x. (λ m. (m, λ e _. ne e), λ q. q .0)) (λ r. (λ m. (m, λ e _. ne e), λ q. q .0))
-
-    -- the members of the package's own lists that stay
-    own-in : {A : Type 0} (tok : A → Tok) (l : List A) (x : A) → In x (keep (λ y. not (eqTok s (tok y))) l) ↔ (In x l × (j ≡ j → tok x ≡ s → ⊥))
-    own-in {A} tok l x = (
-      λ m. let p = keep-in (λ y. not (eqTok s (tok y))) l m in (p .0, λ _ e. not-e (eqTok s (tok x)) (p .1) (eqTok-of (sym e))),
-      λ q. in-keep (λ y. not (eqTok s (tok y))) (q .0) (not-i (eqTok s (tok x)) (λ e. q .1 refl (sym (eqTok→ s (tok x) e)))),
-    )
-
-    own : (c : Contract) → HasContract t [] j c → HasContract t′ (removeServiceAt L t j k .lost) j (altered (removeService s) c)
-    own c h = has′ s es j c _ _ uj h (own-in (λ x. x) (c .provides)) (own-in (λ r. r .tok) (c .grants))
-
-    turns : Turns L (removeServiceAt L t j k) (alter a (altered (removeService s)) cs)
-    turns = record {
-      formed = formed-dropped L t t′ j d (t .unmet) fm dropping;
-      lost-off = lost-dropped L t t′ j d (t .unmet) fm dropping;
-      stands = stands-alter L t t′ (removeServiceAt L t j k .lost) cs a (altered (removeService s)) j (fm .names) st uj ea refl refl (λ c. refl) others own
-          (λ c _ f. record {
-            provides = once-keep (λ x. not (eqTok s x)) (c .provides) (f .provides);
-            calls = f .calls;
-            grants = once-keep (λ x. not (eqTok s (x .tok))) (c .grants) (f .grants);
-            needs = f .needs;
-          });
-    }
-
--- where causes 5 and 6 do not apply, the package and its service are found
-pub removed-service : (s : Tok) (L : Layout) (t : Tables) → Formed L t → (a : Aid) → answer (tableCauses L t a (removeService s)) ≡ 0 → (P : Draft → Look → Type 0)
-    → ((j k : ℕ) → T (t .provides j k) → t .aid j ≡ a → t .tok j k ≡ s → P (removeServiceAt L t j k) (shortRemoveService L t j k))
-    → P (draft L t a (removeService s)) (shortLook L t a (removeService s))
-unfolding draft shortLook
-removed-service s L t fm a ans P f = go (numberOf L t a) (number-is L t (fm .names) a) ans
-  where
-    has : ℕ → Bool
-    has j = hasTok s (contractAt L t j .provides)
-
-    provided : (b : Bool) → not b ≡ false → T b
-    provided true e = tt
-    provided false e = false-T e tt
-
-    apart : (j : ℕ) → ServiceIs t j s none → ProvidesAt t j s → ⊥
-    apart j h (at k p e) = h k p (sym e)
-
-    inner : (j : ℕ) → t .aid j ≡ a → not (has j) ≡ false → (o : Option ℕ) → ServiceIs t j s o → P (orElse o (kept t) (removeServiceAt L t j)) (orElse o fine (shortRemoveService L t j))
-    inner j ea e none h = absurd (apart j h (provides-at L t fm j s .0 (has-tok s (contractAt L t j .provides) (provided (has j) e))))
-    inner j ea e (some k) h = f j k (h .0) ea (h .1)
-
-    go : (o : Option ℕ) → NumberIs t a o → answer (5 when not (isSome o) ∷ 6 when not (orElse o false has) ∷ []) ≡ 0
-        → P (orElse o (kept t) (λ j. orElse (serviceOf L t j s) (kept t) (removeServiceAt L t j))) (orElse o fine (λ j. orElse (serviceOf L t j s) fine (shortRemoveService L t j)))
-    go none h e = absurd (false-T (answer-zero 4 true (6 when true ∷ []) e .0) tt)
-    go (some j) h e = inner j (h .1) (answer-zero 5 (not (has j)) [] (answer-zero 4 false (6 when not (has j) ∷ []) e .1) .0) (serviceOf L t j s) (service-is L t (fm .names) j s)
+  turns : (s : Tok) → t .tok j k ≡ s → (cs : List Contract) (a : Aid) → t .aid j ≡ a → Stands t [] cs → Turns L (removeServiceAt L t j k) (alter a (altered (removeService s)) cs)
+  turns s es cs a ea st =
+      let uj = fm .names .prov-used j k pk in
+      record {
+        formed = formed-dropped L t t′ j d (t .unmet) fm dropping;
+        lost-off = lost-dropped L t t′ j d (t .unmet) fm dropping;
+        stands = stands-turned L t t′ (removeServiceAt L t j k .lost) cs a j (fm .names) st uj ea refl refl
+            (turned-less (λ x. x ≡ s) (λ x. not (eqTok s x)) (differs eqTok eqTok→ eqTok-refl s) (λ n x. (provides-old s es n x, λ q. provides-stays s es n x (q .0) (q .1))))
+            (turned-same uj (calls-dropped L t t′ j d (t .unmet) fm dropping))
+            (turned-less (λ r. r .tok ≡ s) (λ r. not (eqTok s (r .tok))) (λ r. differs eqTok eqTok→ eqTok-refl s (r .tok)) (λ n r. (grant-old s es n r, λ q. grant-stays s es n r (q .0) (q .1))))
+            (turned-same uj (needs-dropped L t t′ j d (t .unmet) fm dropping));
+      }
 
 pub kind-4 : (s : Tok) → KindTurns (removeService s)
-kind-4 s L t cs a fm st _ _ _ ans =
-    removed-service s L t fm a ans (λ d _. Turns L d (alter a (altered (removeService s)) cs)) (λ j k p ea es. turns L t fm j k p s es cs a ea st)
+kind-4 s L t cs a fm st _ _ _ =
+    reach-4 L t fm a (λ d _. Turns L d (alter a (altered (removeService s)) cs)) s (λ j k p ea es. turns L t fm j k p s es cs a ea st)

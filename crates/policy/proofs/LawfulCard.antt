@@ -1,20 +1,17 @@
 -- Lawful tables stand for lawful contracts: every met call is granted by its provider, every need is met.
 use Prim.Native.Nat.{ℕ}
-use mathlib.Core.Path.{_≡_, refl, sym, ap, _∙_, subst}
+use mathlib.Core.Path.{_≡_, sym, ap, _∙_}
 use mathlib.Core.List.{List, []}
-use mathlib.Core.List.{List·Memᴰ as In, List·Memᴰ·not-nil as in-nil, Memᴰ·cast as in-cast}
+use mathlib.Core.List.{List·Memᴰ as In, List·Memᴰ·not-nil as in-nil}
 use lib.Dec.{T}
-use Rattle.policy.specs.Contract.{Tok, Row, Contract}
+use Rattle.policy.specs.Contract.{Row, Contract}
 use Rattle.policy.specs.Layout.{Layout}
 use Rattle.policy.specs.Tables.{Tables}
 use Rattle.policy.specs.Claims.{CallsGranted, NeedsPresent}
 use Rattle.policy.proofs.Formed.{Formed, Lawful, ProvidesAt, at, RowAt, GrantAt, HasContract, Stands}
+use Rattle.policy.proofs.Facts.{at-aid, contract-of, need-bits}
 
 module _ (L : Layout) (t : Tables) (cs : List Contract) (g : Formed L t) (w : Lawful t) (st : Stands t [] cs) where
-  -- the number of a contract with the AID of package j is j
-  at-number : (d : Contract) (m j : ℕ) → T (t .used m) → HasContract t [] m d → T (t .used j) → d .aid ≡ t .aid j → HasContract t [] j d
-  at-number d m j um h uj e = subst (λ (z : ℕ). HasContract t [] z d) (g .names .aid-inj m j um uj (sym (h .aid) ∙ e)) h
-
   pub calls-granted : CallsGranted cs
   calls-granted c d r mc md mr e mt =
       let p = st .these c mc in
@@ -25,7 +22,7 @@ module _ (L : Layout) (t : Tables) (cs : List Contract) (g : Formed L t) (w : La
           → In (record { aid = c .aid; tok = r .tok }) (d .grants)
       go i hc m um hd (RowAt.bit j k b f) v =
           let pj = g .calls .of-prov i j k b in
-          let hj = at-number d m j um hd (g .names .prov-used j k pj) (e ∙ ap (λ (z : Row). z .aid) f) in
+          let hj = at-aid L t (g .names) d m j um hd (g .names .prov-used j k pj) (e ∙ ap (λ (z : Row). z .aid) f) in
           hj .grants (record { aid = c .aid; tok = r .tok }) .1 (GrantAt.bit i k (w i j k b) (hc .aid) (ap (λ (z : Row). z .tok) f))
       go i hc m um hd (RowAt.row n) (at k v f) = absurd (g .unmet .off .off-card _ n m k v (sym (hd .aid) ∙ e) (sym f))
 
@@ -34,10 +31,7 @@ module _ (L : Layout) (t : Tables) (cs : List Contract) (g : Formed L t) (w : La
     where
       go : (i : ℕ) → RowAt t (t .needs) [] i r → (d : Contract) × In d cs × (d .aid ≡ r .aid) × In (r .tok) (d .provides)
       go i (RowAt.bit j k b f) =
-          let pj = g .calls .of-prov i j k (g .need-call i j k b) in
-          let uj = g .names .prov-used j k pj in
-          let q = st .no-others j uj in
-          let h = st .these (q .0) (q .1) in
-          let hj = at-number (q .0) (h .0) j (h .1) (h .2) uj (q .2) in
-          (q .0, q .1, q .2 ∙ sym (ap (λ (z : Row). z .aid) f), hj .provides (r .tok) .1 (at k pj (ap (λ (z : Row). z .tok) f)))
+          let p = need-bits L t g .of-prov i j k b in
+          let q = contract-of L t (g .names) st j (g .names .prov-used j k p) in
+          (q .0, q .1, q .2 .aid ∙ sym (ap (λ (z : Row). z .aid) f), q .2 .provides (r .tok) .1 (at k p (ap (λ (z : Row). z .tok) f)))
       go i (RowAt.row n) = absurd (in-nil n)

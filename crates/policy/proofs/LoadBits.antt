@@ -13,7 +13,8 @@ use Rattle.policy.specs.Lookup.{serviceAt}
 use Rattle.policy.specs.Draft.{callRow, hasUnmet, hasWaiting, loadedNames, namedIn, loadAt}
 use Rattle.policy.proofs.Sets.{T-true, T-false, and-l, and-r, and-i}
 use Rattle.policy.proofs.Equal.{eqb-of, has-row, row-has, has-unmet, unmet-has, has-waiting, waiting-has}
-use Rattle.policy.proofs.LoadNames.{Newcomer, Loaded, loaded, at-new, at-old}
+use Rattle.policy.proofs.Put.{at-new, at-old}
+use Rattle.policy.proofs.LoadNames.{Newcomer, Loaded, loaded}
 
 -- one test of three, chosen by two others
 module _ (a b v w o : Bool) where

@@ -10,13 +10,14 @@ use Rattle.policy.specs.Lists.{keep, isSome, orElse}
 use Rattle.policy.specs.Contract.{eqAid, Tok, Row, Contract, hasTok, validAid}
 use Rattle.policy.specs.Layout.{Layout}
 use Rattle.policy.specs.Tables.{Tables, Unmet, Waiting}
-use Rattle.policy.specs.Lookup.{Place, numberOf, serviceOf, serverOf, serviceAt}
+use Rattle.policy.specs.Lookup.{numberOf, serviceOf, serverOf, serviceAt}
 use Rattle.policy.specs.Draft.{callRow, loadedNames, notServed, loadedService, loadAt}
-use Rattle.policy.proofs.Sets.{and-i, not-e, map-in, keep-in, once-keep, once-map, once-append, each-append}
+use Rattle.policy.proofs.Sets.{and-i, not-e, none-to, keep-in, once-keep, once-map, each-map-keep, once-append, each-append}
 use Rattle.policy.proofs.Equal.{eqAid-of, tok-has}
-use Rattle.policy.proofs.Formed.{Names, Bits, Off, UnmetRows, WaitingRows, Formed, grantBit, ValidRows}
-use Rattle.policy.proofs.Found.{NumberIs, number-is, ServiceIs, service-is, ServerIs, server-is}
-use Rattle.policy.proofs.LoadNames.{Newcomer, Loaded, loaded, names-loaded, tok-in, in-tok, by-number}
+use Rattle.policy.proofs.Put.{by-number}
+use Rattle.policy.proofs.Formed.{Names, Bits, Off, UnmetRows, WaitingRows, grantBit, Formed, ValidRows}
+use Rattle.policy.proofs.Found.{NumberIs, ServiceIs, ServerIs, number-is, service-is, server-is}
+use Rattle.policy.proofs.LoadNames.{Newcomer, Loaded, loaded, tok-in, in-tok, names-loaded}
 use Rattle.policy.proofs.LoadBits.{CallIs, GrantIs, call-is, grant-is, need-new, need-old}
 
 module _ (L : Layout) (t : Tables) (m : ℕ) (k : Contract) where
@@ -46,17 +47,11 @@ module _ (L : Layout) (t : Tables) (m : ℕ) (k : Contract) where
 
   -- what each row that it leaves off, and each grant of it that waits, satisfies
   pub each-left : (P : Unmet → Type 0) (l : List Row) → ((r : Row) → In r l → T (notServed L t m k r) → P (callRow m r)) → (u : Unmet) → In u (leftOff l) → P u
-  each-left P l f u i =
-      let p = map-in (callRow m) (keep (notServed L t m k) l) i in
-      let q = keep-in (notServed L t m k) l (p .1) in
-      subst P (sym (p .2)) (f (p .0) (q .0) (q .1))
+  each-left P l = each-map-keep (callRow m) P (notServed L t m k) l
 
   each-waits : (P : Waiting → Type 0) → ((r : Row) → In r (k .grants) → T (uninstalled r) → P (waitingFor r))
       → (w : Waiting) → In w (map waitingFor (keep uninstalled (k .grants))) → P w
-  each-waits P f w i =
-      let p = map-in waitingFor (keep uninstalled (k .grants)) i in
-      let q = keep-in uninstalled (k .grants) (p .1) in
-      subst P (sym (p .2)) (f (p .0) (q .0) (q .1))
+  each-waits P = each-map-keep waitingFor P uninstalled (k .grants)
 
   module _ (new : Newcomer L t m k) (valid : T (validAid (k .aid))) where
     l : Loaded L t m k
@@ -66,18 +61,10 @@ module _ (L : Layout) (t : Tables) (m : ℕ) (k : Contract) where
     names-on = names-loaded L t m k new valid
 
     not-served : (r : Row) → T (notServed L t m k r) → ServerIs on r none
-    not-served r = go (serverOf L on r) (server-is L on names-on r)
-      where
-        go : (o : Option Place) → ServerIs on r o → T (not (isSome o)) → ServerIs on r none
-        go none h s = h
-        go (some p) h s = absurd s
+    not-served r = none-to (ServerIs on r) (serverOf L on r) (server-is L on names-on r)
 
     not-installed : (r : Row) → T (uninstalled r) → NumberIs t (r .aid) none
-    not-installed r = go (numberOf L t (r .aid)) (number-is L t (new .formed .names) (r .aid))
-      where
-        go : (o : Option ℕ) → NumberIs t (r .aid) o → T (not (isSome o)) → NumberIs t (r .aid) none
-        go none h s = h
-        go (some n) h s = absurd s
+    not-installed r = none-to (NumberIs t (r .aid)) (numberOf L t (r .aid)) (number-is L t (new .formed .names) (r .aid))
 
     -- 'its services take 0, 1, 2 in record order'
     pub service-loaded : {s : Tok} → In s (k .provides) → T (on .provides m (loadedService L t m k s)) × (on .tok m (loadedService L t m k s) ≡ s)

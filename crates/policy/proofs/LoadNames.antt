@@ -3,28 +3,29 @@ use Prim.Native.Nat.{ℕ, zero, suc, _≤_, _<_, zero-le, suc-le-suc}
 use native.Mathlib.Omega.{arith}
 use native.Mathlib.Nat.{not-suc-le-zero, le-of-suc-le-suc}
 use mathlib.Core.Path.{_≡_, refl, sym, ap, _∙_, subst}
-use mathlib.Core.Logic.{_⊎_, inl, inr}
-use mathlib.Core.Bool.{Bool, true, false, not, _&&_, cond}
+use mathlib.Core.Bool.{true, not, _&&_}
 use mathlib.Core.List.{List, [], _∷_}
 use mathlib.Core.List.{List·Memᴰ as In, List·Memᴰ·head as here, List·Memᴰ·tail as there, Memᴰ·cast as in-cast}
-use mathlib.Core.Option.{Option, none, some}
-use lib.Dec.{T, eqb, ltb, eqb→eq, eqb-refl, ltb→lt, lt→ltb, nltb→le}
+use mathlib.Core.Option.{none, some}
+use lib.Dec.{T, ltb, ltb→lt, lt→ltb, nltb→le}
 use lib.ListN.{length, getD, List·getD-eq-default}
-use Rattle.policy.specs.Lists.{every, distinct, isSome, orElse, NoRepeat}
+use Rattle.policy.specs.Lists.{every, distinct, NoRepeat}
 use Rattle.policy.specs.Contract.{Aid, eqAid, Tok, eqTok, Row, eqRow, Contract, hasTok, hasRow, validAid}
 use Rattle.policy.specs.Layout.{Layout}
 use Rattle.policy.specs.Record.{load, notOwn, proper}
-use Rattle.policy.specs.Causes.{_when_, answer}
+use Rattle.policy.specs.Causes.{answer}
 use Rattle.policy.specs.Tables.{Tables, noTok}
-use Rattle.policy.specs.Lookup.{serviceAt, numberOf, freeNumber}
-use Rattle.policy.specs.Draft.{kept, Draft, loadedNames, loadAt, draft}
+use Rattle.policy.specs.Lookup.{serviceAt}
+use Rattle.policy.specs.Draft.{Draft, Look, loadedNames, loadAt, draft}
 use Rattle.policy.specs.Judge.{tableCauses}
 use Rattle.policy.specs.History.{FourSets}
-use Rattle.policy.proofs.Sets.{T-true, T-false, false-T, and-l, and-r, test, not-i, not-e, every-in, distinct→once}
-use Rattle.policy.proofs.Equal.{eqAid-of, eqb-of, eqTok→, eqTok-refl, eqRow→, eqRow-refl, has-tok, has-row}
+use Rattle.policy.specs.ShortCheck.{shortLoad, shortLook}
+use Rattle.policy.proofs.Sets.{and-l, and-r, not-i, not-e, every-in, distinct→once}
+use Rattle.policy.proofs.Equal.{eqAid-of, eqTok→, eqTok-refl, row-path, eqRow→, eqRow-refl, has-tok, has-row}
+use Rattle.policy.proofs.Put.{at-new, at-old, by-number}
 use Rattle.policy.proofs.Formed.{Names, Formed}
-use Rattle.policy.proofs.Found.{NumberIs, FreeIs, number-is, free-number-is}
-use Rattle.policy.proofs.Answers.{answer-zero}
+use Rattle.policy.proofs.Found.{NumberIs, FreeIs}
+use Rattle.policy.proofs.Reach.{reach-1}
 
 -- ---- elements by their index
 module _ {A : Type 0} (d : A) where
@@ -44,9 +45,6 @@ module _ {A : Type 0} (d : A) where
   getD-inj (x ∷ l) n (suc y) zero a b e = absurd (n .0 (in-cast (sym e) (getD-in l y (le-of-suc-le-suc a))))
   getD-inj (x ∷ l) n (suc y) (suc z) a b e = ap suc (getD-inj l (n .1) y z (le-of-suc-le-suc a) (le-of-suc-le-suc b) e)
 
-pub row-path : {r s : Row} → r .aid ≡ s .aid → r .tok ≡ s .tok → r ≡ s
-row-path e f = λ i. record { aid = e i; tok = f i }
-
 -- ---- what a load that causes 3, 4 and 7 let pass finds: a free number m, no package with the AID, and a proper contract
 pub record Newcomer (L : Layout) (t : Tables) (m : ℕ) (k : Contract) : Type 0 where
   pub formed : Formed L t
@@ -59,22 +57,6 @@ pub record Newcomer (L : Layout) (t : Tables) (m : ℕ) (k : Contract) : Type 0 
   pub grants-other : (r : Row) → In r (k .grants) → r .aid ≡ k .aid → ⊥
   pub needs-called : (r : Row) → In r (k .needs) → In r (k .calls)
   pub grants-provided : (r : Row) → In r (k .grants) → In (r .tok) (k .provides)
-
--- ---- a value chosen by whether a number is m
-module _ {A : Type 0} (m : ℕ) (v w : A) where
-  pub at-new : cond (eqb m m) v w ≡ v
-  at-new = ap (λ (b : Bool). cond b v w) (T-true (eqb m m) (eqb-refl m))
-
-  pub at-old : (x : ℕ) → (x ≡ m → ⊥) → cond (eqb x m) v w ≡ w
-  at-old x h = ap (λ (b : Bool). cond b v w) (T-false (eqb x m) (λ s. h (eqb→eq x m s)))
-
--- a law of every number, by whether it is m
-pub by-number : (m : ℕ) (P : ℕ → Type 0) (x : ℕ) → P m → ((x ≡ m → ⊥) → P x) → P x
-by-number m P x h f = go (test (eqb x m))
-  where
-    go : T (eqb x m) ⊎ (T (eqb x m) → ⊥) → P x
-    go (inl s) = subst P (sym (eqb→eq x m s)) h
-    go (inr n) = f (λ e. n (eqb-of e))
 
 module _ (L : Layout) (t : Tables) (m : ℕ) (k : Contract) where
   abbrev on : Tables
@@ -170,10 +152,9 @@ module _ (L : Layout) (t : Tables) (a : Aid) (p : List Tok) (c g n : List Row) w
   abbrev contract : Contract
   contract = record { aid = a; provides = p; calls = c; grants = g; needs = n }
 
-  newcomer : Formed L t → length p ≤ L .services → T (proper a (load p c g n)) → answer (tableCauses L t a (load p c g n)) ≡ 0
-      → (m : ℕ) → FreeIs (L .packages) (t .used) (some m) → Newcomer L t m contract
+  newcomer : Formed L t → length p ≤ L .services → T (proper a (load p c g n)) → (m : ℕ) → NumberIs t a none → FreeIs (L .packages) (t .used) (some m) → Newcomer L t m contract
   unfolding proper
-  newcomer f fit pr an m fr =
+  newcomer f fit pr m away fr =
       let d1 = distinct eqTok p in
       let d2 = distinct eqRow c in
       let d3 = distinct eqRow g in
@@ -195,7 +176,7 @@ module _ (L : Layout) (t : Tables) (a : Aid) (p : List Tok) (c g n : List Row) w
         formed = f;
         number-lt = fr .0;
         free = fr .1;
-        absent = none-with (numberOf L t a) (number-is L t (f .names) a) (answer-zero 3 (isSome (numberOf L t a)) (7 when not (isSome (freeNumber L t)) ∷ []) an .0);
+        absent = away;
         services-fit = fit;
         sets = record {
           provides = distinct→once eqTok eqTok→ eqTok-refl p (and-l d1 d2 h2);
@@ -209,24 +190,13 @@ module _ (L : Layout) (t : Tables) (a : Aid) (p : List Tok) (c g n : List Row) w
         grants-provided = λ r m. has-tok (r .tok) p (every-in (λ x. hasTok (x .tok) p) g (and-r i1 i2 hi) m);
       }
     where
-      none-with : (o : Option ℕ) → NumberIs t a o → isSome o ≡ false → NumberIs t a none
-      none-with none h e = h
-      none-with (some x) h e = absurd (false-T e tt)
-
       rows-once : (l : List Row) → T (distinct eqRow l) → NoRepeat l
       rows-once l h = distinct→once eqRow eqRow→ eqRow-refl l h
 
       other : (l : List Row) → T (notOwn a l) → (r : Row) → In r l → r .aid ≡ a → ⊥
       other l h r m e = not-e (eqAid (r .aid) a) (every-in (λ x. not (eqAid (x .aid) a)) l h m) (eqAid-of e)
 
-  pub load-draft : (P : Draft → Type 0) → Formed L t → length p ≤ L .services → T (proper a (load p c g n)) → answer (tableCauses L t a (load p c g n)) ≡ 0
-      → ((m : ℕ) → Newcomer L t m contract → P (loadAt L t m contract)) → P (draft L t a (load p c g n))
-  unfolding draft
-  load-draft P f fit pr an h = go (freeNumber L t) (free-number-is L t) full
-    where
-      full : not (isSome (freeNumber L t)) ≡ false
-      full = answer-zero 6 (not (isSome (freeNumber L t))) [] (answer-zero 3 (isSome (numberOf L t a)) (7 when not (isSome (freeNumber L t)) ∷ []) an .1) .0
-
-      go : (o : Option ℕ) → FreeIs (L .packages) (t .used) o → not (isSome o) ≡ false → P (orElse o (kept t) (λ m. loadAt L t m contract))
-      go none q e = absurd (false-T e tt)
-      go (some m) q e = h m (newcomer f fit pr an m q)
+  pub load-reached : (P : Draft → Look → Type 0) → Formed L t → length p ≤ L .services → T (proper a (load p c g n))
+      → ((m : ℕ) → Newcomer L t m contract → P (loadAt L t m contract) (shortLoad L t contract)) → answer (tableCauses L t a (load p c g n)) ≡ 0
+      → P (draft L t a (load p c g n)) (shortLook L t a (load p c g n))
+  load-reached P f fit pr h = reach-1 L t f a P p c g n (λ m away fr. h m (newcomer f fit pr m away fr))

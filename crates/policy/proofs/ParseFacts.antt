@@ -1,10 +1,9 @@
 -- What reading a record gives: valid AIDs, at most as many services as a package has numbers for, and where the first AID stands.
 use Prim.Native.Nat.{ℕ, zero, suc, _+_, _*_, _≤_}
 use mathlib.Core.Path.{_≡_, refl, sym, ap, subst}
-use mathlib.Core.Logic.{_⊎_, inl, inr}
 use mathlib.Core.Bool.{Bool, true, false, _&&_}
 use mathlib.Core.List.{List, [], _∷_}
-use mathlib.Core.List.{List·Memᴰ as In, List·Memᴰ·cases-cons as in-cons, List·Memᴰ·not-nil as in-nil}
+use mathlib.Core.List.{List·Memᴰ as In, List·Memᴰ·not-nil as in-nil}
 use mathlib.Core.Option.{Option, none, some}
 use lib.Dec.{T, eqb, leb, leb→le}
 use lib.ListN.{length, getD, take, drop}
@@ -12,10 +11,11 @@ use lib.Seq.{length-take-le}
 use Rattle.policy.specs.Lists.{orElse}
 use Rattle.policy.specs.Contract.{Aid, Row, validAid}
 use Rattle.policy.specs.Layout.{Layout}
-use Rattle.policy.specs.Record.{Change, addCall, removeCall, addGrant, removeGrant, addNeed, removeNeed, Request, Got, got, bad, Reader, andThen, _>>=_, done, given}
-use Rattle.policy.specs.Record.{byte, bytes, number, aid, tokens, aRow, many, counted, aLoad, aService, kinds, change, fields, whole, parse, firstAid}
+use Rattle.policy.specs.Record.{Change, addCall, removeCall, addGrant, removeGrant, addNeed, removeNeed, Request, Got, got, bad, Reader, andThen, _>>=_, done, given, byte, bytes, number, aid}
+use Rattle.policy.specs.Record.{tokens, aRow, many, counted, aLoad, aService, kinds, change, fields, whole, parse, firstAid}
 use Rattle.policy.specs.Claims.{FirstAidPart}
-use Rattle.policy.proofs.Formed.{Valid, ValidRows}
+use Rattle.policy.proofs.Sets.{each-cons}
+use Rattle.policy.proofs.Formed.{ValidRows, Valid}
 
 -- ---- what was read satisfies P, if anything was
 module _ {A : Type 0} (P : A → Type 0) where
@@ -38,13 +38,6 @@ module _ {A : Type 0} (P : A → Type 0) where
   reads-whole L (got a []) h = h
   reads-whole L (got a (b ∷ s)) h = tt
   reads-whole L bad h = tt
-
-  each-cons : (x : A) (l : List A) → P x → Each l → Each (x ∷ l)
-  each-cons x l h e y m = go (in-cons m)
-    where
-      go : (y ≡ x) ⊎ In y l → P y
-      go (inl q) = subst P (sym q) h
-      go (inr n) = e y n
 
 -- one reader after another
 reads-then : {A B : Type 0} (P : A → Type 0) (Q : B → Type 0) (x : Got A) (f : A → Reader B)

@@ -7,14 +7,14 @@ use mathlib.Core.Path.{_≡_, refl, sym, ap, _∙_}
 use mathlib.Core.Logic.{_⊎_, inl, inr}
 use mathlib.Core.List.{List, [], _∷_, _++_, map, append-assoc, append-nil}
 use mathlib.Core.List.{List·Memᴰ as In, List·Memᴰ·head as here, List·Memᴰ·tail as there}
-use lib.Dec.{T, ltb, ltb→lt, nltb→le}
+use lib.Dec.{T, leb, leb→le, ltb, ltb→lt, nltb→le}
 use lib.ListN.{length, getD, take, drop, replicate, length-append, length-map, length-replicate, replicate-append-replicate, List·getD-eq-default}
 use lib.Seq.{take-at, drop-at}
 use Rattle.policy.specs.Lists.{flat, from, upto}
-use Rattle.policy.specs.Contract.{Aid}
+use Rattle.policy.specs.Contract.{Aid, validAid}
 use Rattle.policy.specs.Layout.{Layout}
 use Rattle.policy.specs.Tables.{Unmet, Waiting, pieces, readAid, writeAid, readTok, writeTok, readUnmet, writeUnmet, readWaiting, writeWaiting, readList, writeList}
-use Rattle.policy.proofs.Sets.{test, not-i, upto-in}
+use Rattle.policy.proofs.Sets.{and-r, test, not-i, length-from, upto-in}
 
 -- ---- one piece for each element of a list
 module _ {A : Type 0} (g : A → List ℕ) (w : ℕ) where
@@ -38,10 +38,6 @@ in-or-off k n = go (test (ltb k n))
     go (inl t) = inl (ltb→lt k n t)
     go (inr f) = inr (nltb→le k n (not-i (ltb k n) f))
 
-pub length-from : (i n : ℕ) → length (from i n) ≡ n
-length-from i zero = refl
-length-from i (suc n) = ap suc (length-from (suc i) n)
-
 getD-from : {A : Type 0} (f : ℕ → A) (i n k : ℕ) (d : A) → k < n → getD (map f (from i n)) k d ≡ f (i + k)
 getD-from f i zero k d h = absurd (not-suc-le-zero h)
 getD-from f i (suc n) zero d h = let e : i ≡ i + zero = omega arith in ap f e
@@ -52,7 +48,7 @@ getD-map f [] k d e h = absurd (not-suc-le-zero h)
 getD-map f (x ∷ l) zero d e h = refl
 getD-map f (x ∷ l) (suc k) d e h = getD-map f l k d e (le-of-suc-le-suc h)
 
-length-pieces : (w n : ℕ) (bs : List ℕ) → length (pieces w n bs) ≡ n
+pub length-pieces : (w n : ℕ) (bs : List ℕ) → length (pieces w n bs) ≡ n
 length-pieces w zero bs = refl
 length-pieces w (suc n) bs = ap suc (length-pieces w n (drop w bs))
 
@@ -101,6 +97,10 @@ module _ (L : Layout) {A : Type 0} (f : List ℕ → A) (g : A → List ℕ) (w 
       each (x ∷ l) e = λ i. e x (here refl) i ∷ each l (λ y m. e y (there m)) i
 
 -- ---- single places
+-- a valid AID has room in its place
+pub valid-short : (a : Aid) → T (validAid a) → length a ≤ 16
+valid-short a t = leb→le (length a) 16 (and-r (leb 5 (length a)) (leb (length a) 16) t)
+
 pub length-aid : (a : Aid) → length a ≤ 16 → length (writeAid a) ≡ 17
 length-aid a h = ap suc (length-append a (replicate (16 - length a) 0) ∙ rw length-replicate (omega arith))
 

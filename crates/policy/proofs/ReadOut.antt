@@ -1,50 +1,31 @@
 -- The contract of a number, read out: it fits a record, has no cause 3, and is read as itself.
-use Prim.Native.Nat.{ℕ, zero, suc, _+_, _*_, _-_, _≤_, _<_}
+use Prim.Native.Nat.{ℕ, suc, _+_, _*_, _-_, _≤_}
 use native.Mathlib.Omega.{arith}
 use native.Mathlib.Nat.{suc-mul}
 use mathlib.Core.Path.{_≡_, refl, sym, ap, _∙_, subst}
 use mathlib.Core.Logic.{_⊎_, inl, inr}
-use mathlib.Core.Bool.{Bool, true, false, not, _&&_, cond}
+use mathlib.Core.Bool.{Bool, not, _&&_}
 use mathlib.Core.List.{List, [], _∷_, _++_, map}
-use mathlib.Core.List.{List·Memᴰ as In, List·Memᴰ·head as here, List·Memᴰ·tail as there, List·Memᴰ·cases-cons as in-cons, List·Memᴰ·not-nil as in-nil}
+use mathlib.Core.List.{List·Memᴰ as In, List·Memᴰ·cases-cons as in-cons, List·Memᴰ·not-nil as in-nil}
 use mathlib.Core.Option.{some}
 use lib.Dec.{T, eqb}
 use lib.ListN.{length, length-append, length-map}
-use Rattle.policy.specs.Lists.{every, keep, flat, from, upto, distinct}
-use Rattle.policy.specs.Contract.{Aid, eqAid, Tok, eqTok, Row, eqRow, Contract, hasTok, hasRow, validAid}
+use Rattle.policy.specs.Lists.{every, keep, flat, distinct}
+use Rattle.policy.specs.Contract.{Aid, eqAid, eqTok, Row, eqRow, Contract, hasTok, hasRow, validAid}
 use Rattle.policy.specs.Layout.{Layout, LayoutOk}
-use Rattle.policy.specs.Record.{load, notOwn, parse, proper}
+use Rattle.policy.specs.Record.{notOwn, parse, proper}
 use Rattle.policy.specs.Tables.{Tables}
 use Rattle.policy.specs.Lookup.{numbers, places, serviceAt, wanted, grantAt, contractAt}
 use Rattle.policy.specs.Judge.{loadRecord}
-use Rattle.policy.proofs.Sets.{and-i, not-i, T-false, in-every, once→distinct, in-upto}
-use Rattle.policy.proofs.Equal.{eqAid→, eqTok→, eqTok-refl, eqRow→, eqRow-refl, row-has, tok-has}
-use Rattle.policy.proofs.Formed.{Formed, Fitting, ProvidesAt, at, RowAt, GrantAt, ValidRows}
-use Rattle.policy.proofs.ContractAt.{provides-at, calls-at, grants-at, needs-at, four-sets-at}
-use Rattle.policy.proofs.Written.{load-parses}
+use Rattle.policy.proofs.Sets.{and-i, not-i, cond-false, in-every, length-keep, length-flat-le, once→distinct, pairs, length-from, in-upto}
+use Rattle.policy.proofs.Equal.{eqAid→, eqTok→, eqTok-refl, eqRow→, eqRow-refl, tok-has, row-has}
+use Rattle.policy.proofs.Formed.{Formed, Fitting, RowAt, GrantAt}
+use Rattle.policy.proofs.Facts.{need-bits, granted-provided}
+use Rattle.policy.proofs.ContractAt.{provides-at, calls-at, needs-at, grants-at, four-sets-at}
+use Rattle.policy.proofs.Written.{loadOf, requestOf, load-parses}
 
 -- ---- lengths
-pub length-keep : {A : Type 0} (f : A → Bool) (l : List A) → length (keep f l) ≤ length l
-length-keep f [] = omega arith
-length-keep {A} f (x ∷ l) = go (f x) (length-keep f l)
-  where
-    go : (b : Bool) → length (keep f l) ≤ length l → length (cond b (x ∷ keep f l) (keep f l)) ≤ suc (length l)
-    go true h = omega arith
-    go false h = omega arith
-
-pub length-from : (i n : ℕ) → length (from i n) ≡ n
-length-from i zero = refl
-length-from i (suc n) = ap suc (length-from (suc i) n)
-
 module _ {A : Type 0} (f : ℕ → List A) (most : ℕ) (each : (x : ℕ) → length (f x) ≤ most) where
-  length-flat : (l : List ℕ) → length (flat f l) ≤ length l * most
-  length-flat [] = omega arith
-  length-flat (x ∷ l) =
-      let a = each x in
-      let b = length-flat l in
-      let e = length-append (f x) (flat f l) in
-      rw (suc-mul (length l) most) (omega arith)
-
   -- one of them is empty
   length-flat-but : (n : ℕ) → f n ≡ [] → (l : List ℕ) → In n l → length (flat f l) ≤ (length l - 1) * most
   length-flat-but n e [] m = absurd (in-nil m)
@@ -64,7 +45,7 @@ module _ {A : Type 0} (f : ℕ → List A) (most : ℕ) (each : (x : ℕ) → le
       go : (n ≡ x) ⊎ In n l → (In n l → length (flat f l) ≤ (length l - 1) * most) → length (f x ++ flat f l) ≤ (suc (length l) - 1) * most
       go (inl q) ih =
           let z : length (f x) ≡ 0 = ap (λ (y : ℕ). length (f y)) (sym q) ∙ ap (λ (y : List A). length y) e in
-          let a = length-flat l in
+          let a = length-flat-le f most l (λ x m. each x) in
           let s = length-append (f x) (flat f l) in
           rw (less l) (omega arith)
       go (inr p) ih = let a = more l p (ih p) in let s = length-append (f x) (flat f l) in rw (less l) (omega arith)
@@ -77,21 +58,24 @@ module _ (L : Layout) (lo : LayoutOk L) (t : Tables) (g : Formed L t) (fit : Fit
   module _ (name : ℕ → ℕ → Row) (b : ℕ → ℕ → Bool) (diagonal : (k : ℕ) → T (b n k) → ⊥) where
     empty-keep : (l : List ℕ) → keep (b n) l ≡ []
     empty-keep [] = refl
-    empty-keep (k ∷ l) = ap (λ (z : Bool). cond z (k ∷ keep (b n) l) (keep (b n) l)) (T-false (b n k) (diagonal k)) ∙ empty-keep l
+    empty-keep (k ∷ l) = cond-false (b n k) (k ∷ keep (b n) l) (keep (b n) l) (diagonal k) ∙ empty-keep l
 
-    bits-length : length (flat (λ j. map (name j) (keep (b j) (places L t))) (numbers L t)) ≤ (L .packages - 1) * L .services
+    abbrev bits : List Row
+    bits = pairs name b (places L t) (numbers L t)
+
+    bits-length : length bits ≤ (L .packages - 1) * L .services
     bits-length =
         let h = length-flat-but (λ j. map (name j) (keep (b j) (places L t))) (L .services)
         (λ j. let a = length-map (keep (b j) (places L t)) (name j) in let k = length-keep (b j) (places L t) in let u = length-from 0 (L .services) in omega arith)
         n (ap (λ (z : List ℕ). map (name n) z) (empty-keep (places L t))) (numbers L t) (in-upto (L .packages) n (g .names .used-lt n un)) in
-        subst (λ (z : ℕ). length (flat (λ j. map (name j) (keep (b j) (places L t))) (numbers L t)) ≤ (z - 1) * L .services) (length-from 0 (L .packages)) h
+        subst (λ (z : ℕ). length bits ≤ (z - 1) * L .services) (length-from 0 (L .packages)) h
 
     -- with the rows of a list behind the bits
     rows-length : {A : Type 0} (f : A → Row) (own : A → Bool) (l : List A) → length l ≤ L .capacity
-        → length (flat (λ j. map (name j) (keep (b j) (places L t))) (numbers L t) ++ map f (keep own l)) ≤ L .mostRows
+        → length (bits ++ map f (keep own l)) ≤ L .mostRows
     rows-length f own l h =
         let a = bits-length in
-        let e = length-append (flat (λ j. map (name j) (keep (b j) (places L t))) (numbers L t)) (map f (keep own l)) in
+        let e = length-append bits (map f (keep own l)) in
         let m = length-map (keep own l) f in
         let k = length-keep own l in
         let r = lo .rows-fit in
@@ -117,7 +101,7 @@ module _ (L : Layout) (lo : LayoutOk L) (t : Tables) (g : Formed L t) (fit : Fit
   needs-length : length (c .needs) ≤ L .mostRows
   unfolding contractAt
   needs-length =
-      let a = bits-length (serviceAt t) (t .needs n) (λ k h. g .calls .other n n k (g .need-call n n k h) refl) in
+      let a = bits-length (serviceAt t) (t .needs n) (λ k h. need-bits L t g .other n n k h refl) in
       let r = lo .rows-fit in
       omega arith
 
@@ -156,17 +140,13 @@ module _ (L : Layout) (lo : LayoutOk L) (t : Tables) (g : Formed L t) (fit : Fit
       go (GrantAt.row k p f) = (g .waiting .wait-valid _ p, λ q. g .waiting .wait-off _ p n un (sym q))
 
   grant-provided : (r : Row) → In r (c .grants) → In (r .tok) (c .provides)
-  grant-provided r m = go (grants-at L t g n r .0 m)
-    where
-      go : GrantAt t n r → In (r .tok) (c .provides)
-      go (GrantAt.bit i k b e f) = provides-at L t g n (r .tok) .1 (at k (g .grants .of-prov i n k b) f)
-      go (GrantAt.row k p f) = provides-at L t g n (r .tok) .1 (at k (g .waiting .wait-prov _ p) f)
+  grant-provided r m = provides-at L t g n (r .tok) .1 (granted-provided L t g n r (grants-at L t g n r .0 m))
 
   valid-aid : T (validAid (c .aid))
   unfolding contractAt
   valid-aid = g .names .aid-valid n un
 
-  pub read-out-parses : parse L (loadRecord L c) ≡ some (record { aid = c .aid; change = load (c .provides) (c .calls) (c .grants) (c .needs) })
+  pub read-out-parses : parse L (loadRecord L c) ≡ some (requestOf c)
   read-out-parses =
       load-parses L lo c valid-aid provides-length calls-length grants-length needs-length
       (λ r m. call-other r m .0) (λ r m. grant-other r m .0) (λ r m. call-other r (need-called r m) .0)
@@ -175,7 +155,7 @@ module _ (L : Layout) (lo : LayoutOk L) (t : Tables) (g : Formed L t) (fit : Fit
   not-own : (l : List Row) → ((r : Row) → In r l → Other r) → T (notOwn (t .aid n) l)
   not-own l h = in-every (λ r. not (eqAid (r .aid) (t .aid n))) l (λ r m. not-i (eqAid (r .aid) (t .aid n)) (λ e. h r m .1 (eqAid→ (r .aid) (t .aid n) e)))
 
-  pub read-out-proper : T (proper (c .aid) (load (c .provides) (c .calls) (c .grants) (c .needs)))
+  pub read-out-proper : T (proper (c .aid) (loadOf c))
   unfolding proper contractAt
   read-out-proper =
       let s = four-sets-at L t g n un in

@@ -7,23 +7,21 @@ use mathlib.Core.Logic.{_⊎_, inl, inr}
 use mathlib.Core.Bool.{false}
 use mathlib.Core.List.{List, [], _++_, map, append-nil}
 use mathlib.Core.List.{List·Memᴰ as In, List·Memᴰ·not-nil as in-nil}
-use lib.Dec.{T, leb, leb→le}
+use lib.Dec.{T}
 use lib.ListN.{length, getD, take, drop, replicate, length-append}
 use lib.Seq.{take-at, drop-at, drop-drop}
 use Rattle.policy.specs.Lists.{flat, upto}
-use Rattle.policy.specs.Contract.{Aid, Tok, validAid}
+use Rattle.policy.specs.Contract.{Aid, Tok}
 use Rattle.policy.specs.Layout.{Layout, LayoutOk, aidSize, unmetSize, waitingSize, usedAt, aidsAt, tokensAt, providesAt, callsAt, grantsAt, needsAt, unmetAt, waitingAt, size}
-use Rattle.policy.specs.Tables.{Tables, Unmet, Waiting, noTok, pieces, readAid, writeAid, readTok, writeTok, readUnmet, writeUnmet, readWaiting, writeWaiting}
-use Rattle.policy.specs.Tables.{writeList, bitOf, writeBits, writeTable, decode, encode, emptyImage}
-use Rattle.policy.proofs.Sets.{and-r, test}
-use Rattle.policy.proofs.Bits.{length-bits, read-bits, writeLine, length-line, read-line, length-lines, read-lines, zeros-bits}
-use Rattle.policy.proofs.Pieces.{in-or-off, length-table, piece-at, piece-only, read-at, read-off, length-list, read-list}
-use Rattle.policy.proofs.Pieces.{length-aid, read-aid, length-unmet, read-unmet, length-waiting, read-waiting, Zeros, zeros-append, zeros-flat, zeros-list}
+use Rattle.policy.specs.Tables.{Tables, Unmet, Waiting, noTok, pieces, readAid, writeAid, readTok, writeTok, readUnmet, writeUnmet, readWaiting, writeWaiting, writeList, bitOf, writeBits}
+use Rattle.policy.specs.Tables.{writeTable, decode, encode, emptyImage}
+use Rattle.policy.proofs.Sets.{test}
+use Rattle.policy.proofs.EveryBit.{BitIn}
+use Rattle.policy.proofs.Pieces.{in-or-off, length-table, piece-at, piece-only, read-at, read-off, length-list, read-list, valid-short, length-aid, read-aid, length-unmet, read-unmet}
+use Rattle.policy.proofs.Pieces.{length-waiting, read-waiting, Zeros, zeros-append, zeros-flat, zeros-list}
+use Rattle.policy.proofs.Bits.{length-bits, read-bits, zeros-bits, writeLine, length-line, length-lines, read-line, read-lines}
 use Rattle.policy.proofs.Formed.{Formed, Fitting}
-
--- an AID of a package or of a row has room in its place
-pub valid-short : (a : Aid) → T (validAid a) → length a ≤ 16
-valid-short a t = leb→le (length a) 16 (and-r (leb 5 (length a)) (leb (length a) 16) t)
+use Rattle.policy.proofs.Facts.{no-rows, place-in, bit-in, need-bits}
 
 -- the next part of an image, after one of b bytes
 past : (img p rest : List ℕ) (a b : ℕ) → length p ≡ b → drop a img ≡ p ++ rest → drop (a + b) img ≡ rest
@@ -57,13 +55,10 @@ module _ (L : Layout) (lo : LayoutOk L) where
         go (inr f) = subst (λ (z : Aid). length z ≤ 16) (sym (fo .names .aid-blank i f)) zero-le
 
     provides-in : (j k : ℕ) → T (t .provides j k) → (j < n) × (k < m)
-    provides-in j k s = (fo .names .used-lt j (fo .names .prov-used j k s), fo .names .prov-lt j k s)
+    provides-in = place-in L t (fo .names)
 
-    calls-in : (i j k : ℕ) → T (t .calls i j k) → (i < n) × (j < n) × (k < m)
-    calls-in i j k s = let p = provides-in j k (fo .calls .of-prov i j k s) in (fo .names .used-lt i (fo .calls .by-used i j k s), p .0, p .1)
-
-    grants-in : (j i k : ℕ) → T (t .grants j i k) → (j < n) × (i < n) × (k < m)
-    grants-in j i k s = let p = provides-in j k (fo .grants .of-prov i j k s) in (p .0, fo .names .used-lt i (fo .grants .by-used i j k s), p .1)
+    grants-in : (j i k : ℕ) → T (t .grants j i k) → BitIn L j i k
+    grants-in j i k s = let p = bit-in L t (fo .names) (fo .grants) i j k s in (p .1, p .0, p .2)
 
     unmet-short : (u : Unmet) → In u (t .unmet) → length (u .callee) ≤ 16
     unmet-short u i = valid-short (u .callee) (fo .unmet .unmet-valid u i)
@@ -207,9 +202,9 @@ module _ (L : Layout) (lo : LayoutOk L) where
       aid = λ i. read-aids i z;
       tok = λ j k. read-tokens j k z;
       provides = λ j k. read-line L lo (t .provides) provides-in (drop (providesAt L) img) from-calls at-provides j k z;
-      calls = λ i j k. read-lines L lo (t .calls) calls-in (drop (callsAt L) img) from-grants at-calls i j k z;
+      calls = λ i j k. read-lines L lo (t .calls) (bit-in L t (fo .names) (fo .calls)) (drop (callsAt L) img) from-grants at-calls i j k z;
       grants = λ j i k. read-lines L lo (t .grants) grants-in (drop (grantsAt L) img) from-needs at-grants j i k z;
-      needs = λ i j k. read-lines L lo (t .needs) (λ i j k s. calls-in i j k (fo .need-call i j k s)) (drop (needsAt L) img) from-unmet at-needs i j k z;
+      needs = λ i j k. read-lines L lo (t .needs) (bit-in L t (fo .names) (need-bits L t fo)) (drop (needsAt L) img) from-unmet at-needs i j k z;
       unmet = read-list L readUnmet writeUnmet unmetSize (t .unmet) (λ u i. length-unmet u (unmet-short u i)) (λ u i. read-unmet u (unmet-short u i)) (drop (unmetAt L) img) from-waiting at-unmet z;
       waiting = read-list L readWaiting writeWaiting waitingSize (t .waiting) (λ v i. length-waiting v (waiting-short v i)) (λ v i. read-waiting v (waiting-short v i))
           (drop (waitingAt L) img) [] (at-waiting ∙ sym (append-nil from-waiting)) z;
@@ -245,7 +240,7 @@ empty-formed L = record {
   grants = record { by-used = λ i j k s. s; of-prov = λ i j k s. s; other = λ i j k s e. s };
   need-call = λ i j k s. s;
   unmet = record {
-    off = record { off-used = λ u i. absurd (in-nil i); off-card = λ u i j k s e f. s };
+    off = no-rows emptyTables;
     unmet-valid = λ u i. absurd (in-nil i);
     unmet-other = λ u i e. in-nil i;
     unmet-once = tt;

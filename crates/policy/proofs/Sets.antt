@@ -1,7 +1,7 @@
--- Lists as finite sets: membership, tests read as facts, and lengths.
-use Prim.Native.Nat.{ℕ, zero, suc, _+_, _≤_, _<_, zero-le, suc-le-suc}
+-- Tests read as facts, and lists as finite sets: membership, repetitions and lengths.
+use Prim.Native.Nat.{ℕ, zero, suc, _+_, _*_, _≤_, _<_, zero-le, suc-le-suc}
 use native.Mathlib.Omega.{arith}
-use native.Mathlib.Nat.{le-antisymm}
+use native.Mathlib.Nat.{le-antisymm, suc-mul}
 use mathlib.Core.Path.{_≡_, refl, sym, ap, _∙_, subst}
 use mathlib.Core.Logic.{_⊎_, inl, inr, _↔_}
 use mathlib.Core.Bool.{Bool, true, false, not, _&&_, _||_, cond}
@@ -10,8 +10,8 @@ use mathlib.Core.List.{List·Memᴰ as In, List·Memᴰ·head as here, List·Mem
 use mathlib.Core.List.{Memᴰ·map, Memᴰ·of-map, Memᴰ·append-left as in-left, Memᴰ·append-right as in-right, List·Memᴰ·append-cases as in-append, Memᴰ·cast as in-cast}
 use mathlib.Core.Option.{Option, none, some}
 use lib.Dec.{T, eqb, eqb→eq, eqb-refl}
-use lib.ListN.{length}
-use Rattle.policy.specs.Lists.{implies, every, exists, keep, first, flat, from, upto, isNil, isSome, orElse, NoRepeat, distinct, eqBytes}
+use lib.ListN.{length, length-append}
+use Rattle.policy.specs.Lists.{implies, every, exists, keep, first, flat, from, upto, isNil, isSome, NoRepeat, distinct, eqBytes}
 
 -- ---- tests
 pub T-eq : (a b : Bool) → (T a → T b) → (T b → T a) → a ≡ b
@@ -79,7 +79,58 @@ pub not-e : (b : Bool) → T (not b) → T b → ⊥
 not-e true s t = s
 not-e false s t = t
 
+-- a test that does not fail holds
+pub not-not : (b : Bool) → (T (not b) → ⊥) → T b
+not-not true f = tt
+not-not false f = f tt
+
+pub not-false : (b : Bool) → not b ≡ false → T b
+not-false b e = not-not b (false-T e)
+
+-- ---- a value chosen by a test
 module _ {A : Type 0} where
+  pub cond-true : (b : Bool) (v w : A) → T b → cond b v w ≡ v
+  cond-true true v w t = refl
+  cond-true false v w t = absurd t
+
+  pub cond-false : (b : Bool) (v w : A) → (T b → ⊥) → cond b v w ≡ w
+  cond-false true v w f = absurd (f tt)
+  cond-false false v w f = refl
+
+  pub cond-either : (b : Bool) (v w : A) → ((T b → ⊥) → w ≡ v) → cond b v w ≡ v
+  cond-either true v w f = refl
+  cond-either false v w f = f (λ t. t)
+
+pub cond-off : (b c : Bool) → T (cond b false c) → T c × (T b → ⊥)
+cond-off true c t = absurd t
+cond-off false c t = (t, λ u. u)
+
+-- ---- what was found, or not
+module _ {A : Type 0} (P : Option A → Type 0) where
+  pub none-to : (o : Option A) → P o → T (not (isSome o)) → P none
+  none-to none p h = p
+  none-to (some x) p h = absurd h
+
+  pub none-back : ((x : A) → P (some x) → ⊥) → (o : Option A) → P o → T (not (isSome o))
+  none-back h none p = tt
+  none-back h (some x) p = h x p
+
+  pub some-to : (Q : Option A → Type 0) (o : Option A) → P o → not (isSome o) ≡ false → ((x : A) → P (some x) → Q (some x)) → Q o
+  some-to Q none p e h = absurd (false-T e tt)
+  some-to Q (some x) p e h = h x p
+
+module _ {A : Type 0} where
+  pub nil-is : (l : List A) → T (isNil l) → l ≡ []
+  nil-is [] h = refl
+  nil-is (x ∷ l) h = absurd h
+
+  pub is-nil : {l : List A} → l ≡ [] → T (isNil l)
+  is-nil e = subst (λ (z : List A). T (isNil z)) (sym e) tt
+
+  -- ---- one more at the end
+  pub length-snoc : (l : List A) (x : A) → length (l ++ (x ∷ [])) ≡ suc (length l)
+  length-snoc l x = length-append l (x ∷ []) ∙ omega arith
+
   pub once-snoc : (xs : List A) (x : A) → NoRepeat xs → (In x xs → ⊥) → NoRepeat (xs ++ (x ∷ []))
   once-snoc [] x d h = (in-nil, tt)
   once-snoc (y ∷ ys) x d h = (λ m. out (in-append ys m), once-snoc ys x (d .1) (λ m. h (there m)))
@@ -197,6 +248,14 @@ module _ {A : Type 0} where
         go true n = (λ m. d .0 (keep-in ys m .0), n)
         go false n = n
 
+    pub length-keep : (l : List A) → length (keep f l) ≤ length l
+    length-keep [] = zero-le
+    length-keep (y ∷ ys) = go (f y) (length-keep ys)
+      where
+        go : (b : Bool) → length (keep f ys) ≤ length ys → length (cond b (y ∷ keep f ys) (keep f ys)) ≤ suc (length ys)
+        go true h = suc-le-suc h
+        go false h = omega arith
+
     -- what a search found, and what none found says
     abbrev pub Found : List A → Option A → Type 0
     Found l none = (x : A) → In x l → T (f x) → ⊥
@@ -230,6 +289,30 @@ module _ {A B : Type 0} (f : A → B) where
   once-map [] inj d = tt
   once-map (x ∷ xs) inj d = (λ m. let p = map-in xs m in d .0 (in-cast (inj x (p .0) (here refl) (there (p .1)) (p .2)) (p .1)), once-map xs (λ y z m n. inj y z (there m) (there n)) (d .1))
 
+  -- f differs on a list whose image does not repeat, and the list does not repeat either, nor what is kept of it
+  pub map-inj : (l : List A) → NoRepeat (map f l) → {x y : A} → In x l → In y l → f x ≡ f y → x ≡ y
+  map-inj [] d m n e = absurd (in-nil m)
+  map-inj (z ∷ l) d {x} {y} m n e = go (λ p q. map-inj l (d .1) p q e) (in-cons m) (in-cons n)
+    where
+      go : (In x l → In y l → x ≡ y) → (x ≡ z) ⊎ In x l → (y ≡ z) ⊎ In y l → x ≡ y
+      go ih (inl p) (inl q) = p ∙ sym q
+      go ih (inl p) (inr q) = absurd (d .0 (in-cast (ap f (sym p) ∙ e) (in-map q)))
+      go ih (inr p) (inl q) = absurd (d .0 (in-cast (ap f (sym q) ∙ sym e) (in-map p)))
+      go ih (inr p) (inr q) = ih p q
+
+  pub once-of-map : (l : List A) → NoRepeat (map f l) → NoRepeat l
+  once-of-map [] d = tt
+  once-of-map (x ∷ l) d = (λ m. d .0 (in-map m), once-of-map l (d .1))
+
+  pub each-map-keep : (P : B → Type 0) (p : A → Bool) (l : List A) → ((x : A) → In x l → T (p x) → P (f x)) → (y : B) → In y (map f (keep p l)) → P y
+  each-map-keep P p l h y m =
+      let a = map-in (keep p l) m in
+      let b = keep-in p l (a .1) in
+      subst P (sym (a .2)) (h (a .0) (b .0) (b .1))
+
+  pub once-map-keep : (p : A → Bool) (l : List A) → NoRepeat (map f l) → NoRepeat (map f (keep p l))
+  once-map-keep p l d = once-map (keep p l) (λ x y m n. map-inj l d (keep-in p l m .0) (keep-in p l n .0)) (once-keep p l (once-of-map l d))
+
 -- ---- flat
 module _ {A B : Type 0} (f : A → List B) where
   pub in-flat : {x : A} {y : B} {l : List A} → In x l → In y (f x) → In y (flat f l)
@@ -246,6 +329,14 @@ module _ {A B : Type 0} (f : A → List B) where
       go : (In y (flat f l) → (x : A) × In x l × In y (f x)) → In y (f z) ⊎ In y (flat f l) → (x : A) × In x (z ∷ l) × In y (f x)
       go ih (inl n) = (z, here refl, n)
       go ih (inr n) = up (ih n)
+
+  pub length-flat-le : (most : ℕ) (l : List A) → ((x : A) → In x l → length (f x) ≤ most) → length (flat f l) ≤ length l * most
+  length-flat-le most [] h = zero-le
+  length-flat-le most (x ∷ l) h =
+      let a = h x (here refl) in
+      let b = length-flat-le most l (λ y m. h y (there m)) in
+      let e = length-append (f x) (flat f l) in
+      rw (suc-mul (length l) most) (omega arith)
 
 module _ {A : Type 0} where
   pub once-append : (l m : List A) → NoRepeat l → NoRepeat m → ((x : A) → In x l → In x m → ⊥) → NoRepeat (l ++ m)
@@ -264,12 +355,15 @@ module _ {A : Type 0} where
       go (inl p) = f x p
       go (inr p) = g x p
 
-  pub each-one : (P : A → Type 0) (y : A) → P y → (x : A) → In x (y ∷ []) → P x
-  each-one P y h x n = go (in-cons n)
+  pub each-cons : (P : A → Type 0) (y : A) (l : List A) → P y → ((x : A) → In x l → P x) → (x : A) → In x (y ∷ l) → P x
+  each-cons P y l h f x n = go (in-cons n)
     where
-      go : (x ≡ y) ⊎ In x [] → P x
+      go : (x ≡ y) ⊎ In x l → P x
       go (inl e) = subst P (sym e) h
-      go (inr p) = absurd (in-nil p)
+      go (inr p) = f x p
+
+  pub each-one : (P : A → Type 0) (y : A) → P y → (x : A) → In x (y ∷ []) → P x
+  each-one P y h = each-cons P y [] h (λ x m. absurd (in-nil m))
 
   pub each-snoc : {P : A → Type 0} (l : List A) (y : A) → ((x : A) → In x l → P x) → P y → (x : A) → In x (l ++ (y ∷ [])) → P x
   each-snoc {P} l y f h = each-append {P = P} l (y ∷ []) f (each-one P y h)
@@ -281,6 +375,9 @@ module _ {A : Type 0} where
 
     pub in-has : {x : A} {l : List A} → In x l → T (exists (eq x) l)
     in-has {x} m = in-exists (eq x) m (eq-refl x)
+
+    pub differs : (x y : A) → T (not (eq x y)) ↔ (y ≡ x → ⊥)
+    differs x y = (λ h e. not-e (eq x y) h (subst (λ (z : A). T (eq x z)) (sym e) (eq-refl x)), λ n. not-i (eq x y) (λ h. n (sym (eq→ x y h))))
 
     pub distinct→once : (l : List A) → T (distinct eq l) → NoRepeat l
     distinct→once [] t = tt
@@ -301,7 +398,33 @@ module _ {A B : Type 0} (f : A → List B) where
       once-append (f x) (flat f l) (e x (here refl)) (once-flat l (d .1) (λ y m. e y (there m)) (λ y z w m n p q. h y z w (there m) (there n) p q))
       (λ z m n. let p = flat-in f l n in d .0 (in-cast (h x (p .0) z (here refl) (there (p .1)) m (p .2)) (p .1)))
 
+-- ---- the elements g i k of the pairs that pass f, i of m and k of l
+module _ {B : Type 0} (g : ℕ → ℕ → B) (f : ℕ → ℕ → Bool) (l m : List ℕ) where
+  abbrev pub pairs : List B
+  pairs = flat (λ i. map (g i) (keep (f i) l)) m
+
+  pub pairs-in : {x : B} → In x pairs → (i : ℕ) × (k : ℕ) × T (f i k) × (x ≡ g i k)
+  pairs-in h =
+      let p = flat-in (λ i. map (g i) (keep (f i) l)) m h in
+      let q = map-in (g (p .0)) (keep (f (p .0)) l) (p .2) in
+      (p .0, q .0, keep-in (f (p .0)) l (q .1) .1, q .2)
+
+  pub in-pairs : (i k : ℕ) → In i m → In k l → T (f i k) → In (g i k) pairs
+  in-pairs i k a b h = in-flat (λ i. map (g i) (keep (f i) l)) a (in-map (g i) (in-keep (f i) b h))
+
+  pub once-pairs : NoRepeat l → NoRepeat m → ((i k i′ k′ : ℕ) → T (f i k) → T (f i′ k′) → g i k ≡ g i′ k′ → (i ≡ i′) × (k ≡ k′)) → NoRepeat pairs
+  once-pairs dl dm inj = once-flat (λ i. map (g i) (keep (f i) l)) m dm
+      (λ i _. once-map (g i) (keep (f i) l) (λ k k′ a b e. inj i k i k′ (keep-in (f i) l a .1) (keep-in (f i) l b .1) e .1) (once-keep (f i) l dl))
+      (λ i i′ x _ _ a b.
+      let p = map-in (g i) (keep (f i) l) a in
+      let q = map-in (g i′) (keep (f i′) l) b in
+      inj i (p .0) i′ (q .0) (keep-in (f i) l (p .1) .1) (keep-in (f i′) l (q .1) .1) (sym (p .2) ∙ q .2) .0)
+
 -- ---- upto
+pub length-from : (i n : ℕ) → length (from i n) ≡ n
+length-from i zero = refl
+length-from i (suc n) = ap suc (length-from (suc i) n)
+
 pub from-in : (i n : ℕ) {x : ℕ} → In x (from i n) → (i ≤ x) × (x < i + n)
 from-in i zero m = absurd (in-nil m)
 from-in i (suc n) {x} m = go (λ q. from-in (suc i) n q) (in-cons m)
@@ -333,6 +456,13 @@ once-from i (suc n) = (λ m. let p = from-in (suc i) n m in absurd (omega arith)
 
 pub once-upto : (n : ℕ) → NoRepeat (upto n)
 once-upto n = once-from 0 n
+
+-- a test of every number below n
+pub below-in : (f : ℕ → Bool) (n : ℕ) → T (every f (upto n)) → (x : ℕ) → x < n → T (f x)
+below-in f n h x l = every-in f (upto n) h (in-upto n x l)
+
+pub in-below : (f : ℕ → Bool) (n : ℕ) → ((x : ℕ) → T (f x)) → T (every f (upto n))
+in-below f n h = in-every f (upto n) (λ x m. h x)
 
 -- ---- equality tests
 pub eqBytes→ : (a b : List ℕ) → T (eqBytes a b) → a ≡ b

@@ -24,7 +24,6 @@ use Rattle.policy.proofs.SoundFacts.{sound-formed, sound-lawful, sound-
 use Rattle.policy.proofs.ContractAt.{stands-self}
 use Rattle.policy.proofs.AllKinds.{kinds}
 use Rattle.policy.proofs.Step.{judge-ascends, accepted}
-use Rattle.policy.proofs.Theorems.{short-look}
 
 module _ (L : Layout) (img : List ℕ) where
   -- ---- causes 1 to 3
@@ -91,7 +90,7 @@ module _ (L : Layout) (img : List ℕ) (a : Aid) (c : Change) where
   -- none of them applies: the short check of causes 8 to 11 is the full look
   module _ (ok : T (sound L img)) (vc : Valid L c) (pr : T (proper a c)) (none-early : answer (tableCauses L (decode L img) a c) ≡ 0) where
     short : look L d ≡ shortLook L (decode L img) a c
-    short = short-look L (decode L img) (sound-formed L img ok) (sound-lawful L img ok) (sound-fitting L img ok) a c vc pr none-early
+    short = kinds c .1 L (decode L img) a (sound-formed L img ok) (sound-lawful L img ok) (sound-fitting L img ok) vc pr none-early
 
     settled-late : (n : ℕ) → answer (lookCauses L (shortLook L (decode L img) a c)) ≡ n → settled L img a c ≡ byAnswers 0 n
     settled-late n e = settled-is ∙ (λ i. byAnswers (none-early i) (answer (lookCauses L (short i)))) ∙ ap (byAnswers 0) e
@@ -109,5 +108,5 @@ module _ (L : Layout) (img : List ℕ) (a : Aid) (c : Change) where
   accepted-formed ok va vc pr none-early e =
       let t = decode L img in
       let g = sound-formed L img ok in
-      let h = kinds c L t (map (contractAt L t) (usedNumbers L t)) a g (stands-self L t g) va vc pr none-early in
+      let h = kinds c .0 L t (map (contractAt L t) (usedNumbers L t)) a g (stands-self L t g) va vc pr none-early in
       (h .formed, accepted L d (h .formed) (ap (λ (k : Look). answer (lookCauses L k)) (short ok vc pr none-early) ∙ e) .1)

@@ -1,61 +1,38 @@
--- The short check is the full look for kind 1 (load) and kind 3 (a service added).
-use Prim.Native.Nat.{ℕ, suc, _+_, _≤_, _<_}
+-- Kinds 1 and 3: the short check says what the full look at the draft says.
+use Prim.Native.Nat.{ℕ, _+_, _≤_}
 use native.Mathlib.Omega.{arith}
 use mathlib.Core.Path.{_≡_, refl, sym, ap, _∙_, subst}
-use mathlib.Core.Logic.{_⊎_, inl, inr}
+use mathlib.Core.Logic.{inl, inr}
 use mathlib.Core.Bool.{Bool, true, false, not, _&&_, cond}
 use mathlib.Core.List.{List, [], _∷_, _++_, map}
 use mathlib.Core.List.{List·Memᴰ as In, List·Memᴰ·head as here, List·Memᴰ·tail as there, Memᴰ·cast as in-cast}
 use mathlib.Core.Option.{Option, none, some}
-use lib.Dec.{T, eqb, leb, eqb-refl, le→leb}
+use lib.Dec.{T}
 use lib.ListN.{length, length-append, length-map}
 use Rattle.policy.specs.Lists.{implies, every, exists, keep, first, upto, isNil, isSome, orElse}
 use Rattle.policy.specs.Contract.{Aid, eqAid, Tok, eqTok, Row, Contract, hasTok, hasRow}
 use Rattle.policy.specs.Layout.{Layout}
-use Rattle.policy.specs.Record.{load, addService, proper}
-use Rattle.policy.specs.Causes.{_when_, answer}
+use Rattle.policy.specs.Record.{load, addService}
 use Rattle.policy.specs.Tables.{Tables, Unmet, Waiting}
-use Rattle.policy.specs.Lookup.{Place, serviceAt, numberOf, serviceOf, serverOf, freeService}
-use Rattle.policy.specs.Sound.{everyBit}
-use Rattle.policy.specs.Draft.{kept, Draft, callRow, hasUnmet, hasWaiting, asksFor, addServiceAt, loadedNames, notServed, loadedService, loadAt, draft, Look, look}
-use Rattle.policy.specs.ShortCheck.{count, fine, notInstalled, newcomerRights, nowMet, othersRights, shortLoad, shortAddService, shortLook}
-use Rattle.policy.specs.Judge.{absent, holds, tableCauses}
-use Rattle.policy.proofs.Sets.{T-eq, T-true, false-T, and-l, and-r, and-i, or-l, or-r, or-e, implies-i, implies-e, every-in, in-every, in-upto}
-use Rattle.policy.proofs.Equal.{eqAid→, eqAid-of, eqTok→, has-tok, tok-has, has-row, row-has, eqAid-refl, eqTok-refl, has-unmet, unmet-has, waiting-has, has-waiting}
-use Rattle.policy.proofs.Formed.{Formed, Lawful, Fitting}
-use Rattle.policy.proofs.Found.{NumberIs, number-is, FreeIs, free-service-is, ServerIs, server-is, same-place}
-use Rattle.policy.proofs.Answers.{answer-zero}
-use Rattle.policy.proofs.LoadNames.{row-path, Newcomer, Loaded, loaded, service-old, tok-in, in-tok, new-lt, by-number, load-draft}
+use Rattle.policy.specs.Lookup.{Place, serviceAt, numberOf, serviceOf, serverOf}
+use Rattle.policy.specs.Draft.{kept, callRow, hasUnmet, hasWaiting, asksFor, addServiceAt, loadedNames, notServed, loadedService, loadAt, look}
+use Rattle.policy.specs.ShortCheck.{count, notInstalled, newcomerRights, nowMet, othersRights, shortLoad, shortAddService}
+use Rattle.policy.proofs.Sets.{T-eq, and-l, and-r, and-i, implies-i, implies-e, every-in, in-every, length-keep}
+use Rattle.policy.proofs.Equal.{eqAid→, eqAid-refl, eqAid-of, eqTok→, eqTok-refl, row-path, has-tok, tok-has, has-row, row-has, has-unmet, unmet-has, has-waiting, waiting-has}
+use Rattle.policy.proofs.Put.{by-number, OldOrNew, old-or-new}
+use Rattle.policy.proofs.EveryBit.{BitIn, among, among-to, among-back}
+use Rattle.policy.proofs.Formed.{grantBit, Formed, Lawful, Fitting, KindShort}
+use Rattle.policy.proofs.Found.{NumberIs, ServerIs, FreeIs, number-is, server-is, same-place}
+use Rattle.policy.proofs.Facts.{place-in}
+use Rattle.policy.proofs.Reach.{reach-3}
+use Rattle.policy.proofs.LoadNames.{Newcomer, Loaded, loaded, service-old, tok-in, in-tok, new-lt, load-reached}
 use Rattle.policy.proofs.LoadBits.{CallIs, GrantIs, call-is, grant-is}
-
--- ---- a test of every bit
-module _ (L : Layout) (f : ℕ → ℕ → ℕ → Bool) where
-  at-two : ℕ → ℕ → Bool
-  at-two i j = every (f i j) (upto (L .services))
-
-  every-bit-in : T (everyBit L f) → (i j k : ℕ) → i < L .packages → j < L .packages → k < L .services → T (f i j k)
-  unfolding at-two
-  every-bit-in h i j k a b c =
-      every-in (f i j) (upto (L .services)) (every-in (at-two i) (upto (L .packages)) (every-in (λ x. every (at-two x) (upto (L .packages))) (upto (L .packages)) h
-      (in-upto (L .packages) i a)) (in-upto (L .packages) j b)) (in-upto (L .services) k c)
-
-  in-every-bit : ((i j k : ℕ) → T (f i j k)) → T (everyBit L f)
-  unfolding at-two
-  in-every-bit h = in-every (λ x. every (at-two x) (upto (L .packages))) (upto (L .packages))
-      (λ i a. in-every (at-two i) (upto (L .packages)) (λ j b. in-every (f i j) (upto (L .services)) (λ k c. h i j k)))
+use Rattle.policy.proofs.Short.{look-is, fits, fits-as}
 
 module _ {A : Type 0} where
   keep-same : (f g : A → Bool) (l : List A) → ((x : A) → In x l → f x ≡ g x) → keep f l ≡ keep g l
   keep-same f g [] h = refl
   keep-same f g (x ∷ l) h = λ i. cond (h x (here refl) i) (x ∷ keep-same f g l (λ y m. h y (there m)) i) (keep-same f g l (λ y m. h y (there m)) i)
-
-  keep-le : (f : A → Bool) (l : List A) → length (keep f l) ≤ length l
-  keep-le f [] = omega arith
-  keep-le f (x ∷ l) = go (f x) (keep-le f l)
-    where
-      go : (b : Bool) → length (keep f l) ≤ length l → length (cond b (x ∷ keep f l) (keep f l)) ≤ suc (length l)
-      go true h = omega arith
-      go false h = omega arith
 
   -- nothing is kept of those that do not pass where all pass
   none-kept : {B : Type 0} (f : A → Bool) (g : A → B) (l : List A) → isNil (map g (keep (λ x. not (f x)) l)) ≡ every f l
@@ -69,9 +46,6 @@ module _ {A : Type 0} where
   length-kept : {B : Type 0} (l : List B) (g : A → B) (m : List A) → length (l ++ map g m) ≡ length l + length m
   length-kept l g m = length-append l (map g m) ∙ ap (λ (n : ℕ). length l + n) (length-map m g)
 
-look-path : {k l : Look} → k .granted ≡ l .granted → k .needed ≡ l .needed → k .unmetFits ≡ l .unmetFits → k .waitingFits ≡ l .waitingFits → k ≡ l
-look-path a b c d = λ i. record { granted = a i; needed = b i; unmetFits = c i; waitingFits = d i }
-
 -- ---- kind 3
 module _ (L : Layout) (t : Tables) (formed : Formed L t) (lawful : Lawful t) (fitting : Fitting L t) (s : Tok) (l : List Aid) where
   module _ (j k : ℕ) (uj : T (t .used j)) (free : FreeIs (L .services) (t .provides j) (some k)) where
@@ -79,23 +53,18 @@ module _ (L : Layout) (t : Tables) (formed : Formed L t) (lawful : Lawful t) (fi
     after = addServiceAt L t j k s l .tables
 
     look-3 : look L (addServiceAt L t j k s l) ≡ shortAddService L t j s l
-    unfolding look
-    look-3 = look-path (T-eq (everyBit L full) (every short (t .unmet)) to back) refl
-        (T-true (leb (length (after .unmet)) (L .capacity)) (le→leb (length (after .unmet)) (L .capacity) kept))
-        (ap (λ (n : ℕ). leb n (L .capacity)) (length-kept (t .waiting) (λ a. record { caller = a; callee = j; service = k }) (keep (notInstalled L t) l)))
+    look-3 = look-is L (addServiceAt L t j k s l) (T-eq full (every short (t .unmet)) to back) refl
+        (fits L (length (after .unmet)) kept)
+        (fits-as L (length-kept (t .waiting) (λ a. record { caller = a; callee = j; service = k }) (keep (notInstalled L t) l)))
       where
-        full : ℕ → ℕ → ℕ → Bool
-        full x y z = implies (after .calls x y z) (after .grants y x z)
+        full : Bool
+        full = among L (after .calls) (grantBit after)
 
         short : Unmet → Bool
         short u = implies (asksFor L t (t .aid j) s u) (exists (eqAid (t .aid (u .caller))) l)
 
         kept : length (after .unmet) ≤ L .capacity
-        kept = omega (arith, keep-le (λ u. not (asksFor L t (t .aid j) s u)) (t .unmet), fitting .unmet-fits)
-
-        -- the new bits: of service k of package j
-        place : ℕ → ℕ → Bool
-        place y z = eqb y j && eqb z k
+        kept = omega (arith, length-keep (λ u. not (asksFor L t (t .aid j) s u)) (t .unmet), fitting .unmet-fits)
 
         asked : ℕ → Bool
         asked x = hasUnmet (record { callee = t .aid j; tok = s; caller = x }) (t .unmet)
@@ -103,56 +72,42 @@ module _ (L : Layout) (t : Tables) (formed : Formed L t) (lawful : Lawful t) (fi
         allowed : ℕ → Bool
         allowed x = exists (eqAid (t .aid x)) l
 
-        to : T (everyBit L full) → T (every short (t .unmet))
+        given : ℕ → Bool
+        given x = t .used x && allowed x
+
+        to : T full → T (every short (t .unmet))
         to h = in-every short (t .unmet) (λ u i. implies-i (asksFor L t (t .aid j) s u) (allowed (u .caller)) (λ q.
             let x = u .caller in
-            let ux = formed .unmet .off .off-used u i in
             let c = eqAid (u .callee) (t .aid j) in
             let d = eqTok (u .tok) s in
             let e = eqAid→ (u .callee) (t .aid j) (and-l c d q) in
             let f = eqTok→ (u .tok) s (and-r c d q) in
-            let here : T (place j k) = and-i (eqb j j) (eqb k k) (eqb-refl j) (eqb-refl k) in
-            let bit = or-r (t .calls x j k) (place j k && asked x) (and-i (place j k) (asked x) here (unmet-has (in-cast (λ z. record { callee = sym e z; tok = sym f z; caller = x }) i))) in
-            granted x (implies-e (after .calls x j k) (after .grants j x k)
-            (every-bit-in L full h x j k (formed .names .used-lt x ux) (formed .names .used-lt j uj) (free .0)) bit)))
+            let bit = old-or-new j k (t .calls) asked x j k .1 (inr (refl, refl, unmet-has (in-cast (λ z. record { callee = sym e z; tok = sym f z; caller = x }) i))) in
+            let within : BitIn L x j k = (formed .names .used-lt x (formed .unmet .off .off-used u i), formed .names .used-lt j uj, free .0) in
+            allows x (old-or-new j k (grantBit t) given x j k .0 (among-to L (after .calls) (grantBit after) h x j k within bit))))
           where
-            granted : (x : ℕ) → T (after .grants j x k) → T (allowed x)
-            granted x g = go (or-e (t .grants j x k) (place j k && (t .used x && allowed x)) g)
-              where
-                go : T (t .grants j x k) ⊎ T (place j k && (t .used x && allowed x)) → T (allowed x)
-                go (inl o) = absurd (free .1 (formed .grants .of-prov x j k o))
-                go (inr w) = and-r (t .used x) (allowed x) (and-r (place j k) (t .used x && allowed x) w)
+            allows : (x : ℕ) → OldOrNew j k (grantBit t) given x j k → T (allowed x)
+            allows x (inl o) = absurd (free .1 (formed .grants .of-prov x j k o))
+            allows x (inr w) = and-r (t .used x) (allowed x) (w .2)
 
-        back : T (every short (t .unmet)) → T (everyBit L full)
-        back h = in-every-bit L full (λ x y z. implies-i (after .calls x y z) (after .grants y x z) (λ c. go x y z (or-e (t .calls x y z) (place y z && asked x) c)))
+        back : T (every short (t .unmet)) → T full
+        back h = among-back L (after .calls) (grantBit after) (λ x y z c. old-or-new j k (grantBit t) given x y z .1 (go x y z (old-or-new j k (t .calls) asked x y z .0 c)))
           where
-            go : (x y z : ℕ) → T (t .calls x y z) ⊎ T (place y z && asked x) → T (after .grants y x z)
-            go x y z (inl o) = or-l (t .grants y x z) (place y z && (t .used x && allowed x)) (lawful x y z o)
+            go : (x y z : ℕ) → OldOrNew j k (t .calls) asked x y z → OldOrNew j k (grantBit t) given x y z
+            go x y z (inl o) = inl (lawful x y z o)
             go x y z (inr n) =
                 let u : Unmet = record { callee = t .aid j; tok = s; caller = x } in
-                let i = has-unmet u (t .unmet) (and-r (place y z) (asked x) n) in
-                or-r (t .grants y x z) (place y z && (t .used x && allowed x)) (and-i (place y z) (t .used x && allowed x) (and-l (place y z) (asked x) n)
-                (and-i (t .used x) (allowed x) (formed .unmet .off .off-used u i)
-                (implies-e (asksFor L t (t .aid j) s u) (allowed x) (every-in short (t .unmet) h i) (and-i (eqAid (t .aid j) (t .aid j)) (eqTok s s) (eqAid-refl (t .aid j)) (eqTok-refl s)))))
+                let i = has-unmet u (t .unmet) (n .2) in
+                let asks = and-i (eqAid (t .aid j) (t .aid j)) (eqTok s s) (eqAid-refl (t .aid j)) (eqTok-refl s) in
+                inr (
+                  n .0,
+                  n .1,
+                  and-i (t .used x) (allowed x) (formed .unmet .off .off-used u i)
+                      (implies-e (asksFor L t (t .aid j) s u) (allowed x) (every-in short (t .unmet) h i) asks),
+                )
 
-pub short-3 : (s : Tok) (l : List Aid) (L : Layout) (t : Tables) → Formed L t → Lawful t → Fitting L t → (a : Aid) → T (proper a (addService s l))
-    → answer (tableCauses L t a (addService s l)) ≡ 0 → look L (draft L t a (addService s l)) ≡ shortLook L t a (addService s l)
-unfolding draft shortLook
-short-3 s l L t formed lawful fitting a pr an =
-    let full = orElse (numberOf L t a) false (λ j. not (isSome (freeService L t j))) in
-    let had = holds L t a (λ k. hasTok s (k .provides)) in
-    let z = answer-zero 4 (absent L t a) (6 when had ∷ 7 when full ∷ []) an in
-    go (numberOf L t a) (number-is L t (formed .names) a) (z .0) (answer-zero 6 full [] (answer-zero 5 had (7 when full ∷ []) (z .1) .1) .0)
-  where
-    inner : (j : ℕ) → T (t .used j) → (o : Option ℕ) → FreeIs (L .services) (t .provides j) o → not (isSome o) ≡ false
-        → look L (orElse o (kept t) (λ k. addServiceAt L t j k s l)) ≡ shortAddService L t j s l
-    inner j u none q e = absurd (false-T e tt)
-    inner j u (some k) q e = look-3 L t formed lawful fitting s l j k u q
-
-    go : (o : Option ℕ) → NumberIs t a o → not (isSome o) ≡ false → orElse o false (λ j. not (isSome (freeService L t j))) ≡ false
-        → look L (orElse o (kept t) (λ j. orElse (freeService L t j) (kept t) (λ k. addServiceAt L t j k s l))) ≡ orElse o fine (λ j. shortAddService L t j s l)
-    go none h e f = absurd (false-T e tt)
-    go (some j) h e f = inner j (h .0) (freeService L t j) (free-service-is L t j) f
+pub short-3 : (s : Tok) (l : List Aid) → KindShort (addService s l)
+short-3 s l L t a formed lawful fitting _ _ = reach-3 L t formed a (λ d k. look L d ≡ k) s l (λ j k u _ _ free. look-3 L t formed lawful fitting s l j k u free)
 
 -- ---- kind 1
 module _ (L : Layout) (t : Tables) (m : ℕ) (k : Contract) (new : Newcomer L t m k) where
@@ -204,12 +159,11 @@ module _ (L : Layout) (t : Tables) (m : ℕ) (k : Contract) (new : Newcomer L t 
   left-same rs h = keep-same (notServed L t m k) off-card rs (λ r i. ap (λ (o : Option Place). not (isSome o)) (server-same r (new .calls-other r (h r i))))
 
   -- ---- cause 8: the full look asks a grant for each call bit; the short one for the newcomer's and for those that it meets
-  abbrev full : ℕ → ℕ → ℕ → Bool
-  full x y z = implies (loadedTables .calls x y z) (loadedTables .grants y x z)
+  abbrev full : Bool
+  full = among L (loadedTables .calls) (grantBit loadedTables)
 
-  right : T (everyBit L full) → (x y z : ℕ) → x < L .packages → y < L .packages → z < L .services → CallIs L t m k x y z → GrantIs L t m k y x z
-  right h x y z a b c i =
-      grant-is L t m k new y x z .0 (implies-e (loadedTables .calls x y z) (loadedTables .grants y x z) (every-bit-in L full h x y z a b c) (call-is L t m k new x y z .1 i))
+  right : T full → (x y z : ℕ) → BitIn L x y z → CallIs L t m k x y z → GrantIs L t m k y x z
+  right h x y z c i = grant-is L t m k new y x z .0 (among-to L (loadedTables .calls) (grantBit loadedTables) h x y z c (call-is L t m k new x y z .1 i))
 
   -- a grant of service z of package y to the newcomer, and the newcomer's rights that the short check asks
   abbrev toNewcomer : ℕ → ℕ → Waiting
@@ -222,7 +176,7 @@ module _ (L : Layout) (t : Tables) (m : ℕ) (k : Contract) (new : Newcomer L t 
   abbrev rightBy : Unmet → Row
   rightBy u = record { aid = t .aid (u .caller); tok = u .tok }
 
-  newcomers : T (everyBit L full) → T (newcomerRights L t k)
+  newcomers : T full → T (newcomerRights L t k)
   newcomers h = in-every (λ r. rightOf (serverOf L t r)) (k .calls) (λ r i. go r i (serverOf L t r) (server-is L t (new .formed .names) r))
     where
       waits : (y z : ℕ) → T (t .provides y z) → GrantIs L t m k y m z → T (hasWaiting (toNewcomer y z) (t .waiting))
@@ -235,18 +189,18 @@ module _ (L : Layout) (t : Tables) (m : ℕ) (k : Contract) (new : Newcomer L t 
       go r i (some p) q =
           let y = p .callee in
           let z = p .service in
-          let ns = new .formed .names in
-          waits y z (q .0) (right h m y z (new .number-lt) (ns .used-lt y (ns .prov-used y z (q .0))) (ns .prov-lt y z (q .0))
+          let b = place-in L t (new .formed .names) y z (q .0) in
+          waits y z (q .0) (right h m y z (new .number-lt, b .0, b .1)
           (CallIs.own refl (l .prov-old y z (q .0), in-cast (service-old L t m k new y z (q .0) ∙ row-path (q .1) (q .2)) i)))
 
-  others : T (everyBit L full) → T (othersRights L t k)
+  others : T full → T (othersRights L t k)
   others h = in-every (λ u. implies (nowMet L t k u) (hasRow (rightBy u) (k .grants))) (t .unmet) (λ u i. implies-i (nowMet L t k u) (hasRow (rightBy u) (k .grants)) (λ q.
       let c = eqAid (u .callee) (k .aid) in
       let d = hasTok (u .tok) (k .provides) in
       let e : u .callee ≡ on .aid m = eqAid→ (u .callee) (k .aid) (and-l c d q) ∙ sym (l .aid-new) in
       let f = in-tok L t m k new (has-tok (u .tok) (k .provides) (and-r c d q)) in
       let w = new .formed .unmet .off .off-used u i in
-      grants u w (f .0) (f .2) (right h (u .caller) m (f .0) (new .formed .names .used-lt (u .caller) w) (new .number-lt) (new-lt L t m k new (f .0) (f .1))
+      grants u w (f .0) (f .2) (right h (u .caller) m (f .0) (new .formed .names .used-lt (u .caller) w, new .number-lt, new-lt L t m k new (f .0) (f .1))
       (CallIs.met refl (f .1) (in-cast (λ x. record { callee = sym e x; tok = f .2 x; caller = u .caller }) i)))))
     where
       grants : (u : Unmet) → T (t .used (u .caller)) → (z : ℕ) → on .tok m z ≡ u .tok → GrantIs L t m k m (u .caller) z → T (hasRow (rightBy u) (k .grants))
@@ -280,28 +234,21 @@ module _ (L : Layout) (t : Tables) (m : ℕ) (k : Contract) (new : Newcomer L t 
       (and-i c d (eqAid-of (l .aid-new)) (tok-has (tok-in L t m k new z p)))))
   all-granted lawful a b x y z (CallIs.old h) = GrantIs.old (lawful x y z h)
 
-  granted-same : Lawful t → everyBit L full ≡ (newcomerRights L t k && othersRights L t k)
-  granted-same lawful = T-eq (everyBit L full) (newcomerRights L t k && othersRights L t k)
+  granted-same : Lawful t → full ≡ (newcomerRights L t k && othersRights L t k)
+  granted-same lawful = T-eq full (newcomerRights L t k && othersRights L t k)
       (λ h. and-i (newcomerRights L t k) (othersRights L t k) (newcomers h) (others h))
-      (λ h. in-every-bit L full (λ x y z. implies-i (loadedTables .calls x y z) (loadedTables .grants y x z) (λ c. grant-is L t m k new y x z .1
-      (all-granted lawful (and-l (newcomerRights L t k) (othersRights L t k) h) (and-r (newcomerRights L t k) (othersRights L t k) h) x y z (call-is L t m k new x y z .0 c)))))
+      (λ h. among-back L (loadedTables .calls) (grantBit loadedTables) (λ x y z c. grant-is L t m k new y x z .1
+      (all-granted lawful (and-l (newcomerRights L t k) (othersRights L t k) h) (and-r (newcomerRights L t k) (othersRights L t k) h) x y z (call-is L t m k new x y z .0 c))))
 
   look-1 : Lawful t → look L (loadAt L t m k) ≡ shortLoad L t k
-  unfolding look off-card
-  look-1 lawful = look-path (granted-same lawful)
+  unfolding off-card
+  look-1 lawful = look-is L (loadAt L t m k) (granted-same lawful)
       (ap (λ (rs : List Row). isNil (map (callRow m) rs)) (left-same (k .needs) (new .needs-called)) ∙ none-kept (λ r. isSome (serverOf L t r)) (callRow m) (k .needs))
-      (ap fit (length-kept (keep (λ u. not (nowMet L t k u)) (t .unmet)) (callRow m) (keep (notServed L t m k) (k .calls))
+      (fits-as L (length-kept (keep (λ u. not (nowMet L t k u)) (t .unmet)) (callRow m) (keep (notServed L t m k) (k .calls))
       ∙ ap (λ (rs : List Row). count (λ u. not (nowMet L t k u)) (t .unmet) + length rs) (left-same (k .calls) (λ r i. i))))
-      (ap fit (length-kept (keep (λ w. not (eqAid (w .caller) (k .aid))) (t .waiting)) (λ r. record { caller = r .aid; callee = m; service = loadedService L t m k (r .tok) })
+      (fits-as L (length-kept (keep (λ w. not (eqAid (w .caller) (k .aid))) (t .waiting)) (λ r. record { caller = r .aid; callee = m; service = loadedService L t m k (r .tok) })
       (keep (λ r. notInstalled L t (r .aid)) (k .grants))))
-    where
-      fit : ℕ → Bool
-      fit n = leb n (L .capacity)
 
--- the services of the record have numbers on the card: what reading a record gives
-pub short-1 : (p : List Tok) (c g n : List Row) (L : Layout) (t : Tables) → Formed L t → Lawful t → Fitting L t → (a : Aid) → length p ≤ L .services
-    → T (proper a (load p c g n)) → answer (tableCauses L t a (load p c g n)) ≡ 0 → look L (draft L t a (load p c g n)) ≡ shortLook L t a (load p c g n)
-unfolding shortLook
-short-1 p c g n L t formed lawful fitting a fit pr an =
-    let k : Contract = record { aid = a; provides = p; calls = c; grants = g; needs = n } in
-    load-draft L t a p c g n (λ (d : Draft). look L d ≡ shortLoad L t k) formed fit pr an (λ m new. look-1 L t m k new lawful)
+pub short-1 : (p : List Tok) (c g n : List Row) → KindShort (load p c g n)
+short-1 p c g n L t a formed lawful _ v pr =
+    load-reached L t a p c g n (λ d k. look L d ≡ k) formed (v .0) pr (λ m new. look-1 L t m (record { aid = a; provides = p; calls = c; grants = g; needs = n }) new lawful)

@@ -2,28 +2,27 @@
 use Prim.Native.Nat.{ℕ, zero, suc, _+_}
 use native.Mathlib.Nat.{zero-add, suc-add, le-trans}
 use mathlib.Core.Path.{_≡_, refl, ap, _∙_, subst}
-use mathlib.Core.Logic.{_↔_}
 use mathlib.Core.Bool.{Bool, true, false, not, _&&_, cond}
 use mathlib.Core.List.{List, [], _∷_, map}
 use mathlib.Core.List.{List·Memᴰ as In, Memᴰ·cast as in-cast}
-use lib.Dec.{T, eqb, eqb→eq, eqb-refl, leb, le→leb}
+use lib.Dec.{T, eqb, eqb→eq, eqb-refl}
 use lib.ListN.{length, length-append, length-map}
-use Rattle.policy.specs.Lists.{implies, every, keep, flat, upto, isNil}
-use Rattle.policy.specs.Contract.{Aid, Tok}
+use Rattle.policy.specs.Lists.{every, keep, isNil}
+use Rattle.policy.specs.Contract.{Tok}
 use Rattle.policy.specs.Layout.{Layout}
 use Rattle.policy.specs.Record.{remove, removeService}
-use Rattle.policy.specs.Causes.{answer}
 use Rattle.policy.specs.Tables.{Tables, Unmet, Waiting}
-use Rattle.policy.specs.Lookup.{serviceAt, numbers, places, contractAt}
-use Rattle.policy.specs.Sound.{everyBit}
-use Rattle.policy.specs.Draft.{callRow, leftBy, draft, look, removeAt, removeServiceAt}
-use Rattle.policy.specs.Judge.{tableCauses}
-use Rattle.policy.specs.ShortCheck.{count, sum, ones, shortRemove, shortRemoveService, shortLook}
-use Rattle.policy.proofs.Sets.{T-true, implies-i, in-every, keep-in, in-keep, once-keep, in-map, map-in, once-map, once-upto, in-upto, same-length, length-le}
-use Rattle.policy.proofs.Formed.{Formed, Bits, Lawful, Fitting, ProvidesAt}
-use Rattle.policy.proofs.Dropped.{left-in, in-left-by, once-left, need-bits, lawful-dropped}
-use Rattle.policy.proofs.KindRemove.{dropping as dropping-2, removed}
-use Rattle.policy.proofs.KindRemoveService.{dropping as dropping-4, removed-service}
+use Rattle.policy.specs.Lookup.{serviceAt, numbers, places}
+use Rattle.policy.specs.Draft.{callRow, leftBy, look, removeAt, removeServiceAt}
+use Rattle.policy.specs.ShortCheck.{count, sum, ones, shortRemove, shortRemoveService}
+use Rattle.policy.proofs.Sets.{same-length, keep-in, in-keep, once-keep, length-keep, in-map, map-in, once-map, pairs, in-upto, once-upto}
+use Rattle.policy.proofs.Formed.{Bits, Formed, Lawful, Fitting, KindShort}
+use Rattle.policy.proofs.Facts.{need-bits}
+use Rattle.policy.proofs.Reach.{reach-2, reach-4}
+use Rattle.policy.proofs.Dropped.{left-in, in-left-by, once-left, lawful-dropped}
+use Rattle.policy.proofs.KindRemove.{dropping as dropping-2}
+use Rattle.policy.proofs.KindRemoveService.{dropping as dropping-4}
+use Rattle.policy.proofs.Short.{look-is, fits, fits-as, granted}
 
 -- ---- lengths and counts
 abbrev isZero : ℕ → Bool
@@ -50,21 +49,14 @@ none-sum : (f : ℕ → ℕ) (l : List ℕ) → isZero (sum f l) ≡ every (λ i
 none-sum f [] = refl
 none-sum f (x ∷ l) = zero-sum (f x) (sum f l) ∙ ap (λ (b : Bool). isZero (f x) && b) (none-sum f l)
 
-length-pairs : {B : Type 0} (g : ℕ → ℕ → B) (f : ℕ → ℕ → Bool) (l m : List ℕ) → length (flat (λ i. map (g i) (keep (f i) l)) m) ≡ sum (λ i. count (f i) l) m
+length-pairs : {B : Type 0} (g : ℕ → ℕ → B) (f : ℕ → ℕ → Bool) (l m : List ℕ) → length (pairs g f l m) ≡ sum (λ i. count (f i) l) m
 length-pairs g f l [] = refl
 length-pairs g f l (i ∷ m) =
-    length-append (map (g i) (keep (f i) l)) (flat (λ i. map (g i) (keep (f i) l)) m) ∙ (λ z. length-map (keep (f i) l) (g i) z + length-pairs g f l m z)
+    length-append (map (g i) (keep (f i) l)) (pairs g f l m) ∙ (λ z. length-map (keep (f i) l) (g i) z + length-pairs g f l m z)
 
 and-true : (b : Bool) → b && true ≡ b
 and-true true = refl
 and-true false = refl
-
--- a lawful draft is granted
-granted : (L : Layout) (t : Tables) → Lawful t → everyBit L (λ i j k. implies (t .calls i j k) (t .grants j i k)) ≡ true
-granted L t law = T-true (everyBit L (λ i j k. implies (t .calls i j k) (t .grants j i k)))
-    (in-every (λ i. every (λ j. every (λ k. implies (t .calls i j k) (t .grants j i k)) (upto (L .services))) (upto (L .packages))) (upto (L .packages)) (λ i _.
-    in-every (λ j. every (λ k. implies (t .calls i j k) (t .grants j i k)) (upto (L .services))) (upto (L .packages)) (λ j _.
-    in-every (λ k. implies (t .calls i j k) (t .grants j i k)) (upto (L .services)) (λ k _. implies-i (t .calls i j k) (t .grants j i k) (law i j k)))))
 
 module _ (L : Layout) (t : Tables) where
   -- ---- how many rows the bits on package j leave
@@ -102,15 +94,13 @@ module _ (L : Layout) (t : Tables) where
     module _ (law : Lawful t) where
       -- ---- kind 2
       look-removed : (n : ℕ) → T (t .used n) → look L (removeAt L t n) ≡ shortRemove L t n
-      unfolding look
-      look-removed n un = λ z. record {
-        granted = granted L (removeAt L t n .tables) (lawful-dropped L t (removeAt L t n .tables) n (λ x. true) (keep byOther (t .unmet)) fm (dropping-2 L t fm n un) law) z;
-        needed = (nil-length (leftBy L t (t .needs) n (λ x. true)) ∙ ap isZero (left-all (t .needs) n) ∙ none-sum (λ i. count (t .needs i n) (places L t)) (numbers L t)
-            ∙ (λ y. every (λ i. none-pass (t .needs i n) (places L t) y) (numbers L t))) z;
-        unmetFits = leb ((length-append (keep byOther (t .unmet)) (leftBy L t (t .calls) n (λ x. true)) ∙ ap (λ (x : ℕ). count byOther (t .unmet) + x) (left-all (t .calls) n)) z) (L .capacity);
-        waitingFits = leb ((length-append (keep ofOther (t .waiting)) (flat (λ j. map (waitFor j) (keep (t .grants j n) (places L t))) (numbers L t))
-            ∙ ap (λ (x : ℕ). count ofOther (t .waiting) + x) (length-pairs waitFor (λ j. t .grants j n) (places L t) (numbers L t))) z) (L .capacity);
-      }
+      look-removed n un = look-is L (removeAt L t n)
+          (granted L (removeAt L t n .tables) (lawful-dropped L t (removeAt L t n .tables) n (λ x. true) (keep byOther (t .unmet)) fm (dropping-2 L t fm n un) law))
+          (nil-length (leftBy L t (t .needs) n (λ x. true)) ∙ ap isZero (left-all (t .needs) n) ∙ none-sum (λ i. count (t .needs i n) (places L t)) (numbers L t)
+          ∙ (λ y. every (λ i. none-pass (t .needs i n) (places L t) y) (numbers L t)))
+          (fits-as L (length-append (keep byOther (t .unmet)) (leftBy L t (t .calls) n (λ x. true)) ∙ ap (λ (x : ℕ). count byOther (t .unmet) + x) (left-all (t .calls) n)))
+          (fits-as L (length-append (keep ofOther (t .waiting)) (pairs waitFor (λ j. t .grants j n) (places L t) (numbers L t))
+          ∙ ap (λ (x : ℕ). count ofOther (t .waiting) + x) (length-pairs waitFor (λ j. t .grants j n) (places L t) (numbers L t))))
         where
           byOther : Unmet → Bool
           byOther u = not (eqb (u .caller) n)
@@ -123,23 +113,18 @@ module _ (L : Layout) (t : Tables) where
 
       -- ---- kind 4
       look-dropped : Fitting L t → (j k : ℕ) → T (t .provides j k) → look L (removeServiceAt L t j k) ≡ shortRemoveService L t j k
-      unfolding look
-      look-dropped fit j k pk = λ z. record {
-        granted = granted L (removeServiceAt L t j k .tables) (lawful-dropped L t (removeServiceAt L t j k .tables) j (λ x. eqb x k) (t .unmet) fm (dropping-4 L t fm j k pk) law) z;
-        needed = (nil-length (leftBy L t (t .needs) j (λ x. eqb x k)) ∙ ap isZero (left-one (t .needs) (need-bits fm) j k) ∙ none-pass (λ i. t .needs i j k) (numbers L t)) z;
-        unmetFits = leb ((length-append (t .unmet) (leftBy L t (t .calls) j (λ x. eqb x k)) ∙ ap (λ (x : ℕ). length (t .unmet) + x) (left-one (t .calls) (fm .calls) j k)) z) (L .capacity);
-        waitingFits = T-true (leb (count stays (t .waiting)) (L .capacity)) (le→leb (count stays (t .waiting)) (L .capacity)
-            (le-trans (length-le (keep stays (t .waiting)) (t .waiting) (once-keep stays (t .waiting) (fm .waiting .wait-once)) (λ w m. keep-in stays (t .waiting) m .0)) (fit .waiting-fits))) z;
-      }
+      look-dropped fit j k pk = look-is L (removeServiceAt L t j k)
+          (granted L (removeServiceAt L t j k .tables) (lawful-dropped L t (removeServiceAt L t j k .tables) j (λ x. eqb x k) (t .unmet) fm (dropping-4 L t fm j k pk) law))
+          (nil-length (leftBy L t (t .needs) j (λ x. eqb x k)) ∙ ap isZero (left-one (t .needs) (need-bits L t fm) j k) ∙ none-pass (λ i. t .needs i j k) (numbers L t))
+          (fits-as L (length-append (t .unmet) (leftBy L t (t .calls) j (λ x. eqb x k)) ∙ ap (λ (x : ℕ). length (t .unmet) + x) (left-one (t .calls) (fm .calls) j k)))
+          (fits L (count stays (t .waiting)) (le-trans (length-keep stays (t .waiting)) (fit .waiting-fits)))
         where
           stays : Waiting → Bool
           stays w = not (eqb (w .callee) j && eqb (w .service) k)
 
 -- ---- the two kinds
-pub short-2 : (L : Layout) (t : Tables) → Formed L t → Lawful t → Fitting L t → (a : Aid) → answer (tableCauses L t a remove) ≡ 0
-    → look L (draft L t a remove) ≡ shortLook L t a remove
-short-2 L t fm law _ a ans = removed L t fm a ans (λ d k. look L d ≡ k) (λ n u _. look-removed L t fm law n u)
+pub short-2 : KindShort remove
+short-2 L t a fm law _ _ _ = reach-2 L t fm a (λ d k. look L d ≡ k) (λ n u _. look-removed L t fm law n u)
 
-pub short-4 : (s : Tok) (L : Layout) (t : Tables) → Formed L t → Lawful t → Fitting L t → (a : Aid) → answer (tableCauses L t a (removeService s)) ≡ 0
-    → look L (draft L t a (removeService s)) ≡ shortLook L t a (removeService s)
-short-4 s L t fm law fit a ans = removed-service s L t fm a ans (λ d k. look L d ≡ k) (λ j k p _ _. look-dropped L t fm law fit j k p)
+pub short-4 : (s : Tok) → KindShort (removeService s)
+short-4 s L t a fm law fit _ _ = reach-4 L t fm a (λ d k. look L d ≡ k) s (λ j k p _ _. look-dropped L t fm law fit j k p)

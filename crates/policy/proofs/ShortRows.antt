@@ -1,238 +1,113 @@
--- The short check is the full look: kinds 5 to 10, one call, grant or need.
-use Prim.Native.Nat.{ℕ, suc, _≤_, _<_, zero-le, suc-le-suc}
+-- Kinds 5 to 10, one call, grant or need: the short check says what the full look at the draft says.
+use Prim.Native.Nat.{ℕ, _≤_}
 use native.Mathlib.Nat.{le-trans}
-use native.Mathlib.Omega.{arith}
-use mathlib.Core.Path.{_≡_, refl, sym, ap}
+use mathlib.Core.Path.{_≡_, refl, sym}
 use mathlib.Core.Logic.{_⊎_, inl, inr}
-use mathlib.Core.Bool.{Bool, true, false, not, _||_, cond}
-use mathlib.Core.List.{List, [], _∷_, _++_}
+use mathlib.Core.Bool.{Bool, true, false, not}
 use mathlib.Core.Option.{Option, none, some}
-use lib.Dec.{T, leb, le→leb}
+use lib.Dec.{T}
 use lib.ListN.{length}
-use Rattle.policy.specs.Lists.{implies, every, keep, upto, isNil, orElse}
-use Rattle.policy.specs.Contract.{Aid, Tok, Row, hasTok, hasRow}
+use Rattle.policy.specs.Lists.{isNil}
+use Rattle.policy.specs.Contract.{Aid, Row}
 use Rattle.policy.specs.Layout.{Layout}
-use Rattle.policy.specs.Record.{Change, addCall, removeCall, addGrant, removeGrant, addNeed, removeNeed}
-use Rattle.policy.specs.Causes.{_when_, answer}
+use Rattle.policy.specs.Record.{addCall, removeCall, addGrant, removeGrant, addNeed, removeNeed}
 use Rattle.policy.specs.Tables.{Tables}
-use Rattle.policy.specs.Lookup.{Place, places, numberOf, serviceOf, serverOf, contractAt}
-use Rattle.policy.specs.Sound.{eqUnmet, eqWaiting, everyBit}
-use Rattle.policy.specs.Draft.{Draft, kept, callRow, put3, addCallAt, removeCallAt, addGrantAt, removeGrantAt, addNeedAt, removeNeedAt, kept, draft, look}
-use Rattle.policy.specs.ShortCheck.{fine, shortAddCall, shortAddGrant, shortRemoveGrant, shortAddNeed, shortLook}
-use Rattle.policy.specs.Judge.{tableCauses}
-use Rattle.policy.proofs.Sets.{T-eq, T-true, in-every, every-in, in-upto, implies-i, implies-e, not-i, not-e, map-in, keep-in}
-use Rattle.policy.proofs.Equal.{has-tok}
-use Rattle.policy.proofs.Formed.{Formed, Lawful, Fitting}
-use Rattle.policy.proofs.Found.{ServiceIs, service-is, ServerIs, server-is}
+use Rattle.policy.specs.Lookup.{Place}
+use Rattle.policy.specs.Sound.{eqUnmet, eqWaiting}
+use Rattle.policy.specs.Draft.{Draft, callRow, put3, addCallAt, removeCallAt, addGrantAt, removeGrantAt, addNeedAt, removeNeedAt, look}
+use Rattle.policy.specs.ShortCheck.{fine, shortAddCall, shortAddGrant, shortRemoveGrant, shortAddNeed}
+use Rattle.policy.proofs.Sets.{T-eq, not-i, not-e, length-keep, length-snoc}
 use Rattle.policy.proofs.Put.{At, put3-new, put3-keep, put3-cases, put3-less}
-use Rattle.policy.proofs.AtNumber.{at-number, asked-and-new}
+use Rattle.policy.proofs.EveryBit.{among, among-to, among-back}
+use Rattle.policy.proofs.Formed.{grantBit, Formed, Lawful, Fitting, KindShort}
+use Rattle.policy.proofs.Found.{ServerIs}
+use Rattle.policy.proofs.Facts.{place-in, bit-in}
+use Rattle.policy.proofs.Reach.{reach-5, reach-6, reach-7, reach-8, reach-9, reach-10}
+use Rattle.policy.proofs.Short.{look-is, fits, fits-as, granted}
 
--- ---- lengths
-length-snoc : {A : Type 0} (l : List A) (x : A) → length (l ++ (x ∷ [])) ≡ suc (length l)
-length-snoc [] x = refl
-length-snoc (y ∷ l) x = ap suc (length-snoc l x)
+module _ (L : Layout) (t : Tables) (fo : Formed L t) (law : Lawful t) (fit : Fitting L t) where
+  -- lawful tables whose lists fit
+  look-fine : (d : Draft) {n : Bool} → Lawful (d .tables) → isNil (d .lost) ≡ n → length (d .tables .unmet) ≤ L .capacity → length (d .tables .waiting) ≤ L .capacity
+      → look L d ≡ record { granted = true; needed = n; unmetFits = true; waitingFits = true }
+  look-fine d l en hu hw = look-is L d (granted L (d .tables) l) en (fits L (length (d .tables .unmet)) hu) (fits L (length (d .tables .waiting)) hw)
 
-length-keep : {A : Type 0} (f : A → Bool) (l : List A) → length (keep f l) ≤ length l
-length-keep f [] = zero-le
-length-keep {A} f (y ∷ l) = go (f y) (length-keep f l)
-  where
-    go : (b : Bool) → length (keep f l) ≤ length l → length (cond b (y ∷ keep f l) (keep f l)) ≤ suc (length l)
-    go true h = suc-le-suc h
-    go false h = omega arith
+  -- ---- the grants of one call more, and of one grant less
+  -- one call more is granted where its bit is
+  one-more : (i j k : ℕ) → T (t .used i) → T (t .provides j k) → among L (put3 i j k true (t .calls)) (grantBit t) ≡ t .grants j i k
+  one-more i j k ui p = T-eq (among L c (grantBit t)) (t .grants j i k)
+      (λ h. let l = place-in L t (fo .names) j k p in among-to L c (grantBit t) h i j k (fo .names .used-lt i ui, l .0, l .1) (put3-new i j k (t .calls)))
+      (λ g. among-back L c (grantBit t) (λ x y z m. go x y z g (put3-cases i j k (t .calls) x y z m)))
+    where
+      c : ℕ → ℕ → ℕ → Bool
+      c = put3 i j k true (t .calls)
 
-module _ (L : Layout) where
-  abbrev Fits : ℕ → Type 0
-  Fits n = leb n (L .capacity) ≡ true
+      go : (x y z : ℕ) → T (t .grants j i k) → At i j k x y z ⊎ T (t .calls x y z) → T (t .grants y x z)
+      go x y z g (inl e) = rw (e .0, e .1, e .2) g
+      go x y z g (inr m) = law x y z m
 
-  fits-of : (n : ℕ) → n ≤ L .capacity → Fits n
-  fits-of n h = T-true (leb n (L .capacity)) (le→leb n (L .capacity) h)
+  -- one grant less is missed where it was called
+  one-less : (i j k : ℕ) → among L (t .calls) (λ x y z. put3 j i k false (t .grants) y x z) ≡ not (t .calls i j k)
+  one-less i j k = T-eq (among L (t .calls) g) (not (t .calls i j k))
+      (λ h. not-i (t .calls i j k) (λ m. put3-less j i k (t .grants) j i k .0 (among-to L (t .calls) g h i j k (bit-in L t (fo .names) (fo .calls) i j k m) m) .1 (refl, refl, refl)))
+      (λ h. among-back L (t .calls) g (λ x y z m.
+      put3-less j i k (t .grants) y x z .1 (law x y z m, λ e. not-e (t .calls i j k) h (rw (sym (e .1), sym (e .0), sym (e .2)) m))))
+    where
+      g : ℕ → ℕ → ℕ → Bool
+      g x y z = put3 j i k false (t .grants) y x z
 
-  -- ---- every bit
-  every-bit : (f : ℕ → ℕ → ℕ → Bool) → ((i j k : ℕ) → T (f i j k)) → T (everyBit L f)
-  every-bit f h =
-      in-every (λ i. every (λ j. every (f i j) (upto (L .services))) (upto (L .packages))) (upto (L .packages)) (λ i m.
-      in-every (λ j. every (f i j) (upto (L .services))) (upto (L .packages)) (λ j n. in-every (f i j) (upto (L .services)) (λ k q. h i j k)))
+  -- ---- kinds 5 and 6
+  look-add-call : (r : Row) (i : ℕ) → T (t .used i) → (o : Option Place) → ServerIs t r o → look L (addCallAt L t i r o) ≡ shortAddCall L t i o
+  look-add-call r i ui none s =
+      look-is L (addCallAt L t i r none) (granted L t law) refl (fits-as L (length-snoc (t .unmet) (callRow i r))) (fits L (length (t .waiting)) (fit .waiting-fits))
+  look-add-call r i ui (some p) s =
+      look-is L (addCallAt L t i r (some p)) (one-more i (p .callee) (p .service) ui (s .0)) refl
+      (fits L (length (t .unmet)) (fit .unmet-fits)) (fits L (length (t .waiting)) (fit .waiting-fits))
 
-  bit-every : (f : ℕ → ℕ → ℕ → Bool) → T (everyBit L f) → (i j k : ℕ) → i < L .packages → j < L .packages → k < L .services → T (f i j k)
-  bit-every f h i j k hi hj hk =
-      every-in (f i j) (upto (L .services))
-      (every-in (λ y. every (f i y) (upto (L .services))) (upto (L .packages))
-      (every-in (λ x. every (λ y. every (f x y) (upto (L .services))) (upto (L .packages))) (upto (L .packages)) h (in-upto (L .packages) i hi))
-      (in-upto (L .packages) j hj))
-      (in-upto (L .services) k hk)
+  look-remove-call : (r : Row) (i : ℕ) (o : Option Place) → look L (removeCallAt L t i r o) ≡ fine
+  look-remove-call r i none =
+      look-fine (removeCallAt L t i r none) law refl (le-trans (length-keep (λ u. not (eqUnmet (callRow i r) u)) (t .unmet)) (fit .unmet-fits)) (fit .waiting-fits)
+  look-remove-call r i (some p) =
+      look-fine (removeCallAt L t i r (some p)) (λ x y z m. law x y z (put3-less i (p .callee) (p .service) (t .calls) x y z .0 m .0)) refl (fit .unmet-fits) (fit .waiting-fits)
 
-  -- every bit of c, by caller, callee and service, has its bit of g
-  abbrev Granted : (ℕ → ℕ → ℕ → Bool) → (ℕ → ℕ → ℕ → Bool) → Bool
-  Granted c g = everyBit L (λ i j k. implies (c i j k) (g j i k))
+  -- ---- kinds 7 and 8: service k of package j, to the AID b
+  look-add-grant : (j k : ℕ) (b : Aid) (o : Option ℕ) → look L (addGrantAt L t j b k o) ≡ shortAddGrant L t o
+  look-add-grant j k b none =
+      look-is L (addGrantAt L t j b k none) (granted L t law) refl (fits L (length (t .unmet)) (fit .unmet-fits))
+      (fits-as L (length-snoc (t .waiting) (record { caller = b; callee = j; service = k })))
+  look-add-grant j k b (some i) =
+      look-fine (addGrantAt L t j b k (some i)) (λ x y z m. put3-keep j i k (t .grants) y x z (law x y z m)) refl (fit .unmet-fits) (fit .waiting-fits)
 
-  all-granted : (c g : ℕ → ℕ → ℕ → Bool) → ((i j k : ℕ) → T (c i j k) → T (g j i k)) → Granted c g ≡ true
-  all-granted c g h = T-true (Granted c g) (every-bit (λ i j k. implies (c i j k) (g j i k)) (λ i j k. implies-i (c i j k) (g j i k) (h i j k)))
+  look-remove-grant : (j k : ℕ) (b : Aid) (o : Option ℕ) → look L (removeGrantAt L t j b k o) ≡ shortRemoveGrant L t j k o
+  look-remove-grant j k b none =
+      look-fine (removeGrantAt L t j b k none) law refl (fit .unmet-fits)
+      (le-trans (length-keep (λ w. not (eqWaiting (record { caller = b; callee = j; service = k }) w)) (t .waiting)) (fit .waiting-fits))
+  look-remove-grant j k b (some i) =
+      look-is L (removeGrantAt L t j b k (some i)) (one-less i j k) refl (fits L (length (t .unmet)) (fit .unmet-fits)) (fits L (length (t .waiting)) (fit .waiting-fits))
 
-  look-of : (d : Draft) (g n u w : Bool) → Granted (d .tables .calls) (d .tables .grants) ≡ g → isNil (d .lost) ≡ n
-      → leb (length (d .tables .unmet)) (L .capacity) ≡ u → leb (length (d .tables .waiting)) (L .capacity) ≡ w
-      → look L d ≡ record { granted = g; needed = n; unmetFits = u; waitingFits = w }
-  unfolding look
-  look-of d g n u w eg en eu ew = λ z. record { granted = eg z; needed = en z; unmetFits = eu z; waitingFits = ew z }
+  -- ---- kinds 9 and 10: calls, grants and lists stay
+  look-add-need : (r : Row) (i : ℕ) (o : Option Place) → look L (addNeedAt L t i r o) ≡ shortAddNeed L t o
+  look-add-need r i none = look-fine (addNeedAt L t i r none) law refl (fit .unmet-fits) (fit .waiting-fits)
+  look-add-need r i (some p) = look-fine (addNeedAt L t i r (some p)) law refl (fit .unmet-fits) (fit .waiting-fits)
 
-module _ (L : Layout) (t : Tables) where
-  -- the full look at the draft is the short one, where no lower cause applies
-  abbrev pub ShortFull : Aid → Change → Type 0
-  ShortFull a c = answer (tableCauses L t a c) ≡ 0 → look L (draft L t a c) ≡ shortLook L t a c
+  look-remove-need : (r : Row) (i : ℕ) (o : Option Place) → look L (removeNeedAt L t i r o) ≡ fine
+  look-remove-need r i none = look-fine (removeNeedAt L t i r none) law refl (fit .unmet-fits) (fit .waiting-fits)
+  look-remove-need r i (some p) = look-fine (removeNeedAt L t i r (some p)) law refl (fit .unmet-fits) (fit .waiting-fits)
 
-  module _ (fo : Formed L t) (law : Lawful t) (fit : Fitting L t) where
-    unmet-fits : Fits L (length (t .unmet))
-    unmet-fits = fits-of L (length (t .unmet)) (fit .unmet-fits)
+-- ---- the six kinds
+pub short-5 : (r : Row) → KindShort (addCall r)
+short-5 r L t a f law fit _ _ = reach-5 L t f a (λ d k. look L d ≡ k) r (λ i ui _ _. look-add-call L t f law fit r i ui)
 
-    waiting-fits : Fits L (length (t .waiting))
-    waiting-fits = fits-of L (length (t .waiting)) (fit .waiting-fits)
+pub short-6 : (r : Row) → KindShort (removeCall r)
+short-6 r L t a f law fit _ _ = reach-6 L t f a (λ d k. look L d ≡ k) r (λ i _ _ o _. look-remove-call L t f law fit r i o)
 
-    still-granted : Granted L (t .calls) (t .grants) ≡ true
-    still-granted = all-granted L (t .calls) (t .grants) law
+pub short-7 : (r : Row) → KindShort (addGrant r)
+short-7 r L t a f law fit _ _ = reach-7 L t f a (λ d k. look L d ≡ k) r (λ j k _ _ _ _ o _. look-add-grant L t f law fit j k (r .aid) o)
 
-    -- the same calls and grants, in lists that fit
-    look-fine : (d : Draft) (n : Bool) → Granted L (d .tables .calls) (d .tables .grants) ≡ true → isNil (d .lost) ≡ n
-        → length (d .tables .unmet) ≤ L .capacity → length (d .tables .waiting) ≤ L .capacity
-        → look L d ≡ record { granted = true; needed = n; unmetFits = true; waitingFits = true }
-    look-fine d n eg en hu hw = look-of L d true n true true eg en (fits-of L (length (d .tables .unmet)) hu) (fits-of L (length (d .tables .waiting)) hw)
+pub short-8 : (r : Row) → KindShort (removeGrant r)
+short-8 r L t a f law fit _ _ = reach-8 L t f a (λ d k. look L d ≡ k) r (λ j k _ _ _ o _. look-remove-grant L t f law fit j k (r .aid) o)
 
-    look-unchanged : (n : ℕ) → look L (kept t) ≡ fine
-    look-unchanged n = look-fine (kept t) true still-granted refl (fit .unmet-fits) (fit .waiting-fits)
+pub short-9 : (r : Row) → KindShort (addNeed r)
+short-9 r L t a f law fit _ _ = reach-9 L t f a (λ d k. look L d ≡ k) r (λ i _ _ _ _ o _. look-add-need L t f law fit r i o)
 
-    -- one call more is granted where its bit is
-    one-more : (i j k : ℕ) → T (t .used i) → T (t .provides j k) → Granted L (put3 i j k true (t .calls)) (t .grants) ≡ t .grants j i k
-    one-more i j k ui p = T-eq (Granted L c (t .grants)) (t .grants j i k)
-        (λ h. implies-e (c i j k) (t .grants j i k)
-        (bit-every L (λ x y z. implies (c x y z) (t .grants y x z)) h i j k (fo .names .used-lt i ui) (fo .names .used-lt j (fo .names .prov-used j k p)) (fo .names .prov-lt j k p))
-        (put3-new i j k (t .calls)))
-        (λ g. every-bit L (λ x y z. implies (c x y z) (t .grants y x z)) (λ x y z. implies-i (c x y z) (t .grants y x z) (λ m. go x y z g (put3-cases i j k (t .calls) x y z m))))
-      where
-        c : ℕ → ℕ → ℕ → Bool
-        c = put3 i j k true (t .calls)
-
-        go : (x y z : ℕ) → T (t .grants j i k) → At i j k x y z ⊎ T (t .calls x y z) → T (t .grants y x z)
-        go x y z g (inl e) = rw (e .0, e .1, e .2) g
-        go x y z g (inr m) = law x y z m
-
-    -- one grant less is missed where it was called
-    one-less : (i j k : ℕ) → Granted L (t .calls) (put3 j i k false (t .grants)) ≡ not (t .calls i j k)
-    one-less i j k = T-eq (Granted L (t .calls) g) (not (t .calls i j k))
-        (λ h. not-i (t .calls i j k) (λ m.
-        let p = fo .calls .of-prov i j k m in
-        put3-less j i k (t .grants) j i k .0
-        (implies-e (t .calls i j k) (g j i k)
-        (bit-every L (λ x y z. implies (t .calls x y z) (g y x z)) h i j k
-        (fo .names .used-lt i (fo .calls .by-used i j k m)) (fo .names .used-lt j (fo .names .prov-used j k p)) (fo .names .prov-lt j k p))
-        m) .1 (refl, refl, refl)))
-        (λ h. every-bit L (λ x y z. implies (t .calls x y z) (g y x z)) (λ x y z. implies-i (t .calls x y z) (g y x z) (λ m.
-        put3-less j i k (t .grants) y x z .1 (law x y z m, λ e. not-e (t .calls i j k) h (rw (sym (e .1), sym (e .0), sym (e .2)) m)))))
-      where
-        g : ℕ → ℕ → ℕ → Bool
-        g = put3 j i k false (t .grants)
-
-    -- ---- kinds 5 and 6
-    look-add-call : (r : Row) (i : ℕ) → T (t .used i) → (o : Option Place) → ServerIs t r o → look L (addCallAt L t i r o) ≡ shortAddCall L t i o
-    look-add-call r i ui none s =
-        look-of L (addCallAt L t i r none) true true (leb (suc (length (t .unmet))) (L .capacity)) true still-granted refl
-        (ap (λ (n : ℕ). leb n (L .capacity)) (length-snoc (t .unmet) (callRow i r))) waiting-fits
-    look-add-call r i ui (some p) s =
-        look-of L (addCallAt L t i r (some p)) (t .grants (p .callee) i (p .service)) true true true (one-more i (p .callee) (p .service) ui (s .0)) refl unmet-fits waiting-fits
-
-    look-remove-call : (r : Row) (i : ℕ) (o : Option Place) → look L (removeCallAt L t i r o) ≡ fine
-    look-remove-call r i none =
-        look-fine (removeCallAt L t i r none) true still-granted refl (le-trans (length-keep (λ u. not (eqUnmet (callRow i r) u)) (t .unmet)) (fit .unmet-fits)) (fit .waiting-fits)
-    look-remove-call r i (some p) =
-        look-fine (removeCallAt L t i r (some p)) true
-        (all-granted L (put3 i (p .callee) (p .service) false (t .calls)) (t .grants) (λ x y z m. law x y z (put3-less i (p .callee) (p .service) (t .calls) x y z .0 m .0)))
-        refl (fit .unmet-fits) (fit .waiting-fits)
-
-    pub short-5 : (a : Aid) (r : Row) → ShortFull a (addCall r)
-    unfolding draft shortLook
-    short-5 a r ans =
-        at-number L t (fo .names) a
-        (λ o. look L (orElse o (kept t) (λ i. addCallAt L t i r (serverOf L t r))) ≡ orElse o fine (λ i. shortAddCall L t i (serverOf L t r)))
-        (λ o. 6 when orElse o false (λ i. hasRow r (contractAt L t i .calls)) ∷ []) ans
-        (λ i ui ai six. look-add-call r i ui (serverOf L t r) (server-is L t (fo .names) r))
-
-    pub short-6 : (a : Aid) (r : Row) → ShortFull a (removeCall r)
-    unfolding draft shortLook
-    short-6 a r ans = go (numberOf L t a)
-      where
-        go : (o : Option ℕ) → look L (orElse o (kept t) (λ i. removeCallAt L t i r (serverOf L t r))) ≡ fine
-        go none = look-unchanged 255
-        go (some i) = look-remove-call r i (serverOf L t r)
-
-    -- ---- kinds 7 and 8: service k of package j, to the AID b
-    look-add-grant : (j k : ℕ) (b : Aid) (o : Option ℕ) → look L (addGrantAt L t j b k o) ≡ shortAddGrant L t o
-    look-add-grant j k b none =
-        look-of L (addGrantAt L t j b k none) true true true (leb (suc (length (t .waiting))) (L .capacity)) still-granted refl unmet-fits
-        (ap (λ (n : ℕ). leb n (L .capacity)) (length-snoc (t .waiting) (record { caller = b; callee = j; service = k })))
-    look-add-grant j k b (some i) =
-        look-fine (addGrantAt L t j b k (some i)) true
-        (all-granted L (t .calls) (put3 j i k true (t .grants)) (λ x y z m. put3-keep j i k (t .grants) y x z (law x y z m))) refl (fit .unmet-fits) (fit .waiting-fits)
-
-    look-remove-grant : (j k : ℕ) (b : Aid) (o : Option ℕ) → look L (removeGrantAt L t j b k o) ≡ shortRemoveGrant L t j k o
-    look-remove-grant j k b none =
-        look-fine (removeGrantAt L t j b k none) true still-granted refl (fit .unmet-fits)
-        (le-trans (length-keep (λ w. not (eqWaiting (record { caller = b; callee = j; service = k }) w)) (t .waiting)) (fit .waiting-fits))
-    look-remove-grant j k b (some i) = look-of L (removeGrantAt L t j b k (some i)) (not (t .calls i j k)) true true true (one-less i j k) refl unmet-fits waiting-fits
-
-    -- the service of a grant that is asked for is provided
-    is-provided : (j : ℕ) (s : Tok) → T (hasTok s (contractAt L t j .provides)) → (k : ℕ) × T (t .provides j k) × (t .tok j k ≡ s)
-    unfolding contractAt
-    is-provided j s h =
-        let p = map-in (t .tok j) (keep (t .provides j) (places L t)) (has-tok s (contractAt L t j .provides) h) in
-        (p .0, keep-in (t .provides j) (places L t) (p .1) .1, sym (p .2))
-
-    pub short-7 : (a : Aid) (r : Row) → ShortFull a (addGrant r)
-    unfolding draft shortLook
-    short-7 a r ans =
-        at-number L t (fo .names) a
-        (λ o. look L (orElse o (kept t) (λ j. orElse (serviceOf L t j (r .tok)) (kept t) (λ k. addGrantAt L t j (r .aid) k (numberOf L t (r .aid)))))
-        ≡ shortAddGrant L t (numberOf L t (r .aid)))
-        (λ o. 6 when (not (orElse o false (λ j. hasTok (r .tok) (contractAt L t j .provides))) || orElse o false (λ j. hasRow r (contractAt L t j .grants))) ∷ []) ans
-        (λ j uj aj six. go j (is-provided j (r .tok) (asked-and-new (hasTok (r .tok) (contractAt L t j .provides)) (hasRow r (contractAt L t j .grants)) six .0))
-        (serviceOf L t j (r .tok)) (service-is L t (fo .names) j (r .tok)))
-      where
-        go : (j : ℕ) → (k : ℕ) × T (t .provides j k) × (t .tok j k ≡ r .tok) → (o : Option ℕ) → ServiceIs t j (r .tok) o
-            → look L (orElse o (kept t) (λ k. addGrantAt L t j (r .aid) k (numberOf L t (r .aid)))) ≡ shortAddGrant L t (numberOf L t (r .aid))
-        go j p none s = absurd (s (p .0) (p .1) (p .2))
-        go j p (some k) s = look-add-grant j k (r .aid) (numberOf L t (r .aid))
-
-    pub short-8 : (a : Aid) (r : Row) → ShortFull a (removeGrant r)
-    unfolding draft shortLook
-    short-8 a r ans = go (numberOf L t a)
-      where
-        at-service : (j : ℕ) (o : Option ℕ) → look L (orElse o (kept t) (λ k. removeGrantAt L t j (r .aid) k (numberOf L t (r .aid))))
-            ≡ orElse o fine (λ k. shortRemoveGrant L t j k (numberOf L t (r .aid)))
-        at-service j none = look-unchanged j
-        at-service j (some k) = look-remove-grant j k (r .aid) (numberOf L t (r .aid))
-
-        go : (o : Option ℕ) → look L (orElse o (kept t) (λ j. orElse (serviceOf L t j (r .tok)) (kept t) (λ k. removeGrantAt L t j (r .aid) k (numberOf L t (r .aid)))))
-            ≡ orElse o fine (λ j. orElse (serviceOf L t j (r .tok)) fine (λ k. shortRemoveGrant L t j k (numberOf L t (r .aid))))
-        go none = look-unchanged 255
-        go (some j) = at-service j (serviceOf L t j (r .tok))
-
-    -- ---- kinds 9 and 10
-    look-add-need : (r : Row) (i : ℕ) (o : Option Place) → look L (addNeedAt L t i r o) ≡ shortAddNeed L t o
-    look-add-need r i none = look-fine (addNeedAt L t i r none) false still-granted refl (fit .unmet-fits) (fit .waiting-fits)
-    look-add-need r i (some p) = look-fine (addNeedAt L t i r (some p)) true still-granted refl (fit .unmet-fits) (fit .waiting-fits)
-
-    look-remove-need : (r : Row) (i : ℕ) (o : Option Place) → look L (removeNeedAt L t i r o) ≡ fine
-    look-remove-need r i none = look-unchanged i
-    look-remove-need r i (some p) = look-fine (removeNeedAt L t i r (some p)) true still-granted refl (fit .unmet-fits) (fit .waiting-fits)
-
-    pub short-9 : (a : Aid) (r : Row) → ShortFull a (addNeed r)
-    unfolding draft shortLook
-    short-9 a r ans =
-        at-number L t (fo .names) a
-        (λ o. look L (orElse o (kept t) (λ i. addNeedAt L t i r (serverOf L t r))) ≡ shortAddNeed L t (serverOf L t r))
-        (λ o. 6 when (not (orElse o false (λ i. hasRow r (contractAt L t i .calls))) || orElse o false (λ i. hasRow r (contractAt L t i .needs))) ∷ []) ans
-        (λ i ui ai six. look-add-need r i (serverOf L t r))
-
-    pub short-10 : (a : Aid) (r : Row) → ShortFull a (removeNeed r)
-    unfolding draft shortLook
-    short-10 a r ans = go (numberOf L t a)
-      where
-        go : (o : Option ℕ) → look L (orElse o (kept t) (λ i. removeNeedAt L t i r (serverOf L t r))) ≡ fine
-        go none = look-unchanged 255
-        go (some i) = look-remove-need r i (serverOf L t r)
+pub short-10 : (r : Row) → KindShort (removeNeed r)
+short-10 r L t a f law fit _ _ = reach-10 L t f a (λ d k. look L d ≡ k) r (λ i _ _ o _. look-remove-need L t f law fit r i o)

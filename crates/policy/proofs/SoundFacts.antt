@@ -1,12 +1,10 @@
 -- A sound image's tables satisfy the facts, and tables that satisfy the facts pass the tests of a sound image.
-use Prim.Native.Nat.{ℕ, zero, suc, _<_, _%_, _^_, _*_, zero-le, suc-le-suc}
-use native.Mathlib.Nat.{zero-div}
-use mathlib.Core.Path.{_≡_, refl, sym, ap, _∙_, subst}
+use Prim.Native.Nat.{ℕ, zero, suc, _<_, _*_, zero-le, suc-le-suc}
+use mathlib.Core.Path.{_≡_, refl, sym, _∙_, subst}
 use mathlib.Core.Logic.{_⊎_, inl, inr}
 use mathlib.Core.Bool.{Bool, true, false, not, _&&_, _||_}
 use mathlib.Core.List.{List, [], _∷_, map}
-use mathlib.Core.List.{List·Memᴰ as In, List·Memᴰ·cases-cons as in-cons, List·Memᴰ·not-nil as in-nil, Memᴰ·cast as in-cast}
-use mathlib.Core.Option.{Option, none, some}
+use mathlib.Core.List.{List·Memᴰ as In}
 use lib.Dec.{T, eqb, leb, ltb, eqb→eq, ltb→lt, leb→le, le→leb}
 use lib.ListN.{length, getD, take, drop, length-map}
 use Rattle.policy.specs.Lists.{implies, every, keep, distinct, isNil, isSome, upto, eqBytes, NoRepeat}
@@ -14,18 +12,18 @@ use Rattle.policy.specs.Contract.{eqAid, validAid, Tok, eqTok}
 use Rattle.policy.specs.Layout.{Layout, size, aidSize, usedAt, aidsAt, tokensAt, providesAt, callsAt, grantsAt, needsAt}
 use Rattle.policy.specs.Tables.{Tables, Unmet, Waiting, noTok, bit, readNumber, readAid, readTok, pieces, bitOf, readTable, decode, encode}
 use Rattle.policy.specs.Lookup.{numbers, places, usedNumbers, numberOf, serverOf, wanted}
-use Rattle.policy.specs.Sound.{eqUnmet, eqWaiting, everyBit, unmetOk, waitingOk}
-use Rattle.policy.specs.Sound.{aidsOk, tokensOk, blanksOk, entriesOk, bitsProvided, needsCalled, bitsGranted, listsOk, rowsOk, soundTables, sound}
-use Rattle.policy.proofs.Sets.{and-l, and-r, and-i, or-l, or-r, or-e, implies-i, implies-e, not-i, not-e}
-use Rattle.policy.proofs.Sets.{every-in, in-every, keep-in, in-keep, once-keep, in-map, once-map, distinct→once, once→distinct, in-upto, once-upto, eqBytes-refl}
+use Rattle.policy.specs.Sound.{eqUnmet, eqWaiting, unmetOk, waitingOk, aidsOk, tokensOk, blanksOk, entriesOk, bitsProvided, needsCalled, bitsGranted, listsOk, rowsOk, soundTables, sound}
+use Rattle.policy.proofs.Sets.{false-T, and-l, and-r, and-i, or-l, or-r, or-e, implies-i, implies-e, not-i, not-e, none-to, none-back, nil-is, is-nil, every-in, in-every, keep-in, in-keep}
+use Rattle.policy.proofs.Sets.{once-keep, once-map, map-inj, distinct→once, once→distinct, in-upto, once-upto, below-in, in-below, eqBytes-refl}
 use Rattle.policy.proofs.Equal.{eqAid→, eqAid-refl, eqAid-of, eqb-of, eqTok→, eqTok-refl, eqTok-of, eqUnmet→, eqUnmet-refl, eqWaiting→, eqWaiting-refl}
+use Rattle.policy.proofs.EveryBit.{BitIn, among-to, among-back}
+use Rattle.policy.proofs.Pieces.{length-pieces}
+use Rattle.policy.proofs.Bits.{bit-none}
 use Rattle.policy.proofs.Formed.{Names, Bits, UnmetRows, WaitingRows, grantBit, Formed, Lawful, Fitting}
 use Rattle.policy.proofs.Found.{NumberIs, ServerIs, number-is, server-is}
+use Rattle.policy.proofs.Facts.{need-bits, lawful-of, of-lawful}
 
 -- ---- what tables hold stands in range
-abbrev BitIn : Layout → ℕ → ℕ → ℕ → Type 0
-BitIn L i j k = (i < L .packages) × (j < L .packages) × (k < L .services)
-
 record InRange (L : Layout) (t : Tables) : Type 0 where
   used-in : (n : ℕ) → T (t .used n) → n < L .packages
   aid-in : (n : ℕ) → (t .aid n ≡ [] → ⊥) → n < L .packages
@@ -34,10 +32,6 @@ record InRange (L : Layout) (t : Tables) : Type 0 where
   calls-in : (i j k : ℕ) → T (t .calls i j k) → BitIn L i j k
   grants-in : (i j k : ℕ) → T (t .grants i j k) → BitIn L i j k
   needs-in : (i j k : ℕ) → T (t .needs i j k) → BitIn L i j k
-
-pieces-length : (w n : ℕ) (bs : List ℕ) → length (pieces w n bs) ≡ n
-pieces-length w zero bs = refl
-pieces-length w (suc n) bs = ap suc (pieces-length w n (drop w bs))
 
 -- what is not the default stands in the list
 entry-in : {A : Type 0} (l : List A) (d : A) (n : ℕ) → (getD l n d ≡ d → ⊥) → n < length l
@@ -52,14 +46,10 @@ cell-in f n wide (x ∷ l) d zero j h = (suc-le-suc zero-le, subst (λ (z : ℕ)
 cell-in f n wide (x ∷ l) d (suc i) j h = let p = cell-in f n wide l d i j h in (suc-le-suc (p .0), p .1)
 
 -- a bit of a row is one of its n, and the row has bytes
-no-bit : (k : ℕ) → T (bit 0 k) → ⊥
-unfolding bit
-no-bit k h = subst (λ (z : ℕ). T (eqb (z % 2) 1)) (zero-div (2 ^ k)) h
-
 row-bit : (L : Layout) (n : ℕ) (bs : List ℕ) (k : ℕ) → T (bitOf L n bs k) → (k < n) × (bs ≡ [] → ⊥)
 row-bit L n bs k h = (
   ltb→lt k n (and-l (ltb k n) (bit (readNumber 0 bs) k) h),
-  λ e. no-bit k (subst (λ (z : List ℕ). T (bit (readNumber 0 z) k)) e (and-r (ltb k n) (bit (readNumber 0 bs) k) h)),
+  λ e. false-T (bit-none k) (subst (λ (z : List ℕ). T (bit (readNumber 0 z) k)) e (and-r (ltb k n) (bit (readNumber 0 bs) k) h)),
 )
 
 module _ (L : Layout) (img : List ℕ) where
@@ -68,20 +58,20 @@ module _ (L : Layout) (img : List ℕ) where
       let lines = pieces (L .packages * L .width) (L .packages) (drop at img) in
       let row = getD (getD (map (pieces (L .width) (L .packages)) lines) i []) j [] in
       let r = row-bit L (L .services) row k h in
-      let c = cell-in (pieces (L .width) (L .packages)) (L .packages) (pieces-length (L .width) (L .packages)) lines [] i j (r .1) in
-      (subst (λ (z : ℕ). i < z) (pieces-length (L .packages * L .width) (L .packages) (drop at img)) (c .0), c .1, r .0)
+      let c = cell-in (pieces (L .width) (L .packages)) (L .packages) (length-pieces (L .width) (L .packages)) lines [] i j (r .1) in
+      (subst (λ (z : ℕ). i < z) (length-pieces (L .packages * L .width) (L .packages) (drop at img)) (c .0), c .1, r .0)
 
   decode-in : InRange L (decode L img)
   unfolding decode
   decode-in = record {
     used-in = λ n h. row-bit L (L .packages) (take (L .width) (drop (usedAt L) img)) n h .0;
-    aid-in = λ n h. subst (λ (z : ℕ). n < z) (length-map aids readAid ∙ pieces-length aidSize (L .packages) (drop (aidsAt L) img)) (entry-in (map readAid aids) [] n h);
+    aid-in = λ n h. subst (λ (z : ℕ). n < z) (length-map aids readAid ∙ length-pieces aidSize (L .packages) (drop (aidsAt L) img)) (entry-in (map readAid aids) [] n h);
     tok-in = λ j k h.
-        let c = cell-in line (L .services) (λ l. length-map (pieces 2 (L .services) l) readTok ∙ pieces-length 2 (L .services) l) toks noTok j k h in
-        (subst (λ (z : ℕ). j < z) (pieces-length (L .services * 2) (L .packages) (drop (tokensAt L) img)) (c .0), c .1);
+        let c = cell-in line (L .services) (λ l. length-map (pieces 2 (L .services) l) readTok ∙ length-pieces 2 (L .services) l) toks noTok j k h in
+        (subst (λ (z : ℕ). j < z) (length-pieces (L .services * 2) (L .packages) (drop (tokensAt L) img)) (c .0), c .1);
     prov-in = λ j k h.
         let r = row-bit L (L .services) (getD provs j []) k h in
-        (subst (λ (z : ℕ). j < z) (pieces-length (L .width) (L .packages) (drop (providesAt L) img)) (entry-in provs [] j (r .1)), r .0);
+        (subst (λ (z : ℕ). j < z) (length-pieces (L .width) (L .packages) (drop (providesAt L) img)) (entry-in provs [] j (r .1)), r .0);
     calls-in = table-in (callsAt L);
     grants-in = table-in (grantsAt L);
     needs-in = table-in (needsAt L);
@@ -139,40 +129,6 @@ blank-back : (a b : Bool) → ((T a → ⊥) → T b) → T (a || b)
 blank-back true b h = tt
 blank-back false b h = h (λ u. u)
 
-isNil→ : {A : Type 0} (l : List A) → T (isNil l) → l ≡ []
-isNil→ [] h = refl
-isNil→ (x ∷ l) h = absurd h
-
-nil-is : {A : Type 0} {l : List A} → l ≡ [] → T (isNil l)
-nil-is {A} e = subst (λ (z : List A). T (isNil z)) (sym e) tt
-
--- what a search that found nothing says, and that it found nothing
-none-to : {A : Type 0} (P : Option A → Type 0) (o : Option A) → P o → T (not (isSome o)) → P none
-none-to P none p h = p
-none-to P (some x) p h = absurd h
-
-none-back : {A : Type 0} (P : Option A → Type 0) → ((x : A) → P (some x) → ⊥) → (o : Option A) → P o → T (not (isSome o))
-none-back P h none p = tt
-none-back P h (some x) p = h x p
-
--- a test of every number below n
-below-to : (f : ℕ → Bool) (n : ℕ) → T (every f (upto n)) → (x : ℕ) → x < n → T (f x)
-below-to f n h x l = every-in f (upto n) h (in-upto n x l)
-
-below-back : (f : ℕ → Bool) (n : ℕ) → ((x : ℕ) → T (f x)) → T (every f (upto n))
-below-back f n h = in-every f (upto n) (λ x m. h x)
-
--- f differs on a list whose image does not repeat
-map-inj : {A B : Type 0} (f : A → B) (l : List A) → NoRepeat (map f l) → {x y : A} → In x l → In y l → f x ≡ f y → x ≡ y
-map-inj f [] d m n e = absurd (in-nil m)
-map-inj f (z ∷ l) d {x} {y} m n e = go (λ p q. map-inj f l (d .1) p q e) (in-cons m) (in-cons n)
-  where
-    go : (In x l → In y l → x ≡ y) → (x ≡ z) ⊎ In x l → (y ≡ z) ⊎ In y l → x ≡ y
-    go ih (inl p) (inl q) = p ∙ sym q
-    go ih (inl p) (inr q) = absurd (d .0 (in-cast (ap f (sym p) ∙ e) (in-map f q)))
-    go ih (inr p) (inl q) = absurd (d .0 (in-cast (ap f (sym q) ∙ sym e) (in-map f p)))
-    go ih (inr p) (inr q) = ih p q
-
 -- the values of f at the numbers that pass differ: 'used AIDs differ', 'tokens provided by one package differ'
 module _ {A : Type 0} (eq : A → A → Bool) (eq→ : (x y : A) → T (eq x y) → x ≡ y) (eq-refl : (x : A) → T (eq x x)) (f : ℕ → A) (p : ℕ → Bool) (n : ℕ) where
   differ-to : T (distinct eq (map f (keep p (upto n)))) → ((x : ℕ) → T (p x) → x < n) → (x y : ℕ) → T (p x) → T (p y) → f x ≡ f y → x ≡ y
@@ -184,25 +140,6 @@ module _ {A : Type 0} (eq : A → A → Bool) (eq→ : (x y : A) → T (eq x y) 
   differ-back : ((x y : ℕ) → T (p x) → T (p y) → f x ≡ f y → x ≡ y) → T (distinct eq (map f (keep p (upto n))))
   differ-back inj = once→distinct eq eq→ eq-refl (map f (keep p (upto n)))
       (once-map f (keep p (upto n)) (λ x y m o e. inj x y (keep-in p (upto n) m .1) (keep-in p (upto n) o .1) e) (once-keep p (upto n) (once-upto n)))
-
--- every bit of a is one of b
-module _ (L : Layout) (a b : ℕ → ℕ → ℕ → Bool) where
-  abbrev bitOk : ℕ → ℕ → ℕ → Bool
-  bitOk i j k = implies (a i j k) (b i j k)
-
-  abbrev entryOk : ℕ → ℕ → Bool
-  entryOk i j = every (bitOk i j) (upto (L .services))
-
-  abbrev lineOk : ℕ → Bool
-  lineOk i = every (entryOk i) (upto (L .packages))
-
-  bits-to : T (everyBit L bitOk) → (i j k : ℕ) → BitIn L i j k → T (a i j k) → T (b i j k)
-  bits-to h i j k c = implies-e (a i j k) (b i j k)
-      (below-to (bitOk i j) (L .services) (below-to (entryOk i) (L .packages) (below-to lineOk (L .packages) h i (c .0)) j (c .1)) k (c .2))
-
-  bits-back : ((i j k : ℕ) → T (a i j k) → T (b i j k)) → T (everyBit L bitOk)
-  bits-back h = below-back lineOk (L .packages) (λ i. below-back (entryOk i) (L .packages) (λ j. below-back (bitOk i j) (L .services)
-      (λ k. implies-i (a i j k) (b i j k) (h i j k))))
 
 -- ---- the items, by the facts that they give
 module _ (L : Layout) (t : Tables) where
@@ -231,10 +168,10 @@ module _ (L : Layout) (t : Tables) where
   everyPlace f = every (λ j. every (f j) (places L t)) (numbers L t)
 
   place-to : (f : ℕ → ℕ → Bool) → T (everyPlace f) → (j k : ℕ) → j < L .packages → k < L .services → T (f j k)
-  place-to f h j k a b = below-to (f j) (L .services) (below-to (λ j. every (f j) (places L t)) (L .packages) h j a) k b
+  place-to f h j k a b = below-in (f j) (L .services) (below-in (λ j. every (f j) (places L t)) (L .packages) h j a) k b
 
   place-back : (f : ℕ → ℕ → Bool) → ((j k : ℕ) → T (f j k)) → T (everyPlace f)
-  place-back f h = below-back (λ j. every (f j) (places L t)) (L .packages) (λ j. below-back (f j) (L .services) (h j))
+  place-back f h = in-below (λ j. every (f j) (places L t)) (L .packages) (λ j. in-below (f j) (L .services) (h j))
 
   names-to : InRange L t → T (aidsOk L t) → T (tokensOk L t) → T (blanksOk L t) → Names L (t .used) (t .aid) (t .tok) (t .provides)
   unfolding aidsOk tokensOk blanksOk
@@ -247,13 +184,13 @@ module _ (L : Layout) (t : Tables) where
         prov-lt = λ j k h. r .prov-in j k h .1;
         prov-used = λ j k h. let c = r .prov-in j k h in implies-e (t .provides j k) (t .used j) (place-to provUsed (blanks .1) j k (c .0) (c .1)) h;
         aid-valid = λ n u. every-in (λ n. validAid (t .aid n)) (usedNumbers L t) (aids .0) (in-keep (t .used) (in-upto (L .packages) n (r .used-in n u)) u);
-        aid-blank = λ n u. isNil→ (t .aid n) (blank-to (t .used n) (isNil (t .aid n))
-            (λ f. below-to aidBlank (L .packages) (zeros .0) n (r .aid-in n (λ e. f (nil-is e)))) u);
+        aid-blank = λ n u. nil-is (t .aid n) (blank-to (t .used n) (isNil (t .aid n))
+            (λ f. below-in aidBlank (L .packages) (zeros .0) n (r .aid-in n (λ e. f (is-nil e)))) u);
         tok-blank = λ j k p. eqTok→ (t .tok j k) noTok (blank-to (t .provides j k) (eqTok (t .tok j k) noTok)
             (λ f. let c = r .tok-in j k (λ e. f (eqTok-of e)) in place-to tokBlank (zeros .1) j k (c .0) (c .1)) p);
         aid-inj = differ-to eqAid eqAid→ eqAid-refl (t .aid) (t .used) (L .packages) (aids .1) (r .used-in);
         tok-inj = λ j k l p. differ-to eqTok eqTok→ eqTok-refl (t .tok j) (t .provides j) (L .services)
-            (below-to toksDiffer (L .packages) s j (r .prov-in j k p .0)) (λ k q. r .prov-in j k q .1) k l p;
+            (below-in toksDiffer (L .packages) s j (r .prov-in j k p .0)) (λ k q. r .prov-in j k q .1) k l p;
       }
 
   module _ (n : Names L (t .used) (t .aid) (t .tok) (t .provides)) where
@@ -265,13 +202,13 @@ module _ (L : Layout) (t : Tables) where
 
     tokens-back : T (tokensOk L t)
     unfolding tokensOk
-    tokens-back = below-back toksDiffer (L .packages) (λ j. differ-back eqTok eqTok→ eqTok-refl (t .tok j) (t .provides j) (L .services) (n .tok-inj j))
+    tokens-back = in-below toksDiffer (L .packages) (λ j. differ-back eqTok eqTok→ eqTok-refl (t .tok j) (t .provides j) (L .services) (n .tok-inj j))
 
     blanks-back : T (blanksOk L t)
     unfolding blanksOk
     blanks-back = and-i (everyNumber aidBlank && everyPlace tokBlank) (everyPlace provUsed)
         (and-i (everyNumber aidBlank) (everyPlace tokBlank)
-        (below-back aidBlank (L .packages) (λ x. blank-back (t .used x) (isNil (t .aid x)) (λ u. nil-is (n .aid-blank x u))))
+        (in-below aidBlank (L .packages) (λ x. blank-back (t .used x) (isNil (t .aid x)) (λ u. is-nil (n .aid-blank x u))))
         (place-back tokBlank (λ j k. blank-back (t .provides j k) (eqTok (t .tok j k) noTok) (λ p. eqTok-of (n .tok-blank j k p)))))
         (place-back provUsed (λ j k. implies-i (t .provides j k) (t .used j) (n .prov-used j k)))
 
@@ -293,60 +230,60 @@ module _ (L : Layout) (t : Tables) where
   unfolding entriesOk bitsProvided
   bits-formed e p b range one = record {
     by-used = λ i j k h. and-l (t .used i) (t .used j) (and-l (t .used i && t .used j) (not (eqb i j)) (entry i j k h));
-    of-prov = λ i j k h. bits-to L callOrGrant provided p i j k (range i j k h) (one i j k h);
+    of-prov = λ i j k h. among-to L callOrGrant provided p i j k (range i j k h) (one i j k h);
     other = λ i j k h q. not-e (eqb i j) (and-r (t .used i && t .used j) (not (eqb i j)) (entry i j k h)) (eqb-of q);
   }
     where
       entry : (i j k : ℕ) → T (b i j k) → T (apart i j k)
-      entry i j k h = bits-to L someBit apart e i j k (range i j k h) (or-l (callOrGrant i j k) (t .needs i j k) (one i j k h))
+      entry i j k h = among-to L someBit apart e i j k (range i j k h) (or-l (callOrGrant i j k) (t .needs i j k) (one i j k h))
 
   -- what is said of every bit: of calls and grants, and of needs because they are among the calls
   module _ (f : Formed L t) where
     abbrev BitFacts : ℕ → ℕ → ℕ → Type 0
     BitFacts i j k = T (t .used i) × T (t .provides j k) × (i ≡ j → ⊥)
 
-    bit-facts : (b : ℕ → ℕ → ℕ → Bool) → Bits (t .used) (t .provides) b → (i j k : ℕ) → T (b i j k) → BitFacts i j k
-    bit-facts b h i j k x = (h .by-used i j k x, h .of-prov i j k x, h .other i j k x)
+    bit-facts : {b : ℕ → ℕ → ℕ → Bool} → Bits (t .used) (t .provides) b → (i j k : ℕ) → T (b i j k) → BitFacts i j k
+    bit-facts h i j k x = (h .by-used i j k x, h .of-prov i j k x, h .other i j k x)
 
     one-facts : (i j k : ℕ) → T (callOrGrant i j k) → BitFacts i j k
     one-facts i j k h = go (or-e (t .calls i j k) (t .grants j i k) h)
       where
         go : T (t .calls i j k) ⊎ T (t .grants j i k) → BitFacts i j k
-        go (inl x) = bit-facts (t .calls) (f .calls) i j k x
-        go (inr x) = bit-facts (grantBit t) (f .grants) i j k x
+        go (inl x) = bit-facts (f .calls) i j k x
+        go (inr x) = bit-facts (f .grants) i j k x
 
     some-facts : (i j k : ℕ) → T (someBit i j k) → BitFacts i j k
     some-facts i j k h = go (or-e (callOrGrant i j k) (t .needs i j k) h)
       where
         go : T (callOrGrant i j k) ⊎ T (t .needs i j k) → BitFacts i j k
         go (inl x) = one-facts i j k x
-        go (inr x) = bit-facts (t .calls) (f .calls) i j k (f .need-call i j k x)
+        go (inr x) = bit-facts (need-bits L t f) i j k x
 
     entries-back : T (entriesOk L t)
     unfolding entriesOk
-    entries-back = bits-back L someBit apart (λ i j k h.
+    entries-back = among-back L someBit apart (λ i j k h.
         let c = some-facts i j k h in
         and-i (t .used i && t .used j) (not (eqb i j)) (and-i (t .used i) (t .used j) (c .0) (f .names .prov-used j k (c .1))) (not-i (eqb i j) (λ q. c .2 (eqb→eq i j q))))
 
     provided-back : T (bitsProvided L t)
     unfolding bitsProvided
-    provided-back = bits-back L callOrGrant provided (λ i j k h. one-facts i j k h .1)
+    provided-back = among-back L callOrGrant provided (λ i j k h. one-facts i j k h .1)
 
     needs-back : T (needsCalled L t)
     unfolding needsCalled
-    needs-back = bits-back L (t .needs) (t .calls) (f .need-call)
+    needs-back = among-back L (t .needs) (t .calls) (f .need-call)
 
   needs-to : InRange L t → T (needsCalled L t) → (i j k : ℕ) → T (t .needs i j k) → T (t .calls i j k)
   unfolding needsCalled
-  needs-to r h i j k x = bits-to L (t .needs) (t .calls) h i j k (r .needs-in i j k x) x
+  needs-to r h i j k x = among-to L (t .needs) (t .calls) h i j k (r .needs-in i j k x) x
 
-  granted-to : InRange L t → T (bitsGranted L t) → Lawful t
+  granted-to : Formed L t → T (bitsGranted L t) → Lawful t
   unfolding bitsGranted
-  granted-to r h i j k x = bits-to L (t .calls) (grantBit t) h i j k (r .calls-in i j k x) x
+  granted-to f = lawful-of L t f
 
   granted-back : Lawful t → T (bitsGranted L t)
   unfolding bitsGranted
-  granted-back h = bits-back L (t .calls) (grantBit t) h
+  granted-back = of-lawful L t
 
   abbrev fits : Bool
   fits = leb (length (t .unmet)) (L .capacity) && leb (length (t .waiting)) (L .capacity)
@@ -447,7 +384,7 @@ module _ (L : Layout) (t : Tables) where
         }
 
     tables-lawful : Lawful t
-    tables-lawful = granted-to r (items .6)
+    tables-lawful = granted-to tables-formed (items .6)
 
     tables-fitting : Fitting L t
     tables-fitting = lists-to (items .7) .0

@@ -1,36 +1,35 @@
 -- One record: the engine's definition and the plain machine answer alike, and what they leave stands for each other.
-use Prim.Native.Nat.{ℕ, zero, suc, _≤_, _<_}
-use native.Mathlib.Omega.{arith}
+use Prim.Native.Nat.{ℕ, zero, suc}
 use mathlib.Core.Path.{_≡_, refl, sym, ap, _∙_, subst}
-use mathlib.Core.Logic.{_⊎_, inl, inr, _↔_}
-use mathlib.Core.Bool.{Bool, true, false, not, cond}
-use mathlib.Core.List.{List, [], _∷_, _++_, map}
-use mathlib.Core.List.{List·Memᴰ as In}
+use mathlib.Core.Bool.{Bool, not, cond}
+use mathlib.Core.List.{List, [], _∷_, _++_}
 use mathlib.Core.Option.{Option, none, some}
-use lib.Dec.{T, leb, leb→le}
-use lib.ListN.{length, take}
-use Rattle.policy.specs.Lists.{implies, every, upto, isNil, NoRepeat}
+use lib.Dec.{T, ltb, leb→le}
+use lib.ListN.{length}
+use Rattle.policy.specs.Lists.{every}
 use Rattle.policy.specs.Contract.{Aid, Contract, validAid}
-use Rattle.policy.specs.Layout.{Layout, LayoutOk, size}
+use Rattle.policy.specs.Layout.{Layout, LayoutOk}
 use Rattle.policy.specs.Record.{Request, Change, load, remove, addService, removeService, addCall, removeCall, addGrant, removeGrant, addNeed, removeNeed, parse, proper}
 use Rattle.policy.specs.Causes.{Cause, _when_, answer}
-use Rattle.policy.specs.Machine.{Held, held, effect, causes4to7, causes8to11, causes3to11, machine}
+use Rattle.policy.specs.Machine.{Held, held, effect, causes8to11, causes3to11, machine}
 use Rattle.policy.specs.Tables.{Tables, Unmet, decode, encode}
 use Rattle.policy.specs.Lookup.{contractAt}
-use Rattle.policy.specs.Sound.{everyBit, sound}
-use Rattle.policy.specs.Draft.{Draft, look, draft, numberFor}
+use Rattle.policy.specs.Sound.{sound}
+use Rattle.policy.specs.Draft.{Look, Draft, look, draft, numberFor}
 use Rattle.policy.specs.Judge.{Out, refusal, tableCauses, lookCauses, judgeCauses, judged, judgeTables, judge}
-use Rattle.policy.specs.History.{SameContract, FourSets, StandsFor}
-use Rattle.policy.proofs.Sets.{T-true, true-T, false-T, not-i, not-e, implies-e, every-in, in-upto}
-use Rattle.policy.proofs.Formed.{Formed, Lawful, Fitting, Off, HasContract, Stands, Turns, KindTurns, Valid}
-use Rattle.policy.proofs.SoundFacts.{sound-formed, sound-image}
-use Rattle.policy.proofs.RoundTrip.{round-trip, length-encode, header-encode}
+use Rattle.policy.specs.History.{SameContract, StandsFor}
+use Rattle.policy.specs.ShortCheck.{fine}
+use Rattle.policy.proofs.Sets.{T-true, not-false, nil-is}
+use Rattle.policy.proofs.Answers.{answer-zero, answer-append, ascends, answer-append-zero, ascends-front, none-of-four}
+use Rattle.policy.proofs.Formed.{Formed, Lawful, Fitting, Stands, Valid, Turns}
+use Rattle.policy.proofs.Facts.{lawful-of}
 use Rattle.policy.proofs.ContractAt.{same-contract, has-contract}
 use Rattle.policy.proofs.ParseFacts.{parse-valid}
+use Rattle.policy.proofs.RoundTrip.{header-encode, length-encode, round-trip}
+use Rattle.policy.proofs.SoundFacts.{sound-formed, sound-image}
 use Rattle.policy.proofs.Tests.{tests-agree}
 use Rattle.policy.proofs.Verdict.{looks-agree}
 use Rattle.policy.proofs.AllKinds.{kinds}
-use Rattle.policy.proofs.Answers.{answer-zero, answer-append, ascends, answer-append-zero, none-of-four}
 
 -- ---- images and tables
 pub stands-of : (L : Layout) (img : List ℕ) (cs : List Contract) → StandsFor L img cs → Stands (decode L img) [] cs
@@ -54,48 +53,37 @@ image-stands L lo t cs g w fit st =
     }
 
 -- ---- an accepted draft
-granted-lawful : (L : Layout) (d : Draft) → Formed L (d .tables) → T (look L d .granted) → Lawful (d .tables)
-unfolding look
-granted-lawful L d g h i j k b =
-    let t = d .tables in
-    let pj = g .calls .of-prov i j k b in
-    let row = every-in (λ i. every (λ j. every (λ k. implies (t .calls i j k) (t .grants j i k)) (upto (L .services))) (upto (L .packages))) (upto (L .packages)) h
-    (in-upto (L .packages) i (g .names .used-lt i (g .calls .by-used i j k b))) in
-    let col = every-in (λ j. every (λ k. implies (t .calls i j k) (t .grants j i k)) (upto (L .services))) (upto (L .packages)) row
-    (in-upto (L .packages) j (g .names .used-lt j (g .names .prov-used j k pj))) in
-    implies-e (t .calls i j k) (t .grants j i k)
-    (every-in (λ k. implies (t .calls i j k) (t .grants j i k)) (upto (L .services)) col (in-upto (L .services) k (g .names .prov-lt j k pj))) b
-
-no-lost : (l : List Unmet) → T (isNil l) → l ≡ []
-no-lost [] t = refl
-no-lost (u ∷ l) t = absurd t
-
 -- no cause from 8 on: the tables are lawful and fit, and no need is lost
 pub accepted : (L : Layout) (d : Draft) → Formed L (d .tables) → answer (lookCauses L (look L d)) ≡ 0 → Lawful (d .tables) × Fitting L (d .tables) × (d .lost ≡ [])
 unfolding look
 accepted L d g e =
     let p = none-of-four (look L d .granted) (look L d .needed) (look L d .unmetFits) (look L d .waitingFits) e in (
-      granted-lawful L d g (p .0),
+      lawful-of L (d .tables) g (p .0),
       record {
         unmet-fits = leb→le (length (d .tables .unmet)) (L .capacity) (p .2);
         waiting-fits = leb→le (length (d .tables .waiting)) (L .capacity) (p .3);
       },
-      no-lost (d .lost) (p .1),
+      nil-is (d .lost) (p .1),
     )
 
 -- ---- the two lists of causes
 module _ (L : Layout) (t : Tables) (a : Aid) where
+  -- causes 3 to 11 go up, and are below 12
+  pub judge-causes : (k : Look) (b : Bool) (c : Change)
+      → T (every (λ x. ltb (x .number) 12) (3 when b ∷ tableCauses L t a c ++ lookCauses L k)) × T (ascends 2 (3 when b ∷ tableCauses L t a c ++ lookCauses L k))
+  judge-causes k b (load p c g n) = (tt, tt)
+  judge-causes k b remove = (tt, tt)
+  judge-causes k b (addService s l) = (tt, tt)
+  judge-causes k b (removeService s) = (tt, tt)
+  judge-causes k b (addCall r) = (tt, tt)
+  judge-causes k b (removeCall r) = (tt, tt)
+  judge-causes k b (addGrant r) = (tt, tt)
+  judge-causes k b (removeGrant r) = (tt, tt)
+  judge-causes k b (addNeed r) = (tt, tt)
+  judge-causes k b (removeNeed r) = (tt, tt)
+
   pub judge-ascends : (b : Bool) (c : Change) → T (ascends 2 (3 when b ∷ tableCauses L t a c))
-  judge-ascends b (load p c g n) = tt
-  judge-ascends b remove = tt
-  judge-ascends b (addService s l) = tt
-  judge-ascends b (removeService s) = tt
-  judge-ascends b (addCall r) = tt
-  judge-ascends b (removeCall r) = tt
-  judge-ascends b (addGrant r) = tt
-  judge-ascends b (removeGrant r) = tt
-  judge-ascends b (addNeed r) = tt
-  judge-ascends b (removeNeed r) = tt
+  judge-ascends b c = ascends-front 2 (3 when b ∷ tableCauses L t a c) (lookCauses L fine) (judge-causes fine b c .1)
 
 module _ (L : Layout) (lo : LayoutOk L) (t : Tables) (cs : List Contract) (g : Formed L t) (st : Stands t [] cs)
     (q : Request) (va : T (validAid (q .aid))) (vc : Valid L (q .change)) where
@@ -116,11 +104,7 @@ module _ (L : Layout) (lo : LayoutOk L) (t : Tables) (cs : List Contract) (g : F
   early = 3 when not (proper a c) ∷ tableCauses L t a c
 
   turns : answer early ≡ 0 → Turns L d ds
-  turns e = let p = answer-zero 2 (not (proper a c)) (tableCauses L t a c) e in kinds c L t cs a g st va vc (not-false (proper a c) (p .0)) (p .1)
-    where
-      not-false : (b : Bool) → not b ≡ false → T b
-      not-false true e = tt
-      not-false false e = absurd (false-T e tt)
+  turns e = let p = answer-zero 2 (not (proper a c)) (tableCauses L t a c) e in kinds c .0 L t cs a g st va vc (not-false (proper a c) (p .0)) (p .1)
 
   pub answers-agree : answer (judgeCauses L t q) ≡ answer (causes3to11 L cs q)
   answers-agree =

@@ -1,16 +1,16 @@
 -- Causes 4 to 7: the tests on tables and the tests on the contracts that they stand for agree; and a card's contracts fit its layout.
-use Prim.Native.Nat.{ℕ, zero, suc, _≤_}
+use Prim.Native.Nat.{ℕ, _≤_}
 use native.Mathlib.Omega.{arith}
 use mathlib.Core.Path.{_≡_, refl, sym, ap, _∙_, subst}
 use mathlib.Core.Logic.{_⊎_, inl, inr}
-use mathlib.Core.Bool.{Bool, true, false, not, _&&_, _||_}
+use mathlib.Core.Bool.{Bool, true, false, not, _||_}
 use mathlib.Core.List.{List, [], _∷_, map}
-use mathlib.Core.List.{List·Memᴰ as In, List·Memᴰ·cases-cons as in-cons, List·Memᴰ·not-nil as in-nil, Memᴰ·cast as in-cast}
+use mathlib.Core.List.{List·Memᴰ as In, List·Memᴰ·cases-cons as in-cons, Memᴰ·cast as in-cast}
 use mathlib.Core.Option.{Option, none, some}
 use lib.Dec.{T, leb, leb→le, le→leb}
 use lib.ListN.{length, length-map}
-use Rattle.policy.specs.Lists.{SameSet, NoRepeat, exists, keep, from, upto, isSome, orElse}
-use Rattle.policy.specs.Contract.{Aid, eqAid, Tok, eqTok, Row, eqRow, Contract, hasTok, hasRow, under, installed}
+use Rattle.policy.specs.Lists.{SameSet, NoRepeat, exists, keep, upto, isSome, orElse}
+use Rattle.policy.specs.Contract.{Aid, Tok, eqTok, Row, eqRow, Contract, hasTok, hasRow, under, installed}
 use Rattle.policy.specs.Layout.{Layout}
 use Rattle.policy.specs.Record.{Change, load, remove, addService, removeService, addCall, removeCall, addGrant, removeGrant, addNeed, removeNeed}
 use Rattle.policy.specs.Causes.{_when_}
@@ -19,18 +19,15 @@ use Rattle.policy.specs.Tables.{Tables, Unmet}
 use Rattle.policy.specs.Lookup.{numbers, places, usedNumbers, numberOf, freeNumber, freeService, contractAt}
 use Rattle.policy.specs.Judge.{absent, holds, tableCauses}
 use Rattle.policy.specs.History.{SameContract}
-use Rattle.policy.proofs.Sets.{T-eq, T-true, T-false, and-l, and-r, and-i, exists-in, in-exists, same-has, in-map, map-in, once-map}
-use Rattle.policy.proofs.Sets.{keep-in, in-keep, once-keep, upto-in, in-upto, once-upto, length-le, same-length}
-use Rattle.policy.proofs.Equal.{eqAid→, eqAid-of, eqTok→, eqTok-refl, eqRow→, eqRow-refl}
+use Rattle.policy.proofs.Sets.{T-eq, T-true, T-false, length-le, same-length, keep-in, in-keep, once-keep, length-keep, in-map, map-in, once-map, same-has, length-from, upto-in, in-upto}
+use Rattle.policy.proofs.Sets.{once-upto}
+use Rattle.policy.proofs.Equal.{eqTok→, eqTok-refl, eqRow→, eqRow-refl}
 use Rattle.policy.proofs.Formed.{Names, Formed, HasContract, Stands}
-use Rattle.policy.proofs.Found.{NumberIs, number-is, FreeIs, free-number-is, free-service-is}
+use Rattle.policy.proofs.Found.{NumberIs, FreeIs, free-number-is, free-service-is, number-is}
+use Rattle.policy.proofs.Facts.{at-aid, under-i, under-e}
 use Rattle.policy.proofs.ContractAt.{provided, provided-in, once-provided, same-contract}
 
 -- ---- counting what is taken below a limit
-length-from : (i n : ℕ) → length (from i n) ≡ n
-length-from i zero = refl
-length-from i (suc n) = ap suc (length-from (suc i) n)
-
 module _ (most : ℕ) (taken : ℕ → Bool) where
   abbrev below : List ℕ
   below = upto most
@@ -39,7 +36,7 @@ module _ (most : ℕ) (taken : ℕ → Bool) where
   once-taken = once-keep taken below (once-upto most)
 
   taken-fit : length (keep taken below) ≤ most
-  taken-fit = let le = length-le (keep taken below) below once-taken (λ k m. keep-in taken below m .0) in omega (arith, length-from 0 most, le)
+  taken-fit = omega (arith, length-from 0 most, length-keep taken below)
 
   -- nothing is free when as much is taken as there is
   full : (o : Option ℕ) → FreeIs most taken o → not (isSome o) ≡ leb most (length (keep taken below))
@@ -57,33 +54,6 @@ module _ (most : ℕ) (taken : ℕ → Bool) where
 
       more : most ≤ length (keep taken below) → ⊥
       more a = omega (arith, length-from 0 most, le)
-
--- ---- a list whose elements' names differ
-one-of : {A B : Type 0} (f : A → B) (l : List A) → NoRepeat (map f l) → {x y : A} → In x l → In y l → f x ≡ f y → x ≡ y
-one-of f [] d m n e = absurd (in-nil m)
-one-of f (z ∷ l) d {x} {y} m n e = go (λ p q. one-of f l (d .1) p q e) (in-cons m) (in-cons n)
-  where
-    go : (In x l → In y l → x ≡ y) → (x ≡ z) ⊎ In x l → (y ≡ z) ⊎ In y l → x ≡ y
-    go ih (inl p) (inl q) = p ∙ sym q
-    go ih (inl p) (inr q) = absurd (d .0 (in-cast (ap f (sym p) ∙ e) (in-map f q)))
-    go ih (inr p) (inl q) = absurd (d .0 (in-cast (ap f (sym q) ∙ sym e) (in-map f p)))
-    go ih (inr p) (inr q) = ih p q
-
--- the contract under an AID, where there is one, is what a test of that AID sees
-under-is : (cs : List Contract) → NoRepeat (map (λ c. c .aid) cs) → (a : Aid) (f : Contract → Bool) (c : Contract) → In c cs → c .aid ≡ a → under cs a f ≡ f c
-under-is cs once a f c m e = T-eq (under cs a f) (f c) to (λ h. in-exists (λ d. eqAid (d .aid) a && f d) m (and-i (eqAid (c .aid) a) (f c) (eqAid-of e) h))
-  where
-    to : T (under cs a f) → T (f c)
-    to h =
-        let p = exists-in (λ d. eqAid (d .aid) a && f d) cs h in
-        let d = p .0 in
-        let q : d .aid ≡ c .aid = eqAid→ (d .aid) a (and-l (eqAid (d .aid) a) (f d) (p .2)) ∙ sym e in
-        subst (λ (z : Contract). T (f z)) (one-of (λ (k : Contract). k .aid) cs once (p .1) m q) (and-r (eqAid (d .aid) a) (f d) (p .2))
-
-under-none : (cs : List Contract) (a : Aid) (f : Contract → Bool) → ((c : Contract) → In c cs → c .aid ≡ a → ⊥) → under cs a f ≡ false
-under-none cs a f h = T-false (under cs a f) (λ u.
-    let p = exists-in (λ d. eqAid (d .aid) a && f d) cs u in
-    h (p .0) (p .1) (eqAid→ (p .0 .aid) a (and-l (eqAid (p .0 .aid) a) (f (p .0)) (p .2))))
 
 -- ---- as many contracts as used numbers, and as many services as places taken
 module _ (L : Layout) (t : Tables) (lost : List Unmet) (cs : List Contract)
@@ -137,12 +107,13 @@ module _ (L : Layout) (t : Tables) (cs : List Contract) (formed : Formed L t) (s
     found-is g f agree = go (numberOf L t a) (number-is L t (formed .names) a)
       where
         go : (o : Option ℕ) → NumberIs t a o → orElse o false g ≡ under cs a f
-        go none h = sym (under-none cs a f (λ c m e. let p = st .these c m in h (p .0) (p .1) (sym (p .2 .aid) ∙ e)))
-        go (some n) h =
-            let p = st .no-others n (h .0) in
-            let q = st .these (p .0) (p .1) in
-            let e : q .0 ≡ n = formed .names .aid-inj (q .0) n (q .1) (h .0) (sym (q .2 .aid) ∙ p .2) in
-            agree n (p .0) (p .1) (subst (λ (z : ℕ). HasContract t [] z (p .0)) e (q .2)) ∙ sym (under-is cs (st .one-each) a f (p .0) (p .1) (p .2 ∙ h .1))
+        go none h = sym (T-false (under cs a f) (λ u. let p = under-e L t (formed .names) st a f u in h (p .0) (p .1) (p .2)))
+        go (some n) h = T-eq (g n) (under cs a f)
+            (λ q. under-i L t (formed .names) st a f n (h .0) (h .1) (λ c m k. subst T (agree n c m k) q))
+            (λ u.
+            let p = under-e L t (formed .names) st a f u in
+            let k = at-aid L t (formed .names) (p .3) (p .0) n (p .1) (p .5) (h .0) (p .5 .aid ∙ p .2 ∙ sym (h .1)) in
+            subst T (sym (agree n (p .3) (p .4) k)) (p .6))
 
     installed-is : isSome (numberOf L t a) ≡ installed cs a
     installed-is = some-is (numberOf L t a) ∙ found-is (λ n. true) (λ c. true) (λ n c m h. refl)

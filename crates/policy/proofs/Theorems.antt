@@ -1,45 +1,39 @@
 -- The theorems of specs/Claims.antt, for every layout that is ok, and at the card of 1,094 bytes.
-use Prim.Native.Nat.{ℕ, zero, suc, _+_, _≤_, _<_, zero-le}
+use Prim.Native.Nat.{ℕ, zero, suc, _<_}
 use native.Mathlib.Omega.{arith}
 use mathlib.Core.Path.{_≡_, refl, sym, ap, _∙_, subst}
-use mathlib.Core.Logic.{_⊎_, inl, inr, _↔_}
-use mathlib.Core.Bool.{Bool, true, false, not, _&&_, _||_, cond}
+use mathlib.Core.Logic.{_⊎_, inl, inr}
+use mathlib.Core.Bool.{Bool, true, false, not, _&&_, cond}
 use mathlib.Core.List.{List, [], _∷_, _++_, map}
 use mathlib.Core.List.{List·Memᴰ as In, List·Memᴰ·head as here, List·Memᴰ·tail as there, List·Memᴰ·cases-cons as in-cons, List·Memᴰ·not-nil as in-nil}
 use mathlib.Core.List.{List·Memᴰ·append-cases as in-append, Memᴰ·cast as in-cast}
 use mathlib.Core.Option.{Option, none, some}
-use lib.Dec.{T, eqb, eqb→eq, leb, leb→le, le→leb, ltb, ltb→lt, lit≤}
-use lib.ListN.{length, drop, length-append}
-use lib.Seq.{drop-append-seam}
-use Rattle.policy.specs.Lists.{every, exists, keep, orElse, isSome}
+use lib.Dec.{T, leb, leb→le, le→leb, ltb, ltb→lt, lit≤}
+use lib.ListN.{length, length-append}
+use Rattle.policy.specs.Lists.{every, orElse}
 use Rattle.policy.specs.Contract.{Aid, eqAid, Tok, Contract, under, lawful, callsGranted, needsMet, unmetCalls, waitingGrants}
 use Rattle.policy.specs.Layout.{Layout, LayoutOk, small, aidsAt, tokensAt, providesAt, callsAt, grantsAt, needsAt, unmetAt, waitingAt, size}
 use Rattle.policy.specs.Record.{Request, Change, load, remove, addService, removeService, addCall, removeCall, addGrant, removeGrant, addNeed, removeNeed, parse, proper}
 use Rattle.policy.specs.Causes.{Cause, _when_, answer}
-use Rattle.policy.specs.Machine.{Held, held, effect, alter, altered, causes4to7, causes8to11, causes3to11, machine}
-use Rattle.policy.specs.Tables.{Tables, decode, encode, emptyImage}
-use Rattle.policy.specs.Lookup.{usedNumbers, numbers, contractAt}
+use Rattle.policy.specs.Machine.{Held, held, effect, altered, causes4to7, causes8to11, causes3to11, machine}
+use Rattle.policy.specs.Tables.{decode, emptyImage}
+use Rattle.policy.specs.Lookup.{usedNumbers, contractAt}
 use Rattle.policy.specs.Sound.{sound}
-use Rattle.policy.specs.Draft.{Draft, look, draft}
-use Rattle.policy.specs.ShortCheck.{shortLook}
-use Rattle.policy.specs.Judge.{Out, refusal, tableCauses, lookCauses, judgeCauses, judged, judgeTables, judge, check, writeEmpty, loadRecord, wrote, readOutTables, readOut}
+use Rattle.policy.specs.Judge.{Out, refusal, judgeTables, judge, loadRecord}
 use Rattle.policy.specs.History.{SameContract, StandsFor, answers, imageAfter, machineAnswers, contractsAfter}
 use Rattle.policy.specs.Marked.{Case, cases}
-use Rattle.policy.specs.Claims.{MarkedCases, Agreement, HistoryOf, History, FitsLimits, AcceptedExactly, allCauses, IsFirst, FirstCause, SoundStands, ShortIsFull, ReadsOut, ReadOutAgain, RefusesWith, AnswersAlways}
-use Rattle.policy.proofs.Sets.{T-true, T-false, true-T, false-T, and-l, and-r, and-i, not-i, not-e, test, every-in, in-from, exists-in, in-map, keep-in}
-use Rattle.policy.proofs.Equal.{eqAid→}
-use Rattle.policy.proofs.Formed.{Formed, Lawful, Fitting, Valid}
-use Rattle.policy.proofs.Answers.{ascends, ascends-lt, ascends-front, answer-append-zero, first-is, none-of-four, four-none}
-use Rattle.policy.proofs.SoundFacts.{sound-formed, sound-lawful, sound-fitting}
-use Rattle.policy.proofs.RoundTrip.{emptyTables, empty-formed, empty-fitting, empty-encode}
+use Rattle.policy.specs.Claims.{MarkedCases, Agreement, History, FitsLimits, AcceptedExactly, IsFirst, FirstCause, SoundStands, ShortIsFull, ReadOutAgain}
+use Rattle.policy.proofs.Sets.{and-l, and-r, and-i, test, not-e, cond-true, cond-false, every-in, exists-in, in-map, each-one}
+use Rattle.policy.proofs.Answers.{ascends, answer-append-zero, first-is, ascends-front, none-of-four, four-none}
 use Rattle.policy.proofs.ContractAt.{same-contract, stands-self}
-use Rattle.policy.proofs.Tests.{packages-fit, services-fit}
 use Rattle.policy.proofs.LawfulCard.{calls-granted, needs-present}
-use Rattle.policy.proofs.ReadOut.{length-keep, length-from, read-out-parses, read-out-proper}
 use Rattle.policy.proofs.ParseFacts.{parse-valid}
-use Rattle.policy.proofs.ShortLoad.{short-1, short-3}
-use Rattle.policy.proofs.ShortRemove.{short-2, short-4}
-use Rattle.policy.proofs.ShortRows.{short-5, short-6, short-7, short-8, short-9, short-10}
+use Rattle.policy.proofs.RoundTrip.{emptyTables, empty-formed, empty-fitting, empty-encode}
+use Rattle.policy.proofs.SoundFacts.{sound-formed, sound-lawful, sound-fitting}
+use Rattle.policy.proofs.Written.{loadOf, requestOf}
+use Rattle.policy.proofs.ReadOut.{read-out-parses, read-out-proper}
+use Rattle.policy.proofs.Tests.{packages-fit, services-fit}
+use Rattle.policy.proofs.AllKinds.{kinds}
 use Rattle.policy.proofs.Step.{stands-of, image-stands, step}
 
 -- ---- 2. one record
@@ -84,17 +78,18 @@ module _ (L : Layout) (lo : LayoutOk L) where
 
 -- ---- 4. demand 2
 module _ (L : Layout) (lo : LayoutOk L) where
-  -- the machine's answer to a record that was read
+  -- the machine's answer to a record, by what was read
   machine-answer : (cs ds : List Contract) (n : ℕ) → held L cs ds n .answered ≡ n
   machine-answer cs ds zero = refl
   machine-answer cs ds (suc n) = refl
 
-  machine-read : (cs : List Contract) (s : List ℕ) (q : Request) → parse L s ≡ some q → machine L cs s ≡ held L cs (effect cs (q .aid) (q .change)) (answer (causes3to11 L cs q))
+  machine-read : (cs : List Contract) (s : List ℕ) (o : Option Request) → parse L s ≡ o
+      → machine L cs s ≡ elim o [ none ↦ held L cs cs 2 | some q ↦ held L cs (effect cs (q .aid) (q .change)) (answer (causes3to11 L cs q)) ]
   unfolding machine
-  machine-read cs s q e = ap (λ (o : Option Request). elim o [ none ↦ held L cs cs 2 | some q ↦ held L cs (effect cs (q .aid) (q .change)) (answer (causes3to11 L cs q)) ]) e
+  machine-read cs s o e = ap (λ (o : Option Request). elim o [ none ↦ held L cs cs 2 | some q ↦ held L cs (effect cs (q .aid) (q .change)) (answer (causes3to11 L cs q)) ]) e
 
   read-answer : (img s : List ℕ) (cs : List Contract) (q : Request) → StandsFor L img cs → parse L s ≡ some q → judge L img s .answered ≡ answer (causes3to11 L cs q)
-  read-answer img s cs q f e = step L lo img s cs f .0 ∙ ap (λ (h : Held L). h .answered) (machine-read cs s q e) ∙ machine-answer cs (effect cs (q .aid) (q .change)) (answer (causes3to11 L cs q))
+  read-answer img s cs q f e = step L lo img s cs f .0 ∙ ap (λ (h : Held L). h .answered) (machine-read cs s (some q) e) ∙ machine-answer cs (effect cs (q .aid) (q .change)) (answer (causes3to11 L cs q))
 
   -- causes go up
   causes-ascend : (cs ds : List Contract) (a : Aid) (b : Bool) (c : Change) → T (ascends 1 (2 when false ∷ 3 when b ∷ causes4to7 L cs a c ++ causes8to11 L ds))
@@ -114,17 +109,13 @@ module _ (L : Layout) (lo : LayoutOk L) where
 
   pub unsound-refused : (img s : List ℕ) → (T (sound L img) → ⊥) → judge L img s ≡ refusal 1 255 img
   unfolding judge
-  unsound-refused img s h = ap (λ (b : Bool). cond b (judgeTables L img (decode L img) (parse L s)) (refusal 1 255 img)) (T-false (sound L img) h)
-
-  machine-malformed : (cs : List Contract) (s : List ℕ) → parse L s ≡ none → machine L cs s ≡ held L cs cs 2
-  unfolding machine
-  machine-malformed cs s e = ap (λ (o : Option Request). elim o [ none ↦ held L cs cs 2 | some q ↦ held L cs (effect cs (q .aid) (q .change)) (answer (causes3to11 L cs q)) ]) e
+  unsound-refused img s h = cond-false (sound L img) (judgeTables L img (decode L img) (parse L s)) (refusal 1 255 img) h
 
   pub first-cause : FirstCause L
   first-cause img s = (unsound-refused img s, λ cs f. go cs f (parse L s) refl)
     where
       go : (cs : List Contract) → StandsFor L img cs → (o : Option Request) → parse L s ≡ o → IsFirst (judge L img s .answered) (orElse o (2 when true ∷ []) (λ q. 2 when false ∷ causes3to11 L cs q))
-      go cs f none e = subst (λ (n : ℕ). IsFirst n (2 when true ∷ [])) (sym (step L lo img s cs f .0 ∙ ap (λ (h : Held L). h .answered) (machine-malformed cs s e))) (first-is 1 (2 when true ∷ []) tt)
+      go cs f none e = subst (λ (n : ℕ). IsFirst n (2 when true ∷ [])) (sym (step L lo img s cs f .0 ∙ ap (λ (h : Held L). h .answered) (machine-read cs s none e))) (first-is 1 (2 when true ∷ []) tt)
       go cs f (some q) e =
           subst (λ (n : ℕ). IsFirst n (2 when false ∷ causes3to11 L cs q)) (sym (read-answer img s cs q f e))
           (first-is 1 (2 when false ∷ causes3to11 L cs q) (causes-ascend cs (effect cs (q .aid) (q .change)) (q .aid) (not (proper (q .aid) (q .change))) (q .change)))
@@ -151,24 +142,20 @@ module _ (L : Layout) (lo : LayoutOk L) where
 
   silent-append : (l m : List Cause) → Silent l → answer (l ++ m) ≡ answer m
   silent-append [] m h = refl
-  silent-append (c ∷ l) m h = ap (λ (b : Bool). cond b (c .number) (answer (l ++ m))) (T-false (c .applies) (h c (here refl))) ∙ silent-append l m (λ k n. h k (there n))
+  silent-append (c ∷ l) m h = cond-false (c .applies) (c .number) (answer (l ++ m)) (h c (here refl)) ∙ silent-append l m (λ k n. h k (there n))
 
   -- causes 4 to 7 that apply to a change whose contracts fit are below 7
-  early-below : (cs : List Contract) (l : List Cause) → T (every (λ k. ltb (k .number) 7) l) → (k : Cause) → In k l → k .number < 7
-  early-below cs l t k m = ltb→lt (k .number) 7 (every-in (λ k. ltb (k .number) 7) l t m)
+  early-below : (l : List Cause) → T (every (λ k. ltb (k .number) 7) l) → (k : Cause) → In k l → T (k .applies) → k .number < 7
+  early-below l t k m w = ltb→lt (k .number) 7 (every-in (λ k. ltb (k .number) 7) l t m)
 
   module _ (cs : List Contract) (a : Aid) where
     -- after the causes that are below 7, one that cannot apply
     below-or : (l : List Cause) (c : Cause) → T (every (λ k. ltb (k .number) 7) l) → (T (c .applies) → ⊥) → (k : Cause) → In k (l ++ (c ∷ [])) → T (k .applies) → k .number < 7
     below-or l c t h k m w = go (in-append l m)
       where
-        last : (k ≡ c) ⊎ In k [] → k .number < 7
-        last (inl e) = absurd (h (subst (λ (z : Cause). T (z .applies)) e w))
-        last (inr n) = absurd (in-nil n)
-
         go : In k l ⊎ In k (c ∷ []) → k .number < 7
-        go (inl n) = early-below cs l t k n
-        go (inr n) = last (in-cons n)
+        go (inl n) = early-below l t k n w
+        go (inr n) = absurd (h (subst (λ (z : Cause). T (z .applies)) (each-one (λ z. z ≡ c) c refl k n) w))
 
     -- a package that kind 3 makes fit has a service number free
     full : (s : Tok) (l : List Aid) → FitsLimits L (effect cs a (addService s l)) → T (under cs a (λ k. leb (L .services) (length (k .provides)))) → ⊥
@@ -177,29 +164,29 @@ module _ (L : Layout) (lo : LayoutOk L) where
         let p = exists-in (λ k. eqAid (k .aid) a && leb (L .services) (length (k .provides))) cs t in
         let x = and-l (eqAid (p .0 .aid) a) (leb (L .services) (length (p .0 .provides))) (p .2) in
         let y = leb→le (L .services) (length (p .0 .provides)) (and-r (eqAid (p .0 .aid) a) (leb (L .services) (length (p .0 .provides))) (p .2)) in
-        let e : f (p .0) ≡ altered (addService s l) (p .0) = ap (λ (b : Bool). cond b (altered (addService s l) (p .0)) (p .0)) (T-true (eqAid (p .0 .aid) a) x) in
+        let e : f (p .0) ≡ altered (addService s l) (p .0) = cond-true (eqAid (p .0 .aid) a) (altered (addService s l) (p .0)) (p .0) x in
         let z = fit .services-fit (altered (addService s l) (p .0)) (in-cast {l = effect cs a (addService s l)} (sym e) (in-map (λ k. cond (eqAid (k .aid) a) (altered (addService s l) k) k) (p .1))) in
         let n = length-append (p .0 .provides) (s ∷ []) in
         omega arith
 
     below : (c : Change) → FitsLimits L (effect cs a c) → (k : Cause) → In k (causes4to7 L cs a c) → T (k .applies) → k .number < 7
     below (load p c g n) fit = below-or (4 when _ ∷ []) (7 when leb (L .packages) (length cs)) tt (λ t. let h = leb→le (L .packages) (length cs) t in let f = fit .packages-fit in omega arith)
-    below remove fit = λ k m w. early-below cs (causes4to7 L cs a remove) tt k m
+    below remove fit = early-below (causes4to7 L cs a remove) tt
     below (addService s l) fit = below-or (5 when _ ∷ 6 when _ ∷ []) (7 when under cs a (λ k. leb (L .services) (length (k .provides)))) tt (full s l fit)
-    below (removeService s) fit = λ k m w. early-below cs (causes4to7 L cs a (removeService s)) tt k m
-    below (addCall r) fit = λ k m w. early-below cs (causes4to7 L cs a (addCall r)) tt k m
-    below (removeCall r) fit = λ k m w. early-below cs (causes4to7 L cs a (removeCall r)) tt k m
-    below (addGrant r) fit = λ k m w. early-below cs (causes4to7 L cs a (addGrant r)) tt k m
-    below (removeGrant r) fit = λ k m w. early-below cs (causes4to7 L cs a (removeGrant r)) tt k m
-    below (addNeed r) fit = λ k m w. early-below cs (causes4to7 L cs a (addNeed r)) tt k m
-    below (removeNeed r) fit = λ k m w. early-below cs (causes4to7 L cs a (removeNeed r)) tt k m
+    below (removeService s) fit = early-below (causes4to7 L cs a (removeService s)) tt
+    below (addCall r) fit = early-below (causes4to7 L cs a (addCall r)) tt
+    below (removeCall r) fit = early-below (causes4to7 L cs a (removeCall r)) tt
+    below (addGrant r) fit = early-below (causes4to7 L cs a (addGrant r)) tt
+    below (removeGrant r) fit = early-below (causes4to7 L cs a (removeGrant r)) tt
+    below (addNeed r) fit = early-below (causes4to7 L cs a (addNeed r)) tt
+    below (removeNeed r) fit = early-below (causes4to7 L cs a (removeNeed r)) tt
 
   -- what the machine leaves of an accepted record
   accepted-contracts : (img s : List ℕ) (cs : List Contract) (q : Request) → StandsFor L img cs → parse L s ≡ some q → answer (causes3to11 L cs q) ≡ 0
       → StandsFor L (judge L img s .bytes) (effect cs (q .aid) (q .change))
   accepted-contracts img s cs q f e z =
       subst (λ (ds : List Contract). StandsFor L (judge L img s .bytes) ds)
-      (ap (λ (h : Held L). h .contracts) (machine-read cs s q e) ∙ ap (λ (n : ℕ). held L cs (effect cs (q .aid) (q .change)) n .contracts) z)
+      (ap (λ (h : Held L). h .contracts) (machine-read cs s (some q) e) ∙ ap (λ (n : ℕ). held L cs (effect cs (q .aid) (q .change)) n .contracts) z)
       (step L lo img s cs f .1)
 
   module _ (img s : List ℕ) (cs : List Contract) (q : Request) (f : StandsFor L img cs) (e : parse L s ≡ some q) (pr : T (proper (q .aid) (q .change)))
@@ -245,23 +232,9 @@ module _ (L : Layout) (lo : LayoutOk L) where
   accepted-exactly img s cs q f e pr free = (fits-if-accepted img s cs q f e pr free, accepted-if-fits img s cs q f e pr free)
 
 -- ---- 5. short check = full look
-module _ (L : Layout) where
-  pub short-look : (t : Tables) → Formed L t → Lawful t → Fitting L t → (a : Aid) (c : Change) → Valid L c → T (proper a c)
-      → answer (tableCauses L t a c) ≡ 0 → look L (draft L t a c) ≡ shortLook L t a c
-  short-look t g w fit a (load p c d n) v pr e = short-1 p c d n L t g w fit a (v .0) pr e
-  short-look t g w fit a remove v pr e = short-2 L t g w fit a e
-  short-look t g w fit a (addService s l) v pr e = short-3 s l L t g w fit a pr e
-  short-look t g w fit a (removeService s) v pr e = short-4 s L t g w fit a e
-  short-look t g w fit a (addCall r) v pr e = short-5 L t g w fit a r e
-  short-look t g w fit a (removeCall r) v pr e = short-6 L t g w fit a r e
-  short-look t g w fit a (addGrant r) v pr e = short-7 L t g w fit a r e
-  short-look t g w fit a (removeGrant r) v pr e = short-8 L t g w fit a r e
-  short-look t g w fit a (addNeed r) v pr e = short-9 L t g w fit a r e
-  short-look t g w fit a (removeNeed r) v pr e = short-10 L t g w fit a r e
-
-  pub short-is-full : ShortIsFull L
-  short-is-full img s q ok e pr z =
-      short-look (decode L img) (sound-formed L img ok) (sound-lawful L img ok) (sound-fitting L img ok) (q .aid) (q .change) (parse-valid L s q e .1) pr z
+pub short-is-full : (L : Layout) → ShortIsFull L
+short-is-full L img s q ok e =
+    kinds (q .change) .1 L (decode L img) (q .aid) (sound-formed L img ok) (sound-lawful L img ok) (sound-fitting L img ok) (parse-valid L s q e .1)
 
 -- ---- 6. reading out
 module _ (L : Layout) (lo : LayoutOk L) where
@@ -270,23 +243,25 @@ module _ (L : Layout) (lo : LayoutOk L) where
       let t = decode L img in
       let g = sound-formed L img ok in
       let fit = sound-fitting L img ok in
+      let parses : (c : Contract) → c ≡ contractAt L t n → parse L (loadRecord L c) ≡ some (requestOf c) =
+      λ c e. subst (λ (k : Contract). parse L (loadRecord L k) ≡ some (requestOf k)) (sym e) (read-out-parses L lo t g fit n un) in
       record {
-        parses = λ c e. subst (λ (k : Contract). parse L (loadRecord L k) ≡ some (record { aid = k .aid; change = load (k .provides) (k .calls) (k .grants) (k .needs) })) (sym e) (read-out-parses L lo t g fit n un);
-        is-proper = λ c e. subst (λ (k : Contract). T (proper (k .aid) (load (k .provides) (k .calls) (k .grants) (k .needs)))) (sym e) (read-out-proper L lo t g fit n un);
-        loads-again = λ c e img₂ z. again c (subst (λ (k : Contract). parse L (loadRecord L k) ≡ some (record { aid = k .aid; change = load (k .provides) (k .calls) (k .grants) (k .needs) })) (sym e) (read-out-parses L lo t g fit n un)) img₂ z;
+        parses = parses;
+        is-proper = λ c e. subst (λ (k : Contract). T (proper (k .aid) (loadOf k))) (sym e) (read-out-proper L lo t g fit n un);
+        loads-again = λ c e. again c (parses c e);
       }
     where
-      again : (c : Contract) → parse L (loadRecord L c) ≡ some (record { aid = c .aid; change = load (c .provides) (c .calls) (c .grants) (c .needs) }) → (img₂ : List ℕ) → judge L img₂ (loadRecord L c) .answered ≡ 0
+      again : (c : Contract) → parse L (loadRecord L c) ≡ some (requestOf c) → (img₂ : List ℕ) → judge L img₂ (loadRecord L c) .answered ≡ 0
           → (m : ℕ) × T (decode L (judge L img₂ (loadRecord L c) .bytes) .used m) × SameContract c (contractAt L (decode L (judge L img₂ (loadRecord L c) .bytes)) m)
       again c e img₂ z = go (test (sound L img₂))
         where
-          go : T (sound L img₂) ⊎ (T (sound L img₂) → ⊥) → (m : ℕ) × T (decode L (judge L img₂ (loadRecord L c) .bytes) .used m) × SameContract c (contractAt L (decode L (judge L img₂ (loadRecord L c) .bytes)) m)
+          go : T (sound L img₂) ⊎ (T (sound L img₂) → ⊥)
+              → (m : ℕ) × T (decode L (judge L img₂ (loadRecord L c) .bytes) .used m) × SameContract c (contractAt L (decode L (judge L img₂ (loadRecord L c) .bytes)) m)
           go (inl h) =
-              let q : Request = record { aid = c .aid; change = load (c .provides) (c .calls) (c .grants) (c .needs) } in
               let p = sound-stands L lo img₂ h in
-              let f = accepted-contracts L lo img₂ (loadRecord L c) (p .0) q (p .1) e (sym (read-answer L lo img₂ (loadRecord L c) (p .0) q (p .1) e) ∙ z) in
-              f .these c (here refl)
-          go (inr h) = absurd (one-not-zero (sym (ap (λ (o : Out). o .answered) (first-cause L lo img₂ (loadRecord L c) .0 h)) ∙ z))
+              let n = sym (read-answer L lo img₂ (loadRecord L c) (p .0) (requestOf c) (p .1) e) ∙ z in
+              accepted-contracts L lo img₂ (loadRecord L c) (p .0) (requestOf c) (p .1) e n .these c (here refl)
+          go (inr h) = absurd (one-not-zero (sym (ap (λ (o : Out). o .answered) (unsound-refused L lo img₂ (loadRecord L c) h)) ∙ z))
             where
               one-not-zero : _≡_ {A = ℕ} 1 0 → ⊥
               one-not-zero e = omega arith

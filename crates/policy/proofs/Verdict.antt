@@ -1,86 +1,37 @@
 -- Causes 8 to 11: the full look at a draft's tables finds what the contracts that they stand for say together.
 use Prim.Native.Nat.{ℕ}
-use mathlib.Core.Path.{_≡_, refl, sym, ap, _∙_, subst}
-use mathlib.Core.Bool.{Bool, true, not, _&&_}
+use mathlib.Core.Path.{_≡_, refl, sym, _∙_, subst}
+use mathlib.Core.Bool.{Bool, true, not}
 use mathlib.Core.List.{List, [], _∷_, map}
-use mathlib.Core.List.{List·Memᴰ as In, List·Memᴰ·head as here, List·Memᴰ·not-nil as in-nil, List·Memᴰ·cases-cons as in-cons, Memᴰ·cast as in-cast}
-use mathlib.Core.Logic.{_⊎_, inl, inr}
+use mathlib.Core.List.{List·Memᴰ as In, List·Memᴰ·head as here, List·Memᴰ·not-nil as in-nil, Memᴰ·cast as in-cast}
 use lib.Dec.{T, leb}
 use lib.ListN.{length, length-map}
-use Rattle.policy.specs.Lists.{implies, every, keep, flat, upto, isNil, NoRepeat}
-use Rattle.policy.specs.Contract.{Aid, eqAid, Row, Contract, Link, hasTok, hasRow, under, installed, met, waits, grantedTo, callsGranted, needsMet, unmetCalls, waitingGrants}
+use Rattle.policy.specs.Lists.{implies, every, keep, flat, isNil, NoRepeat}
+use Rattle.policy.specs.Contract.{Row, Contract, Link, hasTok, hasRow, installed, met, waits, grantedTo, callsGranted, needsMet, unmetCalls, waitingGrants}
 use Rattle.policy.specs.Layout.{Layout}
 use Rattle.policy.specs.Causes.{_when_}
 use Rattle.policy.specs.Machine.{causes8to11}
 use Rattle.policy.specs.Tables.{Tables, Unmet, Waiting}
 use Rattle.policy.specs.Lookup.{serviceAt, wanted, grantAt}
-use Rattle.policy.specs.Sound.{everyBit}
 use Rattle.policy.specs.Draft.{Draft, callRow, look}
 use Rattle.policy.specs.Judge.{lookCauses}
-use Rattle.policy.proofs.Sets.{T-eq, and-l, and-r, and-i, implies-i, implies-e, not-i, not-e, same-length, every-in, in-every, exists-in, in-exists, keep-in, in-keep, once-keep, in-map, map-in, once-map, in-flat, flat-in, once-flat, in-upto}
-use Rattle.policy.proofs.Equal.{eqAid→, eqAid-of, has-tok, tok-has, has-row, row-has}
-use Rattle.policy.proofs.Formed.{Off, Formed, ProvidesAt, RowAt, GrantAt, HasContract, Stands}
+use Rattle.policy.proofs.Sets.{T-eq, implies-i, implies-e, not-i, not-e, nil-is, same-length, every-in, in-every, keep-in, in-keep, once-keep, in-map, map-in, once-map, map-inj, once-of-map}
+use Rattle.policy.proofs.Sets.{in-flat, flat-in, once-flat}
+use Rattle.policy.proofs.Equal.{has-tok, tok-has, has-row, row-has}
+use Rattle.policy.proofs.EveryBit.{among}
+use Rattle.policy.proofs.Formed.{Off, grantBit, Formed, ProvidesAt, RowAt, GrantAt, HasContract, Stands}
 use Rattle.policy.proofs.Found.{same-place}
-
--- ---- a list whose elements have different values of f does not repeat, and f is injective on it
-module _ {A B : Type 0} (f : A → B) where
-  once-of-map : (l : List A) → NoRepeat (map f l) → NoRepeat l
-  once-of-map [] d = tt
-  once-of-map (x ∷ l) d = (λ m. d .0 (in-map f m), once-of-map l (d .1))
-
-  inj-of-map : (l : List A) → NoRepeat (map f l) → (x y : A) → In x l → In y l → f x ≡ f y → x ≡ y
-  inj-of-map [] d x y m n e = absurd (in-nil m)
-  inj-of-map (z ∷ l) d x y m n e = go (in-cons m) (in-cons n) (λ p q. inj-of-map l (d .1) x y p q e)
-    where
-      go : (x ≡ z) ⊎ In x l → (y ≡ z) ⊎ In y l → (In x l → In y l → x ≡ y) → x ≡ y
-      go (inl p) (inl q) ih = p ∙ sym q
-      go (inl p) (inr q) ih = absurd (d .0 (in-cast (sym (ap f p) ∙ e) (in-map f q)))
-      go (inr p) (inl q) ih = absurd (d .0 (in-cast (sym (ap f q) ∙ sym e) (in-map f p)))
-      go (inr p) (inr q) ih = ih p q
-
--- ---- a test of every bit, as a fact about those within the sizes
-module _ (L : Layout) (f : ℕ → ℕ → ℕ → Bool) where
-  bits-i : ((i j k : ℕ) → T (f i j k)) → T (everyBit L f)
-  bits-i h =
-      in-every (λ i. every (λ j. every (f i j) (upto (L .services))) (upto (L .packages))) (upto (L .packages)) (λ i _.
-      in-every (λ j. every (f i j) (upto (L .services))) (upto (L .packages)) (λ j _. in-every (f i j) (upto (L .services)) (λ k _. h i j k)))
-
-  bits-e : T (everyBit L f) → (i j k : ℕ) → In i (upto (L .packages)) → In j (upto (L .packages)) → In k (upto (L .services)) → T (f i j k)
-  bits-e h i j k mi mj mk =
-      every-in (f i j) (upto (L .services))
-      (every-in (λ j. every (f i j) (upto (L .services))) (upto (L .packages))
-      (every-in (λ i. every (λ j. every (f i j) (upto (L .services))) (upto (L .packages))) (upto (L .packages)) h mi) mj) mk
+use Rattle.policy.proofs.Facts.{contract-of, under-i, under-e, need-bits, lawful-of, of-lawful}
 
 module _ (L : Layout) (t : Tables) (lost : List Unmet) (ds : List Contract) (g : Formed L t) (st : Stands t lost ds) where
-  -- the contract of a used number
-  contract-of : (n : ℕ) → T (t .used n) → (c : Contract) × In c ds × HasContract t lost n c
-  contract-of n u =
-      let p = st .no-others n u in
-      let h = st .these (p .0) (p .1) in
-      let e : h .0 ≡ n = g .names .aid-inj (h .0) n (h .1) u (sym (h .2 .aid) ∙ p .2) in
-      (p .0, p .1, subst (λ (z : ℕ). HasContract t lost z (p .0)) e (h .2))
-
-  -- a test of the contract under an AID, as a fact about the package with that AID
-  under-i : (n : ℕ) → T (t .used n) → (a : Aid) → t .aid n ≡ a → (f : Contract → Bool) → ((c : Contract) → HasContract t lost n c → T (f c)) → T (under ds a f)
-  under-i n u a e f h =
-      let p = contract-of n u in
-      in-exists (λ c. eqAid (c .aid) a && f c) (p .1) (and-i (eqAid (p .0 .aid) a) (f (p .0)) (eqAid-of (p .2 .aid ∙ e)) (h (p .0) (p .2)))
-
-  under-e : (a : Aid) (f : Contract → Bool) → T (under ds a f) → (n : ℕ) × T (t .used n) × (t .aid n ≡ a) × (c : Contract) × HasContract t lost n c × T (f c)
-  under-e a f h =
-      let p = exists-in (λ c. eqAid (c .aid) a && f c) ds h in
-      let s = st .these (p .0) (p .1) in
-      let e = eqAid→ (p .0 .aid) a (and-l (eqAid (p .0 .aid) a) (f (p .0)) (p .2)) in
-      (s .0, s .1, sym (s .2 .aid) ∙ e, p .0, s .2, and-r (eqAid (p .0 .aid) a) (f (p .0)) (p .2))
-
   -- a call is met where its service is on the card
   met-i : (r : Row) (j k : ℕ) → T (t .provides j k) → r ≡ serviceAt t j k → T (met ds r)
   met-i r j k p e =
-      under-i j (g .names .prov-used j k p) (r .aid) (λ i. sym e i .aid) (λ c. hasTok (r .tok) (c .provides))
-      (λ c h. tok-has (h .provides (r .tok) .1 (ProvidesAt.at k p (λ i. e i .tok))))
+      under-i L t (g .names) st (r .aid) (λ c. hasTok (r .tok) (c .provides)) j (g .names .prov-used j k p) (λ i. sym e i .aid)
+      (λ c _ h. tok-has (h .provides (r .tok) .1 (ProvidesAt.at k p (λ i. e i .tok))))
 
   met-e : (r : Row) → T (met ds r) → (j : ℕ) × (k : ℕ) × T (t .provides j k) × (t .aid j ≡ r .aid) × (t .tok j k ≡ r .tok)
-  met-e r h = let p = under-e (r .aid) (λ c. hasTok (r .tok) (c .provides)) h in go (p .0) (p .2) (p .4 .provides (r .tok) .0 (has-tok (r .tok) (p .3 .provides) (p .5)))
+  met-e r h = let p = under-e L t (g .names) st (r .aid) (λ c. hasTok (r .tok) (c .provides)) h in go (p .0) (p .2) (p .5 .provides (r .tok) .0 (has-tok (r .tok) (p .3 .provides) (p .6)))
     where
       go : (j : ℕ) → t .aid j ≡ r .aid → ProvidesAt t j (r .tok) → (j : ℕ) × (k : ℕ) × T (t .provides j k) × (t .aid j ≡ r .aid) × (t .tok j k ≡ r .tok)
       go j e (ProvidesAt.at k p f) = (j, k, p, e, sym f)
@@ -90,10 +41,7 @@ module _ (L : Layout) (t : Tables) (lost : List Unmet) (ds : List Contract) (g :
   off-met l off u m h = let p = met-e (wanted u) h in off .off-card u m (p .0) (p .1) (p .2) (p .3) (p .4)
 
   -- ---- cause 8
-  -- a call bit has its grant bit; a call that is met is granted
-  abbrev grantedAt : ℕ → ℕ → ℕ → Bool
-  grantedAt i j k = implies (t .calls i j k) (t .grants j i k)
-
+  -- a call that is met is granted
   abbrev allowed : Contract → Row → Bool
   allowed c r = implies (met ds r) (grantedTo ds (c .aid) r)
 
@@ -108,61 +56,57 @@ module _ (L : Layout) (t : Tables) (lost : List Unmet) (ds : List Contract) (g :
       subst (λ (z : ℕ). T (t .grants j i z)) ek (subst (λ (z : ℕ). T (t .grants j z k′)) ei b)
   granted-bit i j k u p r e f (GrantAt.row k′ m f′) = absurd (g .waiting .wait-off _ m i u (sym e))
 
-  granted : everyBit L grantedAt ≡ callsGranted ds
+  granted : among L (t .calls) (grantBit t) ≡ callsGranted ds
   unfolding callsGranted
-  granted = T-eq (everyBit L grantedAt) (callsGranted ds) to fro
+  granted = T-eq (among L (t .calls) (grantBit t)) (callsGranted ds) to fro
     where
       -- a met call of package n is a bit, so it has its grant bit
-      have : T (everyBit L grantedAt) → (c : Contract) (n : ℕ) → HasContract t lost n c → (r : Row) → T (met ds r)
+      have : T (among L (t .calls) (grantBit t)) → (c : Contract) (n : ℕ) → HasContract t lost n c → (r : Row) → T (met ds r)
           → RowAt t (t .calls) (t .unmet) n r → T (grantedTo ds (c .aid) r)
       have h c n hc r m (RowAt.bit j k b e) =
           let p = g .calls .of-prov n j k b in
           let uj = g .names .prov-used j k p in
-          let b′ : T (t .grants j n k) = implies-e (t .calls n j k) (t .grants j n k)
-          (bits-e L grantedAt h n j k
-          (in-upto (L .packages) n (g .names .used-lt n (g .calls .by-used n j k b)))
-          (in-upto (L .packages) j (g .names .used-lt j uj)) (in-upto (L .services) k (g .names .prov-lt j k p))) b in
-          under-i j uj (r .aid) (λ i. sym e i .aid) (λ d. hasRow (asked c r) (d .grants))
-          (λ d hd. row-has (hd .grants (asked c r) .1 (GrantAt.bit n k b′ (hc .aid) (λ i. e i .tok))))
+          let b′ = lawful-of L t g h n j k b in
+          under-i L t (g .names) st (r .aid) (λ d. hasRow (asked c r) (d .grants)) j uj (λ i. sym e i .aid)
+          (λ d _ hd. row-has (hd .grants (asked c r) .1 (GrantAt.bit n k b′ (hc .aid) (λ i. e i .tok))))
       have h c n hc r m (RowAt.row n′) = absurd (off-met (t .unmet) (g .unmet .off) (callRow n r) n′ m)
 
-      to : T (everyBit L grantedAt) → T (callsGranted ds)
+      to : T (among L (t .calls) (grantBit t)) → T (callsGranted ds)
       to h = in-every (λ c. every (allowed c) (c .calls)) ds (λ c mc.
           let p = st .these c mc in
           in-every (allowed c) (c .calls) (λ r mr.
           implies-i (met ds r) (grantedTo ds (c .aid) r) (λ m. have h c (p .0) (p .2) r m (p .2 .calls r .0 mr))))
 
-      fro : T (callsGranted ds) → T (everyBit L grantedAt)
-      fro h = bits-i L grantedAt (λ i j k. implies-i (t .calls i j k) (t .grants j i k) (λ b.
+      fro : T (callsGranted ds) → T (among L (t .calls) (grantBit t))
+      fro h = of-lawful L t (λ i j k b.
           let ui = g .calls .by-used i j k b in
           let p = g .calls .of-prov i j k b in
-          let c = contract-of i ui in
+          let c = contract-of L t (g .names) st i ui in
           let r = serviceAt t j k in
           let a = every-in (λ c. every (allowed c) (c .calls)) ds h (c .1) in
           let q = implies-e (met ds r) (grantedTo ds (c .0 .aid) r)
           (every-in (allowed (c .0)) (c .0 .calls) a (c .2 .calls r .1 (RowAt.bit j k b refl))) (met-i r j k p refl) in
-          let d = under-e (t .aid j) (λ d. hasRow (asked (c .0) r) (d .grants)) q in
+          let d = under-e L t (g .names) st (t .aid j) (λ d. hasRow (asked (c .0) r) (d .grants)) q in
           let ej : d .0 ≡ j = g .names .aid-inj (d .0) j (d .1) (g .names .prov-used j k p) (d .2) in
           granted-bit i j k ui p (asked (c .0) r) (c .2 .aid) refl
           (subst (λ (z : ℕ). GrantAt t z (asked (c .0) r)) ej
-          (d .4 .grants (asked (c .0) r) .0 (has-row (asked (c .0) r) (d .3 .grants) (d .5))))))
+          (d .5 .grants (asked (c .0) r) .0 (has-row (asked (c .0) r) (d .3 .grants) (d .6)))))
 
   -- ---- cause 9
   needed : Off (t .used) (t .aid) (t .tok) (t .provides) lost → isNil lost ≡ needsMet ds
   unfolding needsMet
-  needed off = T-eq (isNil lost) (needsMet ds) (to lost refl) (λ h. fro lost (λ u m. none-lost h u m))
+  needed off = T-eq (isNil lost) (needsMet ds) to (λ h. fro lost (λ u m. none-lost h u m))
     where
       ok : (n : ℕ) (r : Row) → lost ≡ [] → RowAt t (t .needs) lost n r → T (met ds r)
-      ok n r e (RowAt.bit j k b q) = met-i r j k (g .calls .of-prov n j k (g .need-call n j k b)) q
+      ok n r e (RowAt.bit j k b q) = met-i r j k (need-bits L t g .of-prov n j k b) q
       ok n r e (RowAt.row m) = absurd (in-nil (subst (λ (l : List Unmet). In (callRow n r) l) e m))
 
-      to : (l : List Unmet) → lost ≡ l → T (isNil l) → T (needsMet ds)
-      to [] e h = in-every (λ c. every (met ds) (c .needs)) ds (λ c mc. let p = st .these c mc in in-every (met ds) (c .needs) (λ r mr. ok (p .0) r e (p .2 .needs r .0 mr)))
-      to (u ∷ l) e h = absurd h
+      to : T (isNil lost) → T (needsMet ds)
+      to h = in-every (λ c. every (met ds) (c .needs)) ds (λ c mc. let p = st .these c mc in in-every (met ds) (c .needs) (λ r mr. ok (p .0) r (nil-is lost h) (p .2 .needs r .0 mr)))
 
       none-lost : T (needsMet ds) → (u : Unmet) → In u lost → ⊥
       none-lost h u m =
-          let c = contract-of (u .caller) (off .off-used u m) in
+          let c = contract-of L t (g .names) st (u .caller) (off .off-used u m) in
           off-met lost off u m (every-in (met ds) (c .0 .needs) (every-in (λ c. every (met ds) (c .needs)) ds h (c .1)) (c .2 .needs (wanted u) .1 (RowAt.row m)))
 
       fro : (l : List Unmet) → ((u : Unmet) → In u l → ⊥) → T (isNil l)
@@ -195,13 +139,13 @@ module _ (L : Layout) (t : Tables) (lost : List Unmet) (ds : List Contract) (g :
       once-links : NoRepeat (flat links ds)
       once-links = once-flat links ds (once-of-map (λ c. c .aid) ds (st .one-each))
           (λ c m. once-map (linkOf c) (keep f (rows c)) (λ r s _ _ e. λ i. e i .row) (once-keep f (rows c) (sets c m)))
-          (λ c d z m n p q. inj-of-map (λ c. c .aid) ds (st .one-each) c d m n (sym (owner-is c z p) ∙ owner-is d z q))
+          (λ c d z m n p q. map-inj (λ c. c .aid) ds (st .one-each) m n (sym (owner-is c z p) ∙ owner-is d z q))
 
       forth : (z : Link) → In z (map link l) → In z (flat links ds)
       forth z m =
           let x = map-in link l m in
           let h = to (x .0) (x .1) in
-          let c = contract-of (h .0) (h .1) in
+          let c = contract-of L t (g .names) st (h .0) (h .1) in
           let e : z ≡ linkOf (c .0) (link (x .0) .row) = x .2 ∙ (λ i. record { owner = (h .2 ∙ sym (c .2 .aid)) i; row = link (x .0) .row }) in
           in-flat links (c .1) (in-cast e (in-map (linkOf (c .0)) (in-keep f (h .3 (c .0) (c .2)) (h .4))))
 
@@ -253,11 +197,11 @@ module _ (L : Layout) (t : Tables) (lost : List Unmet) (ds : List Contract) (g :
         g .names .prov-used (w .callee) (w .service) (g .waiting .wait-prov w m),
         refl,
         (λ c h. h .grants (grantAt t w) .1 (GrantAt.row (w .service) m refl)),
-        not-i (installed ds (w .caller)) (λ h. let p = under-e (w .caller) (λ c. true) h in g .waiting .wait-off w m (p .0) (p .1) (p .2)),
+        not-i (installed ds (w .caller)) (λ h. let p = under-e L t (g .names) st (w .caller) (λ c. true) h in g .waiting .wait-off w m (p .0) (p .1) (p .2)),
       )
 
       fro : (n : ℕ) (r : Row) → T (waits ds r) → GrantAt t n r → (w : Waiting) × In w (t .waiting) × (link w ≡ record { owner = t .aid n; row = r })
-      fro n r f (GrantAt.bit i k b e _) = absurd (not-e (installed ds (r .aid)) f (under-i i (g .grants .by-used i n k b) (r .aid) (sym e) (λ c. true) (λ c h. tt)))
+      fro n r f (GrantAt.bit i k b e _) = absurd (not-e (installed ds (r .aid)) f (under-i L t (g .names) st (r .aid) (λ c. true) i (g .grants .by-used i n k b) (sym e) (λ c _ h. tt)))
       fro n r f (GrantAt.row k m e) = (record { caller = r .aid; callee = n; service = k }, m, λ i. record { owner = t .aid n; row = record { aid = r .aid; tok = sym e i } })
 
 pub looks-agree : (L : Layout) (d : Draft) (ds : List Contract) → Formed L (d .tables)

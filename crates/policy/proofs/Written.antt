@@ -1,22 +1,23 @@
 -- A contract written as a load record is read as that contract again.
 use Prim.Native.Nat.{ℕ, zero, suc, _+_, _*_, _/_, _%_, _^_, _≤_, _<_}
 use native.Mathlib.Omega.{arith}
-use native.Mathlib.Nat.{div-add-mod', div-lt-iff-lt-mul, pow-suc, zero-lt-suc, mul-le-mul-right, le-trans}
+use native.Mathlib.Nat.{div-add-mod', div-lt-iff-lt-mul, pow-suc, zero-lt-suc, mul-le-mul-right}
 use mathlib.Core.Path.{_≡_, refl, sym, ap, _∙_, subst}
-use mathlib.Core.Bool.{Bool, true, false, _&&_}
 use mathlib.Core.List.{List, [], _∷_, _++_, append-assoc, append-nil}
 use mathlib.Core.List.{List·Memᴰ as In, List·Memᴰ·head as here, List·Memᴰ·tail as there}
-use mathlib.Core.Option.{Option, none, some}
-use lib.Dec.{T, eqb, eqb-refl, leb, leb→le, le→leb}
-use lib.ListN.{length, take, drop, length-append}
+use mathlib.Core.Option.{none, some}
+use lib.Dec.{T, eqb, eqb-refl, leb, le→leb}
+use lib.ListN.{length, length-append}
 use lib.Seq.{take-append-seam, drop-append-seam}
 use Rattle.policy.specs.Lists.{flat}
 use Rattle.policy.specs.Contract.{Aid, Tok, Row, Contract, validAid}
 use Rattle.policy.specs.Layout.{Layout, LayoutOk}
-use Rattle.policy.specs.Record.{Request, Change, load, Got, got, bad, Reader, andThen, given, byte, bytes, numberFrom, number, aid, tokens, aRow, many, counted, aLoad, change, fields, parse}
+use Rattle.policy.specs.Record.{Request, Change, load, Got, got, Reader, andThen, byte, bytes, numberFrom, number, aid, tokens, aRow, many, counted, aLoad, change, fields, parse}
 use Rattle.policy.specs.Tables.{writeNumber, writeTok}
 use Rattle.policy.specs.Judge.{aidBytes, rowBytes, rowsBytes, loadBody, loadRecord}
-use Rattle.policy.proofs.Sets.{T-true, and-l, and-r, and-i}
+use Rattle.policy.proofs.Sets.{T-true, length-flat-le}
+use Rattle.policy.proofs.Pieces.{length-flat, valid-short}
+use Rattle.policy.proofs.Bits.{length-number}
 use Rattle.policy.proofs.Formed.{ValidRows}
 
 -- ---- numbers
@@ -48,10 +49,6 @@ number-written w n rest h = number-from w n 0 rest h ∙ ap (λ (z : ℕ). got z
   where
     none : (p n : ℕ) → 0 * p + n ≡ n
     none p n = omega arith
-
-pub length-number : (w n : ℕ) (rest : List ℕ) → length (writeNumber w n rest) ≡ w + length rest
-length-number zero n rest = omega arith
-length-number (suc w) n rest = length-number w (n / 256) (n % 256 ∷ rest) ∙ omega arith
 
 pub number-append : (w n : ℕ) (a b : List ℕ) → writeNumber w n a ++ b ≡ writeNumber w n (a ++ b)
 number-append zero n a b = refl
@@ -87,6 +84,13 @@ module _ {A : Type 0} (p : Reader A) (f : A → List ℕ) where
       rw (number-append w (length l) (flat f l) rest, number-written w (length l) (flat f l ++ rest) b, T-true (leb (length l) most) (le→leb (length l) most m), many-written l rest h)
 
 -- ---- the whole record
+-- the request that a contract's record asks
+abbrev pub loadOf : Contract → Change
+loadOf c = load (c .provides) (c .calls) (c .grants) (c .needs)
+
+abbrev pub requestOf : Contract → Request
+requestOf c = record { aid = c .aid; change = loadOf c }
+
 module _ (L : Layout) (lo : LayoutOk L) (c : Contract) (va : T (validAid (c .aid))) (np : length (c .provides) ≤ L .services)
     (nc : length (c .calls) ≤ L .mostRows) (ng : length (c .grants) ≤ L .mostRows) (nn : length (c .needs) ≤ L .mostRows)
     (vc : ValidRows (c .calls)) (vg : ValidRows (c .grants)) (vn : ValidRows (c .needs)) where
@@ -103,51 +107,36 @@ module _ (L : Layout) (lo : LayoutOk L) (c : Contract) (va : T (validAid (c .aid
   last-written = ap (λ (z : List ℕ). counted (L .countWidth) (L .mostRows) aRow z) (sym (append-nil (rowsBytes L (c .needs)))) ∙ rows-written (c .needs) [] nn vn
 
   load-written : aLoad L ((length (c .provides) ∷ flat writeTok (c .provides)) ++ (rowsBytes L (c .calls) ++ (rowsBytes L (c .grants) ++ rowsBytes L (c .needs))))
-      ≡ got (load (c .provides) (c .calls) (c .grants) (c .needs)) []
+      ≡ got (loadOf c) []
   unfolding aLoad
   load-written = rw (toks-written _, rows-written (c .calls) _ nc vc, rows-written (c .grants) _ ng vg, last-written)
 
   -- ---- its length fits two bytes
-  toks-length : (l : List Tok) → length (flat writeTok l) ≡ length l * 2
-  toks-length [] = omega arith
-  toks-length (s ∷ l) = let h = toks-length l in omega arith
-
   row-length : (r : Row) → T (validAid (r .aid)) → length (rowBytes r) ≤ 19
-  row-length r v =
-      let h = leb→le (length (r .aid)) 16 (and-r (leb 5 (length (r .aid))) (leb (length (r .aid)) 16) v) in
-      let e = length-append (r .aid) (writeTok (r .tok)) in
-      omega arith
-
-  flat-length : (l : List Row) → ValidRows l → length (flat rowBytes l) ≤ length l * 19
-  flat-length [] v = omega arith
-  flat-length (r ∷ l) v =
-      let a = row-length r (v r (here refl)) in
-      let b = flat-length l (λ x m. v x (there m)) in
-      let e = length-append (rowBytes r) (flat rowBytes l) in
-      omega arith
+  row-length r v = let h = valid-short (r .aid) v in let e = length-append (r .aid) (writeTok (r .tok)) in omega arith
 
   rows-length : (l : List Row) → length l ≤ L .mostRows → ValidRows l → length (rowsBytes L l) ≤ L .countWidth + L .mostRows * 19
   rows-length l n v =
       let e = length-number (L .countWidth) (length l) (flat rowBytes l) in
-      let a = flat-length l v in
+      let a = length-flat-le rowBytes 19 l (λ r m. row-length r (v r m)) in
       let b : length l * 19 ≤ L .mostRows * 19 = mul-le-mul-right 19 n in
       omega arith
 
   body-length : 4 + length (loadBody L c) < 256 ^ 2
   body-length =
-      let a = leb→le (length (c .aid)) 16 (and-r (leb 5 (length (c .aid))) (leb (length (c .aid)) 16) va) in
+      let a = valid-short (c .aid) va in
       let e1 = length-append (aidBytes (c .aid)) ((length (c .provides) ∷ flat writeTok (c .provides)) ++ (rowsBytes L (c .calls) ++ (rowsBytes L (c .grants) ++ rowsBytes L (c .needs)))) in
       let e2 = length-append (length (c .provides) ∷ flat writeTok (c .provides)) (rowsBytes L (c .calls) ++ (rowsBytes L (c .grants) ++ rowsBytes L (c .needs))) in
       let e3 = length-append (rowsBytes L (c .calls)) (rowsBytes L (c .grants) ++ rowsBytes L (c .needs)) in
       let e4 = length-append (rowsBytes L (c .grants)) (rowsBytes L (c .needs)) in
-      let p = toks-length (c .provides) in
+      let p = length-flat writeTok 2 (c .provides) (λ s m. refl) in
       let x = rows-length (c .calls) nc vc in
       let y = rows-length (c .grants) ng vg in
       let z = rows-length (c .needs) nn vn in
       let f = lo .records-fit in
       omega arith
 
-  pub load-parses : parse L (loadRecord L c) ≡ some (record { aid = c .aid; change = load (c .provides) (c .calls) (c .grants) (c .needs) })
+  pub load-parses : parse L (loadRecord L c) ≡ some (requestOf c)
   unfolding parse fields byte change loadRecord
   load-parses =
       let rest : List ℕ = L .version ∷ 1 ∷ loadBody L c in

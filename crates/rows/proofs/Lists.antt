@@ -11,7 +11,7 @@ use Rattle.policy.specs.Lists.{flat, keep}
 use Rattle.policy.specs.Layout.{Layout}
 use Rattle.policy.specs.Tables.{bit, writeList}
 use Rattle.policy.proofs.Sets.{each-snoc, keep-in}
-use Rattle.policy.proofs.ReadOut.{length-keep}
+use Rattle.policy.proofs.Sets.{length-keep}
 use Rattle.rows.specs.Area.{part, areaOf, rowsIn, IsArea, HasRoom, without, keepFrom, keepRows, appended, removed, dropped}
 use Rattle.rows.proofs.Area.{row-ends, bytes, Wide, bytes-length, is-area, area-length, rows-area, row-at}
 

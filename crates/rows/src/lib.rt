@@ -40,7 +40,7 @@ fn slide(a: &mut [u8], to: usize, from: usize, n: usize)
 }
 
 // n zeros from index at on.
-fn clear(a: &mut [u8], at: usize, n: usize)
+pub fn clear(a: &mut [u8], at: usize, n: usize)
     requires { ⌜ at + n ≤ length (now a) ⌝ }
     ensures { λ _. ⌜ now (a .exit) ≡ over at (replicate n 0) (now (a .entry)) ⌝ }
 {
