@@ -1,0 +1,149 @@
+-- `lines::write_number` meets its contract: the digits of the tenth part, then the last digit. The measure is the number. Assumes nothing.
+use borrow.Author.Needs.{needs}
+use Prim.Native.Nat.{ℕ, _<_}
+use mathlib.Core.Path.{ap}
+use native.Mathlib.Omega.{arith}
+use lib.ListN.{length}
+use Rattle.lines.proofs.Text.{after}
+use Rattle.lines.proofs.Digits.{digits-one, digits-more, length-more}
+use borrow.Fn.Kinds.{In}
+use borrow.Fn.PlainCycle.{Measures, is, falls, and}
+use Rattle.lines.proofs.write_number.Reads as write-number
+use Rattle.lines.proofs.write_number.Kinds as write-number-kinds
+use Rattle.lines.proofs.+write_number.Lts-write_number as write-number-lts
+use Rattle.lines.proofs.put_byte.Reads as put-byte-reads
+use Rattle.lines.proofs.+write_number.{statement}
+use Rattle.lines.proofs.+write_number.Tie.{close}
+
+abbrev μ-write-number : Measures 1 write-number-kinds.ps ℕ
+μ-write-number κs a = a .1 .1 .0
+
+abbrev write-number-at : ℕ → In 1 write-number-kinds.ps
+write-number-at t =
+    and 1 write-number-kinds.ps (is 1 write-number-kinds.ps μ-write-number t) write-number.Pre
+
+abbrev write-number-below : ℕ → In 1 write-number-kinds.ps
+write-number-below t =
+    and
+    1
+    write-number-kinds.ps
+    (falls 1 write-number-kinds.ps _<_ μ-write-number t)
+    write-number.Pre
+
+write-number-cast-put-byte : (t : ℕ) → write-number-lts.Need-cast-put-byte (
+  put-byte-reads.Asked,
+  put-byte-reads.Learnt,
+  write-number-below t,
+  write-number.Post,
+) (write-number-at t) write-number.Post
+write-number-cast-put-byte t c = search needs
+
+write-number-add-put-byte : (t : ℕ) → write-number-lts.Need-add-put-byte (
+  put-byte-reads.Asked,
+  put-byte-reads.Learnt,
+  write-number-below t,
+  write-number.Post,
+) (write-number-at t) write-number.Post
+write-number-add-put-byte t c = search needs
+
+write-number-put-byte-requires : (t : ℕ) → write-number-lts.Need-put-byte-requires (
+  put-byte-reads.Asked,
+  put-byte-reads.Learnt,
+  write-number-below t,
+  write-number.Post,
+) (write-number-at t) write-number.Post
+write-number-put-byte-requires t c κs = omega (arith, ap length (digits-one _ (c .before .if1 .taken)))
+
+write-number-same-length : (t : ℕ) → write-number-lts.Need-same-length (
+  put-byte-reads.Asked,
+  put-byte-reads.Learnt,
+  write-number-below t,
+  write-number.Post,
+) (write-number-at t) write-number.Post
+write-number-same-length t c = search needs
+
+write-number-returns : (t : ℕ) → write-number-lts.Need-returns (
+  put-byte-reads.Asked,
+  put-byte-reads.Learnt,
+  write-number-below t,
+  write-number.Post,
+) (write-number-at t) write-number.Post
+write-number-returns t c = rw (digits-one _ (c .before .before .before .before .if1 .taken)) (c .before .before .put-byte .ensures)
+
+write-number-write-number-requires : (t : ℕ) → write-number-lts.Need-write-number-requires (
+  put-byte-reads.Asked,
+  put-byte-reads.Learnt,
+  write-number-below t,
+  write-number.Post,
+) (write-number-at t) write-number.Post
+write-number-write-number-requires t c κs =
+    let s = c .before .before .before in
+    (omega arith, omega (arith, length-more (s .args .n) (c .before .if1 .left)))
+
+write-number-cast-put-byte-2 : (t : ℕ) → write-number-lts.Need-cast-put-byte-2 (
+  put-byte-reads.Asked,
+  put-byte-reads.Learnt,
+  write-number-below t,
+  write-number.Post,
+) (write-number-at t) write-number.Post
+write-number-cast-put-byte-2 t c = search needs
+
+write-number-add-put-byte-2 : (t : ℕ) → write-number-lts.Need-add-put-byte-2 (
+  put-byte-reads.Asked,
+  put-byte-reads.Learnt,
+  write-number-below t,
+  write-number.Post,
+) (write-number-at t) write-number.Post
+write-number-add-put-byte-2 t c = search needs
+
+write-number-put-byte-requires-2 : (t : ℕ) → write-number-lts.Need-put-byte-requires-2 (
+  put-byte-reads.Asked,
+  put-byte-reads.Learnt,
+  write-number-below t,
+  write-number.Post,
+) (write-number-at t) write-number.Post
+write-number-put-byte-requires-2 t c κs =
+    let s = c .before .before .before .before .before .before .before in
+    let w = c .before .before .before .write-number in
+    omega (arith, length-more (s .args .n) (c .before .before .before .before .before .if1 .left), w .ensures .ends, w .kept .0, s .pre .1)
+
+write-number-same-length-2 : (t : ℕ) → write-number-lts.Need-same-length-2 (
+  put-byte-reads.Asked,
+  put-byte-reads.Learnt,
+  write-number-below t,
+  write-number.Post,
+) (write-number-at t) write-number.Post
+write-number-same-length-2 t c = search needs
+
+write-number-returns-2 : (t : ℕ) → write-number-lts.Need-returns-2 (
+  put-byte-reads.Asked,
+  put-byte-reads.Learnt,
+  write-number-below t,
+  write-number.Post,
+) (write-number-at t) write-number.Post
+write-number-returns-2 t c =
+    let s = c .before .before .before .before .before .before .before .before .before .before in
+    let left = c .before .before .before .before .before .before .before .before .if1 .left in
+    rw (digits-more (s .args .n) left)
+    (after _ _ _ _ _ _ _ _ (omega (arith, length-more (s .args .n) left, s .pre .1)) (c .before .before .before .before .before .before .write-number .ensures) (c .before .before .put-byte2 .ensures))
+
+pub +write-number-spec : {M : Type 1} → statement M
++write-number-spec = close μ-write-number λ t. write-number-lts.spec (
+  put-byte-reads.Asked,
+  put-byte-reads.Learnt,
+  write-number-below t,
+  write-number.Post,
+)
+    (write-number-at t)
+    write-number.Post
+    (write-number-cast-put-byte t)
+    (write-number-add-put-byte t)
+    (write-number-put-byte-requires t)
+    (write-number-same-length t)
+    (write-number-returns t)
+    (write-number-write-number-requires t)
+    (write-number-cast-put-byte-2 t)
+    (write-number-add-put-byte-2 t)
+    (write-number-put-byte-requires-2 t)
+    (write-number-same-length-2 t)
+    (write-number-returns-2 t)

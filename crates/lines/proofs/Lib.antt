@@ -1,0 +1,6 @@
+pub mod Text
+pub mod Digits
+pub mod Columns
+pub mod Frames
+pub mod Session
+pub mod Paper
