@@ -143,7 +143,7 @@ module _ (L : Layout) (lo : LayoutOk L) {img : List ℕ} (h : Laid L img) where
     abbrev unmet-tail : List ℕ
     unmet-tail = u .tok .itf ∷ u .tok .mth ∷ u .caller ∷ []
 
-    callee-short : length (u .callee) ≤ 16
+    pub callee-short : length (getD (t .unmet) r d .callee) ≤ 16
     callee-short = h .room .unmet-short u (in-get (t .unmet) r d p)
 
     at-unmet : Swap (encode L t) (encode L (withUnmet (t .unmet) t)) (unmetAt L + (1 + r * unmetSize)) (writeUnmet u) (writeUnmet u)
@@ -181,7 +181,7 @@ module _ (L : Layout) (lo : LayoutOk L) {img : List ℕ} (h : Laid L img) where
     abbrev waiting-tail : List ℕ
     waiting-tail = v .callee ∷ v .service ∷ []
 
-    caller-short : length (v .caller) ≤ 16
+    pub caller-short : length (getD (t .waiting) r d .caller) ≤ 16
     caller-short = h .room .waiting-short v (in-get (t .waiting) r d p)
 
     at-waiting : Swap (encode L t) (encode L (withWaiting (t .waiting) t)) (waitingAt L + (1 + r * waitingSize)) (writeWaiting v) (writeWaiting v)

@@ -5,3 +5,9 @@ pub mod Access
 pub mod Replace
 pub mod Over
 pub mod Append
+pub mod Drops
+pub mod Writes
+pub mod Seen
+pub mod Numbers
+pub mod Masks
+pub mod Listed

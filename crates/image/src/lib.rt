@@ -1,1 +1,4 @@
-pub fn nothing() {}
+// A laid image: reading and writing its places, and its two lists.
+pub mod lists;
+pub mod read;
+pub mod write;

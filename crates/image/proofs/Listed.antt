@@ -1,0 +1,148 @@
+-- What code reads of the two lists of a laid image of a card, in the form in which the needs ask it: `search listed`.
+use Prim.Native.Nat.{ℕ, _+_, _*_, _≤_, _<_}
+use native.Mathlib.Omega.{arith}
+use native.Mathlib.Nat.{add-assoc}
+use mathlib.Core.Path.{_≡_, refl, sym, ap, ap₂, _∙_}
+use mathlib.Core.Bool.{Bool, true, false, not, _&&_, and-false, and-true}
+use mathlib.Core.List.{List}
+use lib.ListN.{length, getD, take, drop}
+use mir.Syntax.{w64}
+use mir.Val.{Fits}
+use borrow.Author.Needs.{needs}
+use Rattle.policy.specs.Contract.{Aid, eqAid, Tok, eqTok}
+use Rattle.policy.specs.Layout.{unmetAt, waitingAt}
+use Rattle.policy.specs.Tables.{Tables, Unmet, Waiting, decode}
+use Rattle.policy.proofs.Sets.{false-T}
+use Rattle.geometry.specs.declared.Card.{Card}
+use Rattle.geometry.specs.Geometry.{layoutOf}
+use Rattle.geometry.proofs.Bounds.{layout-ok, limits, unmet-end, waiting-end, unmet-in, waiting-in}
+use Rattle.image.specs.Laid.{Laid}
+use Rattle.image.specs.Read.{tokens, aidIn, tokensIn, noUnmet, unmetRow, noWaiting, waitingRow}
+use Rattle.image.proofs.Access as at
+use Rattle.image.proofs.Seen.{laid-size}
+use Rattle.image.proofs.Masks.{mask-start, mask-turn, mask-doubles, mask-adds, mask-end}
+
+-- the tokens tell, or the AID does
+other : (b : Bool) (x y : Bool) → b ≡ y → not b ≡ true → false ≡ x && y
+other false x y e q = sym (and-false x) ∙ ap (λ (z : Bool). x && z) e
+other true x y e q = absurd (false-T (sym q) tt)
+
+alike : (b r x y : Bool) → b ≡ y → not b ≡ false → r ≡ x → r ≡ x && y
+alike true r x y e q z = z ∙ sym (and-true x) ∙ ap (λ (v : Bool). x && v) e
+alike false r x y e q z = absurd (false-T q tt)
+
+module _ (c : Card) (img : List ℕ) (h : Laid (layoutOf c) img) where
+  abbrev t : Tables
+  t = decode (layoutOf c) img
+
+  -- the AID that a place holds, where its length and its bytes are those of a
+  aid-held : (at : ℕ) (a : Aid) → getD img at 0 ≡ length a → take (length a) (drop (at + 1) img) ≡ a → aidIn img at ≡ a
+  aid-held at a p q = ap (λ (n : ℕ). take n (drop (at + 1) img)) p ∙ q
+
+  -- ---- unmet calls: their count
+  pub unmet-low : length (decode (layoutOf c) img .unmet) ≤ 32
+  unmet-low = omega (arith, h .room .unmet-fits, limits c)
+
+  pub unmet-counts : (a : ℕ) → a ≡ unmetAt (layoutOf c) → a < length img
+  unmet-counts a q = omega (arith, laid-size c img h)
+
+  pub unmet-counted : (a r : ℕ) → a ≡ unmetAt (layoutOf c) → r ≡ getD img a 0 → r ≡ length (decode (layoutOf c) img .unmet)
+  unmet-counted a r q e = e ∙ ap (λ (x : ℕ). getD img x 0) q ∙ at.unmet-count (layoutOf c) (layout-ok c) h
+
+  -- row r, which stands at a
+  module _ (r : ℕ) (p : r < length (decode (layoutOf c) img .unmet)) where
+    pub unmet-less : r < layoutOf c .capacity
+    unmet-less = omega (arith, h .room .unmet-fits)
+
+    module _ (a : ℕ) (q : a ≡ unmetAt (layoutOf c) + (1 + r * 20)) where
+      unmet-room : a + 20 ≤ length img
+      unmet-room = omega (arith, laid-size c img h, unmet-in c r unmet-less)
+
+      pub unmet-byte : (k : ℕ) → k < 20 → a + k < length img
+      unmet-byte k l = omega (arith, unmet-room)
+
+      pub unmet-sum : (k : ℕ) → k < 20 → Fits w64 (a + k)
+      unmet-sum k l = omega (arith, unmet-in c r unmet-less, limits c)
+
+      pub unmet-aid : a + 17 ≤ length img
+      unmet-aid = omega (arith, unmet-room)
+
+      pub unmet-tokens : a + 17 + 2 ≤ length img
+      unmet-tokens = omega (arith, unmet-room)
+
+      callee-length : getD img a 0 ≡ length (unmetRow t r .callee)
+      callee-length = ap (λ (x : ℕ). getD img x 0) q ∙ at.unmet-length (layoutOf c) (layout-ok c) h r noUnmet p
+
+      pub callee-short : getD img a 0 ≤ 16
+      callee-short = omega (arith, callee-length, at.callee-short (layoutOf c) (layout-ok c) h r noUnmet p)
+
+      callee-seen : aidIn img a ≡ unmetRow t r .callee
+      callee-seen = aid-held a (unmetRow t r .callee) callee-length (ap (λ (x : ℕ). take (length (unmetRow t r .callee)) (drop (x + 1) img)) q ∙ at.unmet-bytes (layoutOf c) (layout-ok c) h r noUnmet p)
+
+      tok-seen : tokensIn img (a + 17) ≡ unmetRow t r .tok
+      tok-seen =
+          let one = ap (λ (x : ℕ). getD img (x + 17) 0) q ∙ at.unmet-itf (layoutOf c) (layout-ok c) h r noUnmet p in
+          let two = ap (λ (x : ℕ). getD img x 0) (add-assoc a 17 1) ∙ ap (λ (x : ℕ). getD img (x + 18) 0) q ∙ at.unmet-mth (layoutOf c) (layout-ok c) h r noUnmet p in
+          λ i. record { itf = one i; mth = two i }
+
+      pub by-seen : (n : ℕ) → n ≡ getD img (a + 19) 0 → n ≡ unmetRow (decode (layoutOf c) img) r .caller
+      by-seen n e = e ∙ ap (λ (x : ℕ). getD img (x + 19) 0) q ∙ at.unmet-caller (layoutOf c) (layout-ok c) h r noUnmet p
+
+      module _ (aid : List ℕ) (x y : ℕ) (b : Bool) (e : b ≡ eqTok (tokensIn img (a + 17)) (tokens x y)) where
+        pub asks-other : not b ≡ true → false ≡ eqAid (unmetRow (decode (layoutOf c) img) r .callee) aid && eqTok (unmetRow (decode (layoutOf c) img) r .tok) (tokens x y)
+        asks-other g = other b (eqAid (unmetRow t r .callee) aid) (eqTok (unmetRow t r .tok) (tokens x y)) (e ∙ ap (λ (s : Tok). eqTok s (tokens x y)) tok-seen) g
+
+        pub asks-seen : (v : Bool) → not b ≡ false → v ≡ eqAid (aidIn img a) aid
+            → v ≡ eqAid (unmetRow (decode (layoutOf c) img) r .callee) aid && eqTok (unmetRow (decode (layoutOf c) img) r .tok) (tokens x y)
+        asks-seen v g z =
+            alike b v (eqAid (unmetRow t r .callee) aid) (eqTok (unmetRow t r .tok) (tokens x y)) (e ∙ ap (λ (s : Tok). eqTok s (tokens x y)) tok-seen) g (z ∙ ap (λ (s : Aid). eqAid s aid) callee-seen)
+
+  -- ---- waiting grants, alike
+  pub waiting-low : length (decode (layoutOf c) img .waiting) ≤ 32
+  waiting-low = omega (arith, h .room .waiting-fits, limits c)
+
+  pub waiting-counts : (a : ℕ) → a ≡ waitingAt (layoutOf c) → a < length img
+  waiting-counts a q = omega (arith, laid-size c img h)
+
+  pub waiting-counted : (a r : ℕ) → a ≡ waitingAt (layoutOf c) → r ≡ getD img a 0 → r ≡ length (decode (layoutOf c) img .waiting)
+  waiting-counted a r q e = e ∙ ap (λ (x : ℕ). getD img x 0) q ∙ at.waiting-count (layoutOf c) (layout-ok c) h
+
+  module _ (r : ℕ) (p : r < length (decode (layoutOf c) img .waiting)) where
+    pub waiting-less : r < layoutOf c .capacity
+    waiting-less = omega (arith, h .room .waiting-fits)
+
+    module _ (a : ℕ) (q : a ≡ waitingAt (layoutOf c) + (1 + r * 19)) where
+      waiting-room : a + 19 ≤ length img
+      waiting-room = omega (arith, laid-size c img h, waiting-in c r waiting-less)
+
+      pub waiting-byte : (k : ℕ) → k < 19 → a + k < length img
+      waiting-byte k l = omega (arith, waiting-room)
+
+      pub waiting-sum : (k : ℕ) → k < 19 → Fits w64 (a + k)
+      waiting-sum k l = omega (arith, waiting-in c r waiting-less, limits c)
+
+      pub waiting-aid : a + 17 ≤ length img
+      waiting-aid = omega (arith, waiting-room)
+
+      caller-length : getD img a 0 ≡ length (waitingRow t r .caller)
+      caller-length = ap (λ (x : ℕ). getD img x 0) q ∙ at.waiting-length (layoutOf c) (layout-ok c) h r noWaiting p
+
+      pub caller-short : getD img a 0 ≤ 16
+      caller-short = omega (arith, caller-length, at.caller-short (layoutOf c) (layout-ok c) h r noWaiting p)
+
+      caller-seen : aidIn img a ≡ waitingRow t r .caller
+      caller-seen = aid-held a (waitingRow t r .caller) caller-length (ap (λ (x : ℕ). take (length (waitingRow t r .caller)) (drop (x + 1) img)) q ∙ at.waiting-bytes (layoutOf c) (layout-ok c) h r noWaiting p)
+
+      pub waits-seen : (aid : List ℕ) (v : Bool) → v ≡ eqAid (aidIn img a) aid → v ≡ eqAid (waitingRow (decode (layoutOf c) img) r .caller) aid
+      waits-seen aid v z = z ∙ ap (λ (s : Aid). eqAid s aid) caller-seen
+
+      pub granter-seen : (n : ℕ) → n ≡ getD img (a + 17) 0 → n ≡ waitingRow (decode (layoutOf c) img) r .callee
+      granter-seen n e = e ∙ ap (λ (x : ℕ). getD img (x + 17) 0) q ∙ at.waiting-callee (layoutOf c) (layout-ok c) h r noWaiting p
+
+      pub granted-seen : (n : ℕ) → n ≡ getD img (a + 18) 0 → n ≡ waitingRow (decode (layoutOf c) img) r .service
+      granted-seen n e = e ∙ ap (λ (x : ℕ). getD img (x + 18) 0) q ∙ at.waiting-service (layoutOf c) (layout-ok c) h r noWaiting p
+
+pub ruleset listed = (unmet-counts, unmet-counted, unmet-less, unmet-byte, unmet-sum, unmet-aid, unmet-tokens, callee-short, by-seen, asks-other, asks-seen, waiting-counts, waiting-counted, waiting-less, waiting-byte, waiting-sum, waiting-aid, caller-short, waits-seen, granter-seen, granted-seen, needs)
+
+-- ---- the loops that gather a mask of rows: `search masks`
+pub ruleset masks = (mask-start, mask-turn, mask-doubles, mask-adds, mask-end, unmet-low, waiting-low, needs)

@@ -1,0 +1,149 @@
+-- What a number that code found says of the search: below the limit it is what was found, at the limit nothing was.
+use Prim.Native.Nat.{ℕ, _≤_, _<_}
+use native.Mathlib.Omega.{arith}
+use mathlib.Core.Path.{_≡_, refl, sym, ap, ap₂, _∙_}
+use mathlib.Core.Bool.{Bool}
+use mathlib.Core.Option.{Option, none, some}
+use borrow.Author.Needs.{needs}
+use Rattle.policy.specs.Lists.{first, upto, orElse}
+use Rattle.policy.specs.Contract.{Aid, Tok, Row}
+use Rattle.policy.specs.Layout.{Layout}
+use Rattle.policy.specs.Tables.{Tables}
+use Rattle.policy.specs.Lookup.{Place as Found, numberOf, serviceOf, serverOf, freeNumber, freeService}
+use Rattle.policy.proofs.Sets.{Found as Finds, found, upto-in}
+use Rattle.image.specs.declared.read.Place.{Place}
+use Rattle.image.specs.Read.{numberOr, placeOr, tokens, asked}
+
+-- what was found is below n
+abbrev pub Below : ℕ → Option ℕ → Type 0
+Below n none = Unit {0}
+Below n (some k) = k < n
+
+first-below : (f : ℕ → Bool) (n : ℕ) → Below n (first f (upto n))
+first-below f n = go (first f (upto n)) (found f (upto n))
+  where
+    go : (o : Option ℕ) → Finds f (upto n) o → Below n o
+    go none h = tt
+    go (some k) h = upto-in n (h .0)
+
+module _ (n r : ℕ) where
+  number-none : (o : Option ℕ) → Below n o → r ≡ numberOr n o → n ≤ r → o ≡ none
+  number-none none b e h = refl
+  number-none (some k) b e h = absurd (omega arith)
+
+  number-some : (o : Option ℕ) → Below n o → r ≡ numberOr n o → r < n → o ≡ some r
+  number-some none b e h = absurd (omega arith)
+  number-some (some k) b e h = ap some (sym e)
+
+module _ (L : Layout) (t : Tables) where
+  -- ---- an installed package
+  module _ (a : Aid) where
+    pub package-below : Below (L .packages) (numberOf L t a)
+    unfolding numberOf
+    package-below = first-below _ (L .packages)
+
+    pub package-none : (r : ℕ) → r ≡ numberOr (L .packages) (numberOf L t a) → L .packages ≤ r → numberOf L t a ≡ none
+    package-none r = number-none (L .packages) r (numberOf L t a) package-below
+
+    pub package-some : (r : ℕ) → r ≡ numberOr (L .packages) (numberOf L t a) → r < L .packages → numberOf L t a ≡ some r
+    package-some r = number-some (L .packages) r (numberOf L t a) package-below
+
+  -- ---- a service of package j
+  module _ (j : ℕ) (s : Tok) where
+    pub service-below : Below (L .services) (serviceOf L t j s)
+    unfolding serviceOf
+    service-below = first-below _ (L .services)
+
+    pub service-none : (r : ℕ) → r ≡ numberOr (L .services) (serviceOf L t j s) → L .services ≤ r → serviceOf L t j s ≡ none
+    service-none r = number-none (L .services) r (serviceOf L t j s) service-below
+
+    pub service-some : (r : ℕ) → r ≡ numberOr (L .services) (serviceOf L t j s) → r < L .services → serviceOf L t j s ≡ some r
+    service-some r = number-some (L .services) r (serviceOf L t j s) service-below
+
+  -- ---- free numbers
+  pub free-package-below : Below (L .packages) (freeNumber L t)
+  unfolding freeNumber
+  free-package-below = first-below _ (L .packages)
+
+  pub free-package-none : (r : ℕ) → r ≡ numberOr (L .packages) (freeNumber L t) → L .packages ≤ r → freeNumber L t ≡ none
+  free-package-none r = number-none (L .packages) r (freeNumber L t) free-package-below
+
+  pub free-package-some : (r : ℕ) → r ≡ numberOr (L .packages) (freeNumber L t) → r < L .packages → freeNumber L t ≡ some r
+  free-package-some r = number-some (L .packages) r (freeNumber L t) free-package-below
+
+  module _ (j : ℕ) where
+    pub free-service-below : Below (L .services) (freeService L t j)
+    unfolding freeService
+    free-service-below = first-below _ (L .services)
+
+    pub free-service-none : (r : ℕ) → r ≡ numberOr (L .services) (freeService L t j) → L .services ≤ r → freeService L t j ≡ none
+    free-service-none r = number-none (L .services) r (freeService L t j) free-service-below
+
+    pub free-service-some : (r : ℕ) → r ≡ numberOr (L .services) (freeService L t j) → r < L .services → freeService L t j ≡ some r
+    free-service-some r = number-some (L .services) r (freeService L t j) free-service-below
+
+  -- ---- a service of the card: j is the number of its package, and k its own
+  module _ (a : Aid) (x y : ℕ) where
+    abbrev served : ℕ → Option ℕ → Option Found
+    served j o = orElse o none (λ k. some (record { callee = j; service = k }))
+
+    by-package : (o : Option ℕ) → numberOf L t a ≡ o → serverOf L t (asked a x y) ≡ orElse o none (λ j. served j (serviceOf L t j (tokens x y)))
+    unfolding serverOf
+    by-package o e = ap (λ (u : Option ℕ). orElse u none (λ j. served j (serviceOf L t j (tokens x y)))) e
+
+    module _ (n m j : ℕ) (en : n ≡ L .packages) (em : m ≡ L .services) (p : j ≡ numberOr (L .packages) (numberOf L t a)) where
+      nowhere : serverOf L t (asked a x y) ≡ none → _≡_ {A = Place} (record { callee = n; service = m }) (placeOr L (serverOf L t (asked a x y)))
+      nowhere e = (λ i. record { callee = en i; service = em i }) ∙ sym (ap (placeOr L) e)
+
+      pub no-package : n ≤ j → _≡_ {A = Place} (record { callee = n; service = m }) (placeOr L (serverOf L t (asked a x y)))
+      no-package h = nowhere (by-package none (package-none a j p (omega arith)))
+
+      module _ (k : ℕ) (h : j < n) (q : k ≡ numberOr (L .services) (serviceOf L t j (tokens x y))) where
+        by-service : (o : Option ℕ) → serviceOf L t j (tokens x y) ≡ o → serverOf L t (asked a x y) ≡ served j o
+        by-service o e = by-package (some j) (package-some a j p (omega arith)) ∙ ap (served j) e
+
+        pub no-service : m ≤ k → _≡_ {A = Place} (record { callee = n; service = m }) (placeOr L (serverOf L t (asked a x y)))
+        no-service l = nowhere (by-service none (service-none j (tokens x y) k q (omega arith)))
+
+        pub served-at : k < m → _≡_ {A = Place} (record { callee = j; service = k }) (placeOr L (serverOf L t (asked a x y)))
+        served-at l = sym (ap (placeOr L) (by-service (some k) (service-some j (tokens x y) k q (omega arith))))
+
+-- ---- what a place that was found says
+PlaceBelow : Layout → Option Found → Type 0
+PlaceBelow L none = Unit {0}
+PlaceBelow L (some p) = (p .callee < L .packages) × (p .service < L .services)
+
+place-none : (L : Layout) (p : Place) (o : Option Found) → PlaceBelow L o → p ≡ placeOr L o → L .packages ≤ p .callee → o ≡ none
+unfolding PlaceBelow
+place-none L p none b e h = refl
+place-none L p (some q) b e h = let z = ap (λ (u : Place). u .callee) e in absurd (omega arith)
+
+place-some : (L : Layout) (p : Place) (o : Option Found) → PlaceBelow L o → p ≡ placeOr L o → p .callee < L .packages → (o ≡ some (record { callee = p .callee; service = p .service })) × (p .service < L .services)
+unfolding PlaceBelow
+place-some L p none b e h = let z = ap (λ (u : Place). u .callee) e in absurd (omega arith)
+place-some L p (some q) b e h =
+    let z = ap (λ (u : Place). u .service) e in
+    ((λ i. some (record { callee = sym e i .callee; service = sym e i .service })), omega arith)
+
+module _ (L : Layout) (t : Tables) (r : Row) where
+  server-below : PlaceBelow L (serverOf L t r)
+  unfolding serverOf PlaceBelow
+  server-below = in-package (numberOf L t (r .aid)) (package-below L t (r .aid))
+    where
+      in-service : (j : ℕ) → j < L .packages → (o : Option ℕ) → Below (L .services) o → PlaceBelow L (orElse o none (λ k. some (record { callee = j; service = k })))
+      in-service j h none b = tt
+      in-service j h (some k) b = (h, b)
+
+      in-package : (o : Option ℕ) → Below (L .packages) o → PlaceBelow L (orElse o none (λ j. orElse (serviceOf L t j (r .tok)) none (λ k. some (record { callee = j; service = k }))))
+      in-package none b = tt
+      in-package (some j) b = in-service j b (serviceOf L t j (r .tok)) (service-below L t j (r .tok))
+
+  module _ (p : Place) (e : p ≡ placeOr L (serverOf L t r)) where
+    pub server-none : L .packages ≤ p .callee → serverOf L t r ≡ none
+    server-none = place-none L p (serverOf L t r) server-below e
+
+    pub server-some : p .callee < L .packages → (serverOf L t r ≡ some (record { callee = p .callee; service = p .service })) × (p .service < L .services)
+    server-some = place-some L p (serverOf L t r) server-below e
+
+-- what the searches for a package and its service leave: `search located`
+pub ruleset located = (no-package, no-service, served-at, needs)

@@ -1,0 +1,118 @@
+-- What code reads in a laid image of a card, in the form in which the needs ask it: `search seen`.
+use Prim.Native.Nat.{ℕ, _+_, _≤_, _<_}
+use native.Mathlib.Omega.{arith}
+use mathlib.Core.Path.{_≡_, refl, sym, ap, ap₂, _∙_}
+use mathlib.Core.Bool.{Bool, true, false, not, _&&_}
+use mathlib.Core.List.{List, [], _∷_}
+use lib.ListN.{length, getD, take, drop, length-take, length-drop}
+use Rattle.policy.specs.Lists.{eqBytes, first, upto}
+use Rattle.policy.specs.Contract.{Aid, eqAid, Tok, eqTok}
+use Rattle.policy.specs.Layout.{size}
+use Rattle.policy.specs.Tables.{readNumber, rowOf, bit, decode}
+use Rattle.policy.specs.Lookup.{freeNumber, freeService}
+use Rattle.policy.proofs.Sets.{T-false, false-T, upto-in}
+use Rattle.policy.proofs.Equal.{eqAid→}
+use Rattle.policy.proofs.Bits.{rowOf-lt, bit-rowOf}
+use Rattle.bits.proofs.Loops.{first-ext}
+use Rattle.bits.proofs.Row.{lowest-row}
+use Rattle.rows.specs.Area.{part}
+use Rattle.geometry.specs.declared.Card.{Card}
+use Rattle.geometry.specs.declared.Table.{Table}
+use Rattle.geometry.specs.Geometry.{layoutOf, aidAt, tokAt, provAt, entryAt}
+use Rattle.geometry.proofs.Bounds.{layout-ok, limits, geo}
+use Rattle.image.specs.Laid.{Laid, tableOf}
+use Rattle.image.specs.Read.{numberOr, tokens, aidIn, tokensIn}
+use Rattle.image.proofs.Laid.{laid-length}
+use Rattle.image.proofs.Access.{used-number, provides-number, entry-number, aid-length, aid-bytes, tok-itf, tok-mth}
+
+-- ---- a bit of a row, as a test leaves it
+bit-off : (n : ℕ) (f : ℕ → Bool) {k row : ℕ} {b : Bool} (x : Bool) → row ≡ rowOf n f → k < n → b ≡ bit row k → not b ≡ true → false ≡ f k && x
+bit-off n f {k = k} {b = false} x e h p q = ap (λ (y : Bool). y && x) (p ∙ ap (λ (r : ℕ). bit r k) e ∙ bit-rowOf n f k h)
+bit-off n f {b = true} x e h p q = absurd (false-T (sym q) tt)
+
+bit-on : (n : ℕ) (f : ℕ → Bool) {k row : ℕ} {b r : Bool} (x : Bool) → row ≡ rowOf n f → k < n → b ≡ bit row k → not b ≡ false → r ≡ x → r ≡ f k && x
+bit-on n f {k = k} {b = true} x e h p q z = z ∙ ap (λ (y : Bool). y && x) (p ∙ ap (λ (r : ℕ). bit r k) e ∙ bit-rowOf n f k h)
+bit-on n f {b = false} x e h p q z = absurd (false-T q tt)
+
+-- ---- an AID's place
+module _ (img aid : List ℕ) (at : ℕ) where
+  pub aid-other : at + 17 ≤ length img → getD img at 0 ≤ 16 → (getD img at 0 ≡ length aid → ⊥) → false ≡ eqAid (aidIn img at) aid
+  aid-other h l ne =
+      let e : length (aidIn img at) ≡ getD img at 0 = simp (length-take, length-drop) (omega arith) in
+      sym (T-false (eqAid (aidIn img at) aid) (λ t. ne (sym e ∙ ap length (eqAid→ (aidIn img at) aid t))))
+
+  pub aid-same : (r : Bool) → getD img at 0 ≡ length aid → r ≡ eqBytes (part (at + 1) (length aid) img) aid → r ≡ eqAid (aidIn img at) aid
+  aid-same r e p = p ∙ ap (λ (n : ℕ). eqBytes (take n (drop (at + 1) img)) aid) (sym e)
+
+module _ (c : Card) (img : List ℕ) (h : Laid (layoutOf c) img) where
+  pub laid-size : length img ≡ size (layoutOf c)
+  laid-size = laid-length (layoutOf c) (layout-ok c) h
+
+  -- ---- rows of bits: r is the number read at a
+  pub used-seen : (r : ℕ) → r ≡ readNumber 0 (take (layoutOf c .width) (drop 3 img)) → r ≡ rowOf (layoutOf c .packages) (decode (layoutOf c) img .used)
+  used-seen r e = e ∙ used-number (layoutOf c) (layout-ok c) h
+
+  pub provided-seen : (j a r : ℕ) → j < layoutOf c .packages → a ≡ provAt (layoutOf c) j → r ≡ readNumber 0 (take (layoutOf c .width) (drop a img))
+      → r ≡ rowOf (layoutOf c .services) (decode (layoutOf c) img .provides j)
+  provided-seen j a r p q e = e ∙ ap (λ (x : ℕ). readNumber 0 (take (layoutOf c .width) (drop x img))) q ∙ provides-number (layoutOf c) (layout-ok c) h j p
+
+  pub entry-seen : (tb : Table) (i j a r : ℕ) → i < layoutOf c .packages → j < layoutOf c .packages → a ≡ entryAt (layoutOf c) tb i j
+      → r ≡ readNumber 0 (take (layoutOf c .width) (drop a img)) → r ≡ rowOf (layoutOf c .services) (tableOf tb (decode (layoutOf c) img) i j)
+  entry-seen tb i j a r p l q e = e ∙ ap (λ (x : ℕ). readNumber 0 (take (layoutOf c .width) (drop x img))) q ∙ entry-number (layoutOf c) (layout-ok c) h tb i j p l
+
+  -- ---- the AID of a package, in the place at a
+  module _ (n a : ℕ) (p : n < layoutOf c .packages) (q : a ≡ aidAt (layoutOf c) n) where
+    pub aid-seen : aidIn img a ≡ decode (layoutOf c) img .aid n
+    aid-seen =
+        ap (aidIn img) q
+        ∙ ap (λ (k : ℕ). take k (drop (aidAt (layoutOf c) n + 1) img)) (aid-length (layoutOf c) (layout-ok c) h n p)
+        ∙ aid-bytes (layoutOf c) (layout-ok c) h n p
+
+    pub aid-short : getD img a 0 ≤ 16
+    aid-short = let e = ap (λ (x : ℕ). getD img x 0) q ∙ aid-length (layoutOf c) (layout-ok c) h n p in omega (arith, e, h .room .aid-short n)
+
+  -- ---- the number n is used, and has the AID; b is the bit, and r compares the AID
+  module _ (n row : ℕ) (b : Bool) (aid : List ℕ) (l : n < layoutOf c .packages) (e : row ≡ rowOf (layoutOf c .packages) (decode (layoutOf c) img .used)) (p : b ≡ bit row n) where
+    pub unused : not b ≡ true → false ≡ decode (layoutOf c) img .used n && eqAid (decode (layoutOf c) img .aid n) aid
+    unused q = bit-off (layoutOf c .packages) (decode (layoutOf c) img .used) (eqAid (decode (layoutOf c) img .aid n) aid) e l p q
+
+    pub used-with : (a : ℕ) (r : Bool) → not b ≡ false → a ≡ aidAt (layoutOf c) n → r ≡ eqAid (aidIn img a) aid
+        → r ≡ decode (layoutOf c) img .used n && eqAid (decode (layoutOf c) img .aid n) aid
+    used-with a r q d z =
+        bit-on (layoutOf c .packages) (decode (layoutOf c) img .used) (eqAid (decode (layoutOf c) img .aid n) aid) e l p q (z ∙ ap (λ (x : Aid). eqAid x aid) (aid-seen n a l d))
+
+  -- ---- package j provides service k, whose tokens are at a
+  module _ (j k a : ℕ) (p : j < layoutOf c .packages) (l : k < layoutOf c .services) (q : a ≡ tokAt (layoutOf c) j k) where
+    tokens-seen : tokensIn img a ≡ decode (layoutOf c) img .tok j k
+    tokens-seen =
+        ap (tokensIn img) q
+        ∙ λ i. record { itf = tok-itf (layoutOf c) (layout-ok c) h j k p l i; mth = tok-mth (layoutOf c) (layout-ok c) h j k p l i }
+
+  module _ (j k x y row : ℕ) (b : Bool) (p : j < layoutOf c .packages) (l : k < layoutOf c .services)
+      (e : row ≡ rowOf (layoutOf c .services) (decode (layoutOf c) img .provides j)) (d : b ≡ bit row k) where
+    pub unprovided : not b ≡ true → false ≡ decode (layoutOf c) img .provides j k && eqTok (decode (layoutOf c) img .tok j k) (tokens x y)
+    unprovided q = bit-off (layoutOf c .services) (decode (layoutOf c) img .provides j) (eqTok (decode (layoutOf c) img .tok j k) (tokens x y)) e l d q
+
+    pub provided-with : (a : ℕ) (r : Bool) → not b ≡ false → a ≡ tokAt (layoutOf c) j k → r ≡ eqTok (tokensIn img a) (tokens x y)
+        → r ≡ decode (layoutOf c) img .provides j k && eqTok (decode (layoutOf c) img .tok j k) (tokens x y)
+    provided-with a r q z v =
+        bit-on (layoutOf c .services) (decode (layoutOf c) img .provides j) (eqTok (decode (layoutOf c) img .tok j k) (tokens x y)) e l d q
+        (v ∙ ap (λ (s : Tok). eqTok s (tokens x y)) (tokens-seen j k a p l z))
+
+  -- ---- the lowest number whose bit is clear
+  lowest : (n : ℕ) (f : ℕ → Bool) (row r : ℕ) → n ≤ 16 → row ≡ rowOf n f → r ≡ numberOr 16 (first (λ k. not (bit row k)) (upto 16)) → r ≡ numberOr n (first (λ k. not (f k)) (upto n))
+  lowest n f row r l e q =
+      q ∙ ap (λ (x : ℕ). numberOr 16 (first (λ k. not (bit x k)) (upto 16))) e ∙ lowest-row n 16 (rowOf n f) l (rowOf-lt n f)
+      ∙ ap (numberOr n) (first-ext (λ k. not (bit (rowOf n f) k)) (λ k. not (f k)) (upto n) (λ k m. ap not (bit-rowOf n f k (upto-in n m))))
+
+  pub lowest-unused : (row r : ℕ) → row ≡ rowOf (layoutOf c .packages) (decode (layoutOf c) img .used) → r ≡ numberOr 16 (first (λ k. not (bit row k)) (upto 16))
+      → r ≡ numberOr (layoutOf c .packages) (freeNumber (layoutOf c) (decode (layoutOf c) img))
+  unfolding freeNumber
+  lowest-unused row r = lowest (layoutOf c .packages) (decode (layoutOf c) img .used) row r (limits c .packages-low)
+
+  pub lowest-unprovided : (j row r : ℕ) → row ≡ rowOf (layoutOf c .services) (decode (layoutOf c) img .provides j) → r ≡ numberOr 16 (first (λ k. not (bit row k)) (upto 16))
+      → r ≡ numberOr (layoutOf c .services) (freeService (layoutOf c) (decode (layoutOf c) img) j)
+  unfolding freeService
+  lowest-unprovided j row r = lowest (layoutOf c .services) (decode (layoutOf c) img .provides j) row r (limits c .services-low)
+
+pub ruleset seen = (laid-size, used-seen, provided-seen, entry-seen, aid-other, aid-same, aid-short, unused, used-with, unprovided, provided-with, lowest-unused, lowest-unprovided, geo)

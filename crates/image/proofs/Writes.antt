@@ -1,0 +1,265 @@
+-- What writing code leaves, as tables.
+use Prim.Native.Nat.{ℕ, zero, suc, _+_, _-_, _*_, _^_, _≤_, _<_}
+use native.Mathlib.Omega.{arith}
+use native.Mathlib.Nat.{lt-of-lt-of-le, not-le-of-lt, sub-zero, zero-sub, suc-sub-suc}
+use native.Mathlib.Numerals.{one-add}
+use mathlib.Core.Path.{_≡_, refl, sym, ap, ap₂, _∙_, subst}
+use mathlib.Core.Logic.{_⊎_, inl, inr}
+use mathlib.Core.Bool.{Bool, true, false, not, _&&_, _||_, cond}
+use mathlib.Core.List.{List, [], _∷_, _++_}
+use mathlib.Core.List.{List·Memᴰ as In}
+use lib.Dec.{T, eqb}
+use lib.ListN.{length, getD, set, take, drop, replicate, length-append}
+use lib.Pow.{pow-mono}
+use borrow.Author.Tests.{ne-eqb}
+use Rattle.policy.specs.Contract.{Aid, Tok}
+use Rattle.policy.specs.Layout.{Layout, usedAt, unmetAt, waitingAt, size}
+use Rattle.policy.specs.Tables.{Tables, Unmet, Waiting, bit, rowOf, readNumber, writeNumber, writeBits, writeAid, writeTok, writeUnmet, writeWaiting, writeList, decode}
+use Rattle.policy.specs.Draft.{put, put3}
+use Rattle.policy.proofs.Sets.{false-T, T-false, T-true}
+use Rattle.policy.proofs.Pieces.{in-or-off, length-aid, length-unmet, length-waiting}
+use Rattle.rows.specs.Area.{IsArea, keepRows, dropped}
+use Rattle.rows.proofs.Over.{over-on}
+use Rattle.bits.proofs.Row.{row-is, bit-past, bit-rowOf, rowOf-lt}
+use Rattle.geometry.specs.declared.Card.{Card}
+use Rattle.geometry.specs.declared.Table.{Table}
+use Rattle.geometry.specs.Geometry.{layoutOf, aidAt, tokAt, provAt, entryAt}
+use Rattle.geometry.proofs.Bounds.{layout-ok, limits, services-row, tok-len, unmet-in, waiting-in, geo}
+use Rattle.image.specs.Laid.{tableOf, BitsIn, Laid, over, withUsed, withAid, withTok, withProvides, withTable, withEntry, withUnmet, withWaiting}
+use Rattle.image.specs.Wrote.{Wrote}
+use Rattle.image.proofs.Laid.{laid-length, entry-in}
+use Rattle.image.proofs.Access.{entry-number, unmet-is, unmet-count, waiting-is, waiting-count}
+use Rattle.image.proofs.Replace.{Holds, laid-holds, holds-laid, holds-decode, holds-used, holds-aid, holds-tok, holds-provides, holds-entry, holds-unmet, holds-waiting}
+use Rattle.image.proofs.Append.{holds-unmet-append, holds-waiting-append}
+use Rattle.image.proofs.Drops.{kept-in, kept-short, lent-area, lent-dropped}
+use Rattle.image.proofs.Over.{over-byte, over-length, over-row, entry-put3}
+
+-- ---- rows by their numbers
+row-bits : (n row : ℕ) → row < 2 ^ n → row ≡ rowOf n (bit row)
+row-bits n row h = row-is n row (bit row) h (λ k l. refl)
+
+bit-in : (n row : ℕ) → row < 2 ^ n → (k : ℕ) → T (bit row k) → k < n
+bit-in n row h k s = go (in-or-off k n)
+  where
+    go : (k < n) ⊎ (n ≤ k) → k < n
+    go (inl p) = p
+    go (inr p) = absurd (false-T (bit-past n row k h p) s)
+
+-- past its n bits a row of m has none
+row-narrow : (n m : ℕ) (f : ℕ → Bool) → n ≤ m → ((k : ℕ) → n ≤ k → f k ≡ false) → rowOf m f ≡ rowOf n f
+row-narrow n m f h e =
+    sym (row-is m (rowOf n f) f (lt-of-lt-of-le (rowOf-lt n f) (pow-mono h)) (λ k l. go k (in-or-off k n)))
+  where
+    go : (k : ℕ) → (k < n) ⊎ (n ≤ k) → bit (rowOf n f) k ≡ f k
+    go k (inl p) = bit-rowOf n f k p
+    go k (inr p) = bit-past n (rowOf n f) k (rowOf-lt n f) p ∙ sym (e k p)
+
+-- ---- bytes put one after another
+two-bytes : (at x y : ℕ) (img : List ℕ) → at + 2 ≤ length img → set (set img at x) (at + 1) y ≡ over at (x ∷ y ∷ []) img
+two-bytes at x y img h =
+    ap (λ (z : List ℕ). set z (at + 1) y) (over-byte at x img (omega arith))
+    ∙ over-byte (at + 1) y (over at (x ∷ []) img) (rw (over-length at (x ∷ []) img (omega arith)) (omega arith))
+    ∙ over-on at (x ∷ []) img (omega arith) (at + 1) (y ∷ []) refl
+
+drop-zeros : (k n : ℕ) → drop {A = ℕ} k (replicate n 0) ≡ replicate (n - k) 0
+drop-zeros zero n = rw sub-zero
+drop-zeros (suc k) zero = rw zero-sub
+drop-zeros (suc k) (suc n) = rw suc-sub-suc (drop-zeros k n)
+
+-- an AID after its length, and zeros
+pub slot-made : (a : Aid) → over 1 a (length a ∷ replicate 16 0) ≡ writeAid a
+slot-made a = ap (λ (z : List ℕ). length a ∷ (a ++ z)) (ap (λ (z : ℕ). drop z (length a ∷ replicate 16 0)) (one-add (length a)) ∙ drop-zeros (length a) 16)
+
+-- a row, an AID's place and what follows it, and a byte of its list
+pub row-put : (at row x : ℕ) (a tail img : List ℕ) → length a ≤ 16 → at < length img → row + (17 + length tail) ≤ length img
+    → set (over (row + 17) tail (over row (writeAid a) img)) at x ≡ over at (x ∷ []) (over row (writeAid a ++ tail) img)
+row-put at row x a tail img s lt h =
+    let e : length (writeAid a) ≡ 17 = length-aid a s in
+    let q : length (writeAid a ++ tail) ≡ 17 + length tail = length-append (writeAid a) tail ∙ ap (λ (z : ℕ). z + length tail) e in
+    let o : over (row + 17) tail (over row (writeAid a) img) ≡ over row (writeAid a ++ tail) img =
+    over-on row (writeAid a) img (omega arith) (row + 17) tail (omega arith) in
+    let m : length (over row (writeAid a ++ tail) img) ≡ length img = over-length row (writeAid a ++ tail) img (omega arith) in
+    ap (λ (z : List ℕ). set z at x) o ∙ over-byte at x (over row (writeAid a ++ tail) img) (omega arith)
+
+-- a row of bits put at a place of an image
+abbrev Put : Layout → List ℕ → List ℕ → ℕ → ℕ → Type 0
+Put L img img′ at row = img′ ≡ take at img ++ writeNumber (L .width) row (drop (at + L .width) img)
+
+module _ (c : Card) where
+  abbrev L : Layout
+  L = layoutOf c
+
+  pub laid-len : {img : List ℕ} → Laid L img → length img ≡ size L
+  laid-len h = laid-length L (layout-ok c) h
+
+  pub holds-wrote : {img : List ℕ} {t : Tables} → Holds L img t → Wrote L img t
+  holds-wrote h = record { laid = holds-laid L (layout-ok c) h; tables = holds-decode L (layout-ok c) h }
+
+  pub wrote-holds : {img : List ℕ} {t : Tables} → Wrote L img t → Holds L img t
+  wrote-holds {img = img} h = subst (Holds L img) (h .tables) (laid-holds L (h .laid))
+
+  -- the image that code leaves, and the one of a law
+  wrote-as : {img img′ : List ℕ} {t : Tables} → img′ ≡ img → Holds L img t → Wrote L img′ t
+  wrote-as {t = t} e h = subst (λ (z : List ℕ). Wrote L z t) (sym e) (holds-wrote h)
+
+  module _ {img : List ℕ} (h : Laid L img) where
+    abbrev t : Tables
+    t = decode L img
+
+    -- ---- a row of bits
+    put-over : (img′ : List ℕ) (n at place row : ℕ) (f : ℕ → Bool) → row ≡ rowOf n f → at ≡ place → Put L img img′ at row → img′ ≡ over place (writeBits L n f) img
+    put-over img′ n at place row f r a e =
+        e ∙ ap (λ (z : ℕ). take z img ++ writeNumber (L .width) row (drop (z + L .width) img)) a ∙ over-row L n f place row img r
+
+    pub used-wrote : {img′ : List ℕ} (row : ℕ) → row < 2 ^ L .packages → Put L img img′ 3 row → Wrote L img′ (withUsed (bit row) t)
+    used-wrote {img′} row r e =
+        wrote-as (put-over img′ (L .packages) 3 (usedAt L) row (bit row) (row-bits (L .packages) row r) refl e)
+        (holds-used L (layout-ok c) (laid-holds L h) (bit row) (bit-in (L .packages) row r))
+
+    pub provides-wrote : {img′ : List ℕ} (j row at : ℕ) → j < L .packages → row < 2 ^ L .services → at ≡ provAt L j → Put L img img′ at row → Wrote L img′ (withProvides j (bit row) t)
+    provides-wrote {img′} j row at p r a e =
+        wrote-as (put-over img′ (L .services) at (provAt L j) row (bit row) (row-bits (L .services) row r) a e)
+        (holds-provides L (layout-ok c) (laid-holds L h) j (bit row) p (bit-in (L .services) row r))
+
+    -- ---- tokens
+    pub tok-wrote : (j k at : ℕ) (s : Tok) → j < L .packages → k < L .services → at ≡ tokAt L j k → Wrote L (set (set img at (s .itf)) (at + 1) (s .mth)) (withTok j k s t)
+    tok-wrote j k at s p q a =
+        wrote-as (two-bytes at (s .itf) (s .mth) img (tok-len c j k (length img) at (laid-len h) a p q) ∙ ap (λ (z : ℕ). over z (writeTok s) img) a)
+        (holds-tok L (layout-ok c) (laid-holds L h) j k s p q)
+
+    -- ---- an AID
+    pub aid-wrote : {img′ : List ℕ} (n at : ℕ) (a : Aid) → n < L .packages → length a ≤ 16 → at ≡ aidAt L n → img′ ≡ over at (writeAid a) img → Wrote L img′ (withAid n a t)
+    aid-wrote n at a p s q e = wrote-as (e ∙ ap (λ (z : ℕ). over z (writeAid a) img) q) (holds-aid L (layout-ok c) (laid-holds L h) n a p s)
+
+    -- ---- a row more
+    module _ (at : ℕ) (a : at ≡ unmetAt L) where
+      unmet-counted : getD img at 0 ≡ length (t .unmet)
+      unmet-counted = ap (λ (z : ℕ). getD img z 0) a ∙ unmet-count L (layout-ok c) h
+
+      pub unmet-room : length (t .unmet) < L .capacity → (getD img at 0 < 255) × (at + (1 + getD img at 0 * 20) + 20 ≤ length img)
+      unmet-room lt =
+          let l = limits c in
+          (rw unmet-counted (omega arith), rw (unmet-counted, a, laid-len h) (unmet-in c (length (t .unmet)) lt))
+
+      pub unmet-wrote : {img′ : List ℕ} (u : Unmet) → length (u .callee) ≤ 16 → length (t .unmet) < L .capacity
+          → img′ ≡ over at ((getD img at 0 + 1) ∷ []) (over (at + (1 + getD img at 0 * 20)) (writeUnmet u) img) → Wrote L img′ (withUnmet (t .unmet ++ (u ∷ [])) t)
+      unmet-wrote u s lt e =
+          wrote-as (e ∙ ap₂ (λ (x n : ℕ). over x ((n + 1) ∷ []) (over (x + (1 + n * 20)) (writeUnmet u) img)) a unmet-counted)
+          (holds-unmet-append L (layout-ok c) (laid-holds L h) u s lt)
+
+    module _ (at : ℕ) (a : at ≡ waitingAt L) where
+      waiting-counted : getD img at 0 ≡ length (t .waiting)
+      waiting-counted = ap (λ (z : ℕ). getD img z 0) a ∙ waiting-count L (layout-ok c) h
+
+      pub waiting-room : length (t .waiting) < L .capacity → (getD img at 0 < 255) × (at + (1 + getD img at 0 * 19) + 19 ≤ length img)
+      waiting-room lt =
+          let l = limits c in
+          (rw waiting-counted (omega arith), rw (waiting-counted, a, laid-len h) (waiting-in c (length (t .waiting)) lt))
+
+      pub waiting-wrote : {img′ : List ℕ} (v : Waiting) → length (v .caller) ≤ 16 → length (t .waiting) < L .capacity
+          → img′ ≡ over at ((getD img at 0 + 1) ∷ []) (over (at + (1 + getD img at 0 * 19)) (writeWaiting v) img) → Wrote L img′ (withWaiting (t .waiting ++ (v ∷ [])) t)
+      waiting-wrote v s lt e =
+          wrote-as (e ∙ ap₂ (λ (x n : ℕ). over x ((n + 1) ∷ []) (over (x + (1 + n * 19)) (writeWaiting v) img)) a waiting-counted)
+          (holds-waiting-append L (layout-ok c) (laid-holds L h) v s lt)
+
+    -- ---- rows dropped
+    module _ (at n : ℕ) (a : at ≡ unmetAt L) (b : n ≡ 1 + L .capacity * 20) where
+      unmet-part : take n (drop at img) ≡ writeList L writeUnmet 20 (t .unmet)
+      unmet-part = ap₂ (λ (x y : ℕ). take x (drop y img)) b a ∙ unmet-is L (layout-ok c) h
+
+      unmet-wide : (u : Unmet) → In u (t .unmet) → length (writeUnmet u) ≡ 20
+      unmet-wide u i = length-unmet u (h .room .unmet-short u i)
+
+      pub unmet-area : IsArea 20 (take n (drop at img)) × (getD (take n (drop at img)) 0 0 ≤ 32)
+      unmet-area = lent-area L writeUnmet 20 (t .unmet) unmet-wide (h .room .unmet-fits) at n img unmet-part (limits c .capacity-low)
+
+      pub unmet-dropped : (mask : ℕ) {new : List ℕ} → new ≡ dropped 20 mask (take n (drop at img))
+          → Wrote L (take at img ++ (new ++ drop n (drop at img))) (withUnmet (keepRows mask (t .unmet)) t)
+      unmet-dropped mask e =
+          let l = keepRows mask (t .unmet) in
+          let fits : length l ≤ L .capacity = omega (arith, kept-short mask 0 (t .unmet), h .room .unmet-fits) in
+          wrote-as
+          (lent-dropped L writeUnmet 20 (t .unmet) unmet-wide (h .room .unmet-fits) at n img unmet-part mask b e ∙ ap (λ (z : ℕ). over z (writeList L writeUnmet 20 l) img) a)
+          (holds-unmet L (layout-ok c) (laid-holds L h) l fits (λ u i. h .room .unmet-short u (kept-in mask 0 (t .unmet) i)))
+
+    module _ (at n : ℕ) (a : at ≡ waitingAt L) (b : n ≡ 1 + L .capacity * 19) where
+      waiting-part : take n (drop at img) ≡ writeList L writeWaiting 19 (t .waiting)
+      waiting-part = ap₂ (λ (x y : ℕ). take x (drop y img)) b a ∙ waiting-is L (layout-ok c) h
+
+      waiting-wide : (u : Waiting) → In u (t .waiting) → length (writeWaiting u) ≡ 19
+      waiting-wide u i = length-waiting u (h .room .waiting-short u i)
+
+      pub waiting-area : IsArea 19 (take n (drop at img)) × (getD (take n (drop at img)) 0 0 ≤ 32)
+      waiting-area = lent-area L writeWaiting 19 (t .waiting) waiting-wide (h .room .waiting-fits) at n img waiting-part (limits c .capacity-low)
+
+      pub waiting-dropped : (mask : ℕ) {new : List ℕ} → new ≡ dropped 19 mask (take n (drop at img))
+          → Wrote L (take at img ++ (new ++ drop n (drop at img))) (withWaiting (keepRows mask (t .waiting)) t)
+      waiting-dropped mask e =
+          let l = keepRows mask (t .waiting) in
+          let fits : length l ≤ L .capacity = omega (arith, kept-short mask 0 (t .waiting), h .room .waiting-fits) in
+          wrote-as
+          (lent-dropped L writeWaiting 19 (t .waiting) waiting-wide (h .room .waiting-fits) at n img waiting-part mask b e ∙ ap (λ (z : ℕ). over z (writeList L writeWaiting 19 l) img) a)
+          (holds-waiting L (layout-ok c) (laid-holds L h) l fits (λ u i. h .room .waiting-short u (kept-in mask 0 (t .waiting) i)))
+
+    -- ---- an entry of a table
+    module _ (tb : Table) (i j at : ℕ) (p : i < L .packages) (q : j < L .packages) (a : at ≡ entryAt L tb i j) where
+      pub entry-wrote : {img′ : List ℕ} (row : ℕ) → row < 2 ^ L .services → Put L img img′ at row → Wrote L img′ (withEntry tb i j (bit row) t)
+      entry-wrote {img′} row r e =
+          wrote-as (put-over img′ (L .services) at (entryAt L tb i j) row (bit row) (row-bits (L .services) row r) a e)
+          (holds-entry L (layout-ok c) (laid-holds L h) tb i j (bit row) p q (bit-in (L .services) row r))
+
+      -- bit k of it changed to v
+      module _ (k : ℕ) (l : k < L .services) (v : Bool) (row : ℕ) (is : row ≡ readNumber 0 (take (L .width) (drop at img))) where
+        abbrev f : ℕ → Bool
+        f = tableOf tb t i j
+
+        row-is-entry : row ≡ rowOf (L .services) f
+        row-is-entry = is ∙ ap (λ (z : ℕ). readNumber 0 (take (L .width) (drop z img))) a ∙ entry-number L (layout-ok c) h tb i j p q
+
+        off : (z : ℕ) → L .services ≤ z → f z ≡ false
+        off z s = T-false (f z) (λ b. not-le-of-lt (entry-in L t (h .room) tb i j z b .2) s)
+
+        same : (z : ℕ) → bit row z ≡ f z
+        same z = ap (λ (r : ℕ). bit r z) row-is-entry ∙ go (in-or-off z (L .services))
+          where
+            go : (z < L .services) ⊎ (L .services ≤ z) → bit (rowOf (L .services) f) z ≡ f z
+            go (inl s) = bit-rowOf (L .services) f z s
+            go (inr s) = bit-past (L .services) (rowOf (L .services) f) z (rowOf-lt (L .services) f) s ∙ sym (off z s)
+
+        put-off : (z : ℕ) → L .services ≤ z → put k v f z ≡ false
+        put-off z s = ap (λ (b : Bool). cond b v (f z)) (ne-eqb z k (λ e. not-le-of-lt l (subst (λ (x : ℕ). L .services ≤ x) e s))) ∙ off z s
+
+        module _ (row′ : ℕ) (g : ℕ → Bool) (e : row′ ≡ rowOf 16 g) (u : g ≡ put k v (bit row)) where
+          bit-row : row′ ≡ rowOf (L .services) (put k v f)
+          bit-row = e ∙ ap (rowOf 16) u ∙ ap (λ (g : ℕ → Bool). rowOf 16 (put k v g)) (λ r z. same z r) ∙ row-narrow (L .services) 16 (put k v f) (limits c .services-low) put-off
+
+          pub bit-fits : row′ < 256 ^ L .width
+          bit-fits = services-row c row′ (subst (λ (x : ℕ). x < 2 ^ L .services) (sym bit-row) (rowOf-lt (L .services) (put k v f)))
+
+          pub bit-wrote : {img′ : List ℕ} → Put L img img′ at row′ → Wrote L img′ (withTable tb (put3 i j k v (tableOf tb t)) t)
+          bit-wrote {img′} w =
+              subst (λ (b : ℕ → ℕ → ℕ → Bool). Wrote L img′ (withTable tb b t)) (entry-put3 i j k v (tableOf tb t))
+              (wrote-as (put-over img′ (L .services) at (entryAt L tb i j) row′ (put k v f) bit-row a w)
+              (holds-entry L (layout-ok c) (laid-holds L h) tb i j (put k v f) p q (λ z s. in-of z s (in-or-off z (L .services)))))
+            where
+              in-of : (z : ℕ) → T (put k v f z) → (z < L .services) ⊎ (L .services ≤ z) → z < L .services
+              in-of z s (inl o) = o
+              in-of z s (inr o) = absurd (false-T (put-off z o) s)
+
+-- ---- a bit set or clear, as `bits` has it
+pub bit-set : (k : ℕ) (f : ℕ → Bool) → (λ (z : ℕ). eqb z k || f z) ≡ put k true f
+bit-set k f = λ r z. go (eqb z k) (f z) r
+  where
+    go : (b x : Bool) → b || x ≡ cond b true x
+    go true x = refl
+    go false x = refl
+
+pub bit-clear : (k : ℕ) (f : ℕ → Bool) → (λ (z : ℕ). not (eqb z k) && f z) ≡ put k false f
+bit-clear k f = λ r z. go (eqb z k) (f z) r
+  where
+    go : (b x : Bool) → not b && x ≡ cond b false x
+    go true x = refl
+    go false x = refl
+
+-- what writing code leaves: `search writes` at each need
+pub ruleset writes = (laid-len, used-wrote, provides-wrote, tok-wrote, aid-wrote, unmet-wrote, waiting-wrote, entry-wrote, bit-set, bit-clear, bit-fits, bit-wrote, geo)

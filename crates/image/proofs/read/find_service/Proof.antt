@@ -1,0 +1,43 @@
+-- `image::read::find_service` meets its contract.
+use Prim.Native.Nat.{_-_, _≤_}
+use mathlib.Core.Path.{_≡_}
+use mathlib.Core.Bool.{_&&_}
+use mathlib.Core.Option.{none}
+use Rattle.policy.specs.Lists.{first, upto}
+use Rattle.policy.specs.Contract.{eqTok}
+use Rattle.policy.specs.Tables.{decode}
+use Rattle.policy.specs.Lookup.{serviceOf}
+use Rattle.bits.proofs.Loops.{early}
+use Rattle.geometry.specs.Geometry.{layoutOf}
+use Rattle.image.specs.Read.{tokens}
+use Rattle.image.proofs.read.find_service.Statement.{statement}
+use Rattle.image.proofs.read.find_service.Tie as tie
+
+abbrev Inv-loop : tie.InvT-loop
+Inv-loop img c j interface method n k₀ k = (k ≤ n) × (first (λ x. decode (layoutOf c) img .provides j x && eqTok (decode (layoutOf c) img .tok j x) (tokens interface method)) (upto k) ≡ none)
+
+abbrev μ-loop : tie.MeasureT-loop
+μ-loop img c j interface method n k₀ k = n - k
+
+returns : tie.Need-returns Inv-loop μ-loop
+unfolding serviceOf
+returns c = search early
+
+returns-2 : tie.Need-returns-2 Inv-loop μ-loop
+unfolding serviceOf
+returns-2 c = search early
+
+pub find-service-spec : {M : Type 1} → statement M
+find-service-spec =
+    tie.close
+    (tie.spec
+    Inv-loop
+    μ-loop
+    (λ c κs. search early)
+    (λ c. search early)
+    (λ c κs. search early)
+    returns
+    (λ c. search early)
+    (λ c. search early)
+    (λ c. search early)
+    returns-2)

@@ -1,0 +1,170 @@
+// Reading the places of a laid image: rows of bits, and numbers found by AID and tokens.
+ghost use mathlib.Core.Path.{_≡_};
+ghost use mathlib.Core.Bool.{_&&_};
+ghost use Prim.Native.Nat.{_+_, _≤_, _<_};
+ghost use lib.ListN.{length, getD};
+ghost use Rattle.policy.specs.Contract.{eqAid, eqTok};
+ghost use Rattle.policy.specs.Tables.{rowOf, decode};
+ghost use Rattle.policy.specs.Lookup.{numberOf, serviceOf, serverOf, freeNumber, freeService};
+ghost use Rattle.geometry.specs.Geometry.{layoutOf};
+ghost use Rattle.image.specs.Laid.{Laid, tableOf};
+ghost use Rattle.image.specs.Read.{numberOr, placeOr, tokens, asked, aidIn, tokensIn};
+use geometry::Card;
+use geometry::Table;
+
+// A service of the card: package and service number.
+pub struct Place {
+    pub callee: usize,
+    pub service: usize,
+}
+
+// The used package numbers.
+pub fn used_row(img: &[u8], c: Card) -> u16
+    requires { ⌜ Laid (layoutOf c) (now img) ⌝ }
+    ensures { λ r. ⌜ r ≡ rowOf (layoutOf c .packages) (decode (layoutOf c) (now (img .entry)) .used) ⌝ }
+{
+    geometry::row_at(img, c, 3)
+}
+
+// The services that package j provides.
+pub fn provided_row(img: &[u8], c: Card, j: usize) -> u16
+    requires laid { ⌜ Laid (layoutOf c) (now img) ⌝ }
+    requires inside { ⌜ j < layoutOf c .packages ⌝ }
+    ensures { λ r. ⌜ r ≡ rowOf (layoutOf c .services) (decode (layoutOf c) (now (img .entry)) .provides j) ⌝ }
+{
+    let at = geometry::prov_at(c, j);
+    geometry::row_at(img, c, at)
+}
+
+// The entry of a table in row i, column j.
+pub fn entry(img: &[u8], c: Card, tb: Table, i: usize, j: usize) -> u16
+    requires laid { ⌜ Laid (layoutOf c) (now img) ⌝ }
+    requires inside { ⌜ (i < layoutOf c .packages) × (j < layoutOf c .packages) ⌝ }
+    ensures { λ r. ⌜ r ≡ rowOf (layoutOf c .services) (tableOf tb (decode (layoutOf c) (now (img .entry))) i j) ⌝ }
+{
+    let at = geometry::entry_at(c, tb, i, j);
+    geometry::row_at(img, c, at)
+}
+
+// The place at `at` holds this AID.
+pub fn aid_is(img: &[u8], at: usize, aid: &[u8]) -> bool
+    requires { ⌜ (at + 17 ≤ length (now img)) × (getD (now img) at 0 ≤ 16) ⌝ }
+    ensures { λ r. ⌜ r ≡ eqAid (aidIn (now (img .entry)) at) (now (aid .entry)) ⌝ }
+{
+    let n = img[at] as usize;
+    if n != aid.len() {
+        return false;
+    }
+    rows::same_at(img, at + 1, aid)
+}
+
+// The tokens at `at` are these.
+pub fn tokens_are(img: &[u8], at: usize, interface: u8, method: u8) -> bool
+    requires { ⌜ at + 2 ≤ length (now img) ⌝ }
+    ensures { λ r. ⌜ r ≡ eqTok (tokensIn (now (img .entry)) at) (tokens interface method) ⌝ }
+{
+    (img[at] == interface) & (img[at + 1] == method)
+}
+
+// Package number n is used and has this AID.
+pub fn is_package(img: &[u8], c: Card, n: usize, aid: &[u8]) -> bool
+    requires laid { ⌜ Laid (layoutOf c) (now img) ⌝ }
+    requires inside { ⌜ n < layoutOf c .packages ⌝ }
+    ensures { λ r. ⌜ r ≡ decode (layoutOf c) (now (img .entry)) .used n && eqAid (decode (layoutOf c) (now (img .entry)) .aid n) (now (aid .entry)) ⌝ }
+{
+    let row = used_row(img, c);
+    if !bits::has_bit(row, n) {
+        return false;
+    }
+    let at = geometry::aid_at(c, n);
+    aid_is(img, at, aid)
+}
+
+// The number of the package with this AID; the number of packages where there is none.
+pub fn find_package(img: &[u8], c: Card, aid: &[u8]) -> usize
+    requires { ⌜ Laid (layoutOf c) (now img) ⌝ }
+    ensures { λ r. ⌜ r ≡ numberOr (layoutOf c .packages) (numberOf (layoutOf c) (decode (layoutOf c) (now (img .entry))) (now (aid .entry))) ⌝ }
+{
+    let n = geometry::packages(c);
+    for i in 0..n {
+        if is_package(img, c, i, aid) {
+            return i;
+        }
+    }
+    n
+}
+
+// Package j provides service k, and its tokens are these.
+pub fn is_service(img: &[u8], c: Card, j: usize, interface: u8, method: u8, k: usize) -> bool
+    requires laid { ⌜ Laid (layoutOf c) (now img) ⌝ }
+    requires inside { ⌜ (j < layoutOf c .packages) × (k < layoutOf c .services) ⌝ }
+    ensures { λ r. ⌜ r ≡ decode (layoutOf c) (now (img .entry)) .provides j k && eqTok (decode (layoutOf c) (now (img .entry)) .tok j k) (tokens interface method) ⌝ }
+{
+    let row = provided_row(img, c, j);
+    if !bits::has_bit(row, k) {
+        return false;
+    }
+    let at = geometry::tok_at(c, j, k);
+    tokens_are(img, at, interface, method)
+}
+
+// The number of package j's service with these tokens; the number of services where there is none.
+pub fn find_service(img: &[u8], c: Card, j: usize, interface: u8, method: u8) -> usize
+    requires laid { ⌜ Laid (layoutOf c) (now img) ⌝ }
+    requires inside { ⌜ j < layoutOf c .packages ⌝ }
+    ensures { λ r. ⌜ r ≡ numberOr (layoutOf c .services) (serviceOf (layoutOf c) (decode (layoutOf c) (now (img .entry))) j (tokens interface method)) ⌝ }
+{
+    let n = geometry::services(c);
+    for k in 0..n {
+        if is_service(img, c, j, interface, method, k) {
+            return k;
+        }
+    }
+    n
+}
+
+// Where the service of this AID with these tokens stands; the number of packages and that of services where it stands nowhere.
+pub fn find_server(img: &[u8], c: Card, aid: &[u8], interface: u8, method: u8) -> Place
+    requires { ⌜ Laid (layoutOf c) (now img) ⌝ }
+    ensures { λ r. ⌜ r ≡ placeOr (layoutOf c) (serverOf (layoutOf c) (decode (layoutOf c) (now (img .entry))) (asked (now (aid .entry)) interface method)) ⌝ }
+{
+    let n = geometry::packages(c);
+    let m = geometry::services(c);
+    let j = find_package(img, c, aid);
+    if j >= n {
+        return Place {
+            callee: n,
+            service: m,
+        };
+    }
+    let k = find_service(img, c, j, interface, method);
+    if k >= m {
+        return Place {
+            callee: n,
+            service: m,
+        };
+    }
+    Place {
+        callee: j,
+        service: k,
+    }
+}
+
+// The lowest unused package number; the number of packages where all are used.
+pub fn free_number(img: &[u8], c: Card) -> usize
+    requires { ⌜ Laid (layoutOf c) (now img) ⌝ }
+    ensures { λ r. ⌜ r ≡ numberOr (layoutOf c .packages) (freeNumber (layoutOf c) (decode (layoutOf c) (now (img .entry)))) ⌝ }
+{
+    let row = used_row(img, c);
+    bits::lowest_clear(row)
+}
+
+// The lowest service number that package j does not provide; the number of services where it provides all.
+pub fn free_service(img: &[u8], c: Card, j: usize) -> usize
+    requires laid { ⌜ Laid (layoutOf c) (now img) ⌝ }
+    requires inside { ⌜ j < layoutOf c .packages ⌝ }
+    ensures { λ r. ⌜ r ≡ numberOr (layoutOf c .services) (freeService (layoutOf c) (decode (layoutOf c) (now (img .entry))) j) ⌝ }
+{
+    let row = provided_row(img, c, j);
+    bits::lowest_clear(row)
+}

@@ -1,0 +1,174 @@
+// Writing the places of a laid image: afterwards it is laid, and its tables are those before with one part changed.
+ghost use mathlib.Core.Path.{_≡_};
+ghost use mathlib.Core.Bool.{true, false};
+ghost use mathlib.Core.List.{[], _∷_, _++_};
+ghost use Prim.Native.Nat.{_+_, _*_, _^_, _≤_, _<_};
+ghost use lib.ListN.{length, getD};
+ghost use Rattle.policy.specs.Tables.{bit, writeAid, decode};
+ghost use Rattle.policy.specs.Draft.{put3};
+ghost use Rattle.geometry.specs.Geometry.{layoutOf};
+ghost use Rattle.rows.specs.Area.{keepRows};
+ghost use Rattle.image.specs.Laid.{Laid, tableOf, over, withUsed, withAid, withTok, withProvides, withTable, withEntry, withUnmet, withWaiting};
+ghost use Rattle.image.specs.Wrote.{Wrote};
+use geometry::Card;
+use geometry::Table;
+
+// The entry of a table in row i, column j.
+pub fn set_entry(img: &mut [u8], c: Card, tb: Table, i: usize, j: usize, row: u16)
+    requires laid { ⌜ Laid (layoutOf c) (now img) ⌝ }
+    requires inside { ⌜ (i < layoutOf c .packages) × (j < layoutOf c .packages) ⌝ }
+    requires fits { ⌜ row < 2 ^ layoutOf c .services ⌝ }
+    ensures { λ _. ⌜ Wrote (layoutOf c) (now (img .exit)) (withEntry tb i j (bit row) (decode (layoutOf c) (now (img .entry)))) ⌝ }
+{
+    let at = geometry::entry_at(c, tb, i, j);
+    geometry::put_row(img, c, at, row);
+}
+
+// Bit k of that entry set.
+pub fn set_bit(img: &mut [u8], c: Card, tb: Table, i: usize, j: usize, k: usize)
+    requires laid { ⌜ Laid (layoutOf c) (now img) ⌝ }
+    requires inside { ⌜ (i < layoutOf c .packages) × (j < layoutOf c .packages) × (k < layoutOf c .services) ⌝ }
+    ensures { λ _. ⌜ Wrote (layoutOf c) (now (img .exit))
+        (withTable tb (put3 i j k true (tableOf tb (decode (layoutOf c) (now (img .entry))))) (decode (layoutOf c) (now (img .entry)))) ⌝ }
+{
+    let at = geometry::entry_at(c, tb, i, j);
+    let row = geometry::row_at(img, c, at);
+    geometry::put_row(img, c, at, bits::with_bit(row, k));
+}
+
+// Bit k of that entry clear.
+pub fn clear_bit(img: &mut [u8], c: Card, tb: Table, i: usize, j: usize, k: usize)
+    requires laid { ⌜ Laid (layoutOf c) (now img) ⌝ }
+    requires inside { ⌜ (i < layoutOf c .packages) × (j < layoutOf c .packages) × (k < layoutOf c .services) ⌝ }
+    ensures { λ _. ⌜ Wrote (layoutOf c) (now (img .exit))
+        (withTable tb (put3 i j k false (tableOf tb (decode (layoutOf c) (now (img .entry))))) (decode (layoutOf c) (now (img .entry)))) ⌝ }
+{
+    let at = geometry::entry_at(c, tb, i, j);
+    let row = geometry::row_at(img, c, at);
+    geometry::put_row(img, c, at, bits::without_bit(row, k));
+}
+
+// The used package numbers.
+pub fn set_used(img: &mut [u8], c: Card, row: u16)
+    requires laid { ⌜ Laid (layoutOf c) (now img) ⌝ }
+    requires fits { ⌜ row < 2 ^ layoutOf c .packages ⌝ }
+    ensures { λ _. ⌜ Wrote (layoutOf c) (now (img .exit)) (withUsed (bit row) (decode (layoutOf c) (now (img .entry)))) ⌝ }
+{
+    geometry::put_row(img, c, 3, row);
+}
+
+// The services that package j provides.
+pub fn set_provided(img: &mut [u8], c: Card, j: usize, row: u16)
+    requires laid { ⌜ Laid (layoutOf c) (now img) ⌝ }
+    requires inside { ⌜ j < layoutOf c .packages ⌝ }
+    requires fits { ⌜ row < 2 ^ layoutOf c .services ⌝ }
+    ensures { λ _. ⌜ Wrote (layoutOf c) (now (img .exit)) (withProvides j (bit row) (decode (layoutOf c) (now (img .entry)))) ⌝ }
+{
+    let at = geometry::prov_at(c, j);
+    geometry::put_row(img, c, at, row);
+}
+
+// The tokens of service k of package j.
+pub fn put_tok(img: &mut [u8], c: Card, j: usize, k: usize, interface: u8, method: u8)
+    requires laid { ⌜ Laid (layoutOf c) (now img) ⌝ }
+    requires inside { ⌜ (j < layoutOf c .packages) × (k < layoutOf c .services) ⌝ }
+    ensures { λ _. ⌜ Wrote (layoutOf c) (now (img .exit)) (withTok j k (record { itf = interface; mth = method }) (decode (layoutOf c) (now (img .entry)))) ⌝ }
+{
+    let at = geometry::tok_at(c, j, k);
+    img[at] = interface;
+    img[at + 1] = method;
+}
+
+// An AID's place: length, bytes, zero fill.
+fn put_slot(img: &mut [u8], at: usize, aid: &[u8])
+    requires { ⌜ (at + 17 ≤ length (now img)) × (length (now aid) ≤ 16) ⌝ }
+    ensures { λ _. ⌜ now (img .exit) ≡ over at (writeAid (now (aid .entry))) (now (img .entry)) ⌝ }
+{
+    let mut slot = [0u8; 17];
+    slot[0] = aid.len() as u8;
+    rows::put(&mut slot, 1, aid);
+    rows::put(img, at, &slot);
+}
+
+// The AID of package n.
+pub fn put_aid(img: &mut [u8], c: Card, n: usize, aid: &[u8])
+    requires laid { ⌜ Laid (layoutOf c) (now img) ⌝ }
+    requires inside { ⌜ n < layoutOf c .packages ⌝ }
+    requires short { ⌜ length (now aid) ≤ 16 ⌝ }
+    ensures { λ _. ⌜ Wrote (layoutOf c) (now (img .exit)) (withAid n (now (aid .entry)) (decode (layoutOf c) (now (img .entry)))) ⌝ }
+{
+    let at = geometry::aid_at(c, n);
+    put_slot(img, at, aid);
+}
+
+// No AID for package n.
+pub fn clear_aid(img: &mut [u8], c: Card, n: usize)
+    requires laid { ⌜ Laid (layoutOf c) (now img) ⌝ }
+    requires inside { ⌜ n < layoutOf c .packages ⌝ }
+    ensures { λ _. ⌜ Wrote (layoutOf c) (now (img .exit)) (withAid n [] (decode (layoutOf c) (now (img .entry)))) ⌝ }
+{
+    let at = geometry::aid_at(c, n);
+    rows::put(img, at, &[0u8; 17]);
+}
+
+// A row of `width` bytes after the last one of the list at `at`: an AID's place, then `tail`; and the count.
+fn append(img: &mut [u8], at: usize, width: usize, aid: &[u8], tail: &[u8])
+    requires short { ⌜ length (now aid) ≤ 16 ⌝ }
+    requires count { ⌜ getD (now img) at 0 < 255 ⌝ }
+    requires room { ⌜ at + (1 + getD (now img) at 0 * width) + (17 + length (now tail)) ≤ length (now img) ⌝ }
+    ensures { λ _. ⌜ now (img .exit) ≡ over at ((getD (now (img .entry)) at 0 + 1) ∷ [])
+        (over (at + (1 + getD (now (img .entry)) at 0 * width)) (writeAid (now (aid .entry)) ++ now (tail .entry)) (now (img .entry))) ⌝ }
+{
+    let n = img[at];
+    let row = at + (1 + (n as usize) * width);
+    put_slot(img, row, aid);
+    rows::put(img, row + 17, tail);
+    img[at] = n + 1;
+}
+
+// One unmet call more: package number `caller` calls a service of the package `aid`.
+pub fn append_unmet(img: &mut [u8], c: Card, aid: &[u8], interface: u8, method: u8, caller: usize)
+    requires laid { ⌜ Laid (layoutOf c) (now img) ⌝ }
+    requires room { ⌜ length (decode (layoutOf c) (now img) .unmet) < layoutOf c .capacity ⌝ }
+    requires short { ⌜ length (now aid) ≤ 16 ⌝ }
+    requires inside { ⌜ caller < layoutOf c .packages ⌝ }
+    ensures { λ _. ⌜ Wrote (layoutOf c) (now (img .exit)) (withUnmet (decode (layoutOf c) (now (img .entry)) .unmet
+        ++ (record { callee = now (aid .entry); tok = record { itf = interface; mth = method }; caller = caller } ∷ [])) (decode (layoutOf c) (now (img .entry)))) ⌝ }
+{
+    let at = geometry::unmet_at(c);
+    append(img, at, 20, aid, &[interface, method, caller as u8]);
+}
+
+// One waiting grant more: of service number `service` of package number `callee` to the package `aid`.
+pub fn append_waiting(img: &mut [u8], c: Card, aid: &[u8], callee: usize, service: usize)
+    requires laid { ⌜ Laid (layoutOf c) (now img) ⌝ }
+    requires room { ⌜ length (decode (layoutOf c) (now img) .waiting) < layoutOf c .capacity ⌝ }
+    requires short { ⌜ length (now aid) ≤ 16 ⌝ }
+    requires inside { ⌜ (callee < layoutOf c .packages) × (service < layoutOf c .services) ⌝ }
+    ensures { λ _. ⌜ Wrote (layoutOf c) (now (img .exit)) (withWaiting (decode (layoutOf c) (now (img .entry)) .waiting
+        ++ (record { caller = now (aid .entry); callee = callee; service = service } ∷ [])) (decode (layoutOf c) (now (img .entry)))) ⌝ }
+{
+    let at = geometry::waiting_at(c);
+    append(img, at, 19, aid, &[callee as u8, service as u8]);
+}
+
+// The unmet calls whose bit of the mask is clear, closed up in order.
+pub fn drop_unmet(img: &mut [u8], c: Card, mask: u32)
+    requires { ⌜ Laid (layoutOf c) (now img) ⌝ }
+    ensures { λ _. ⌜ Wrote (layoutOf c) (now (img .exit))
+        (withUnmet (keepRows mask (decode (layoutOf c) (now (img .entry)) .unmet)) (decode (layoutOf c) (now (img .entry)))) ⌝ }
+{
+    let at = geometry::unmet_at(c);
+    let end = geometry::waiting_at(c);
+    rows::drop_rows(&mut img[at..end], 20, mask);
+}
+
+// The waiting grants whose bit of the mask is clear, closed up in order.
+pub fn drop_waiting(img: &mut [u8], c: Card, mask: u32)
+    requires { ⌜ Laid (layoutOf c) (now img) ⌝ }
+    ensures { λ _. ⌜ Wrote (layoutOf c) (now (img .exit))
+        (withWaiting (keepRows mask (decode (layoutOf c) (now (img .entry)) .waiting)) (decode (layoutOf c) (now (img .entry)))) ⌝ }
+{
+    let at = geometry::waiting_at(c);
+    rows::drop_rows(&mut img[at..], 19, mask);
+}
