@@ -5,8 +5,10 @@ pub mod Access
 pub mod Replace
 pub mod Over
 pub mod Append
+pub mod RowBits
 pub mod Drops
 pub mod Writes
+pub mod Clears
 pub mod Seen
 pub mod Numbers
 pub mod Masks

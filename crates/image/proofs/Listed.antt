@@ -2,7 +2,7 @@
 use Prim.Native.Nat.{ℕ, _+_, _*_, _≤_, _<_}
 use native.Mathlib.Omega.{arith}
 use native.Mathlib.Nat.{add-assoc}
-use mathlib.Core.Path.{_≡_, refl, sym, ap, ap₂, _∙_}
+use mathlib.Core.Path.{_≡_, sym, ap, _∙_}
 use mathlib.Core.Bool.{Bool, true, false, not, _&&_, and-false, and-true}
 use mathlib.Core.List.{List}
 use lib.ListN.{length, getD, take, drop}
@@ -11,18 +11,18 @@ use mir.Val.{Fits}
 use borrow.Author.Needs.{needs}
 use Rattle.policy.specs.Contract.{Aid, eqAid, Tok, eqTok}
 use Rattle.policy.specs.Layout.{unmetAt, waitingAt}
-use Rattle.policy.specs.Tables.{Tables, Unmet, Waiting, decode}
+use Rattle.policy.specs.Tables.{Tables, decode}
 use Rattle.policy.proofs.Sets.{false-T}
 use Rattle.geometry.specs.declared.Card.{Card}
 use Rattle.geometry.specs.Geometry.{layoutOf}
-use Rattle.geometry.proofs.Bounds.{layout-ok, limits, unmet-end, waiting-end, unmet-in, waiting-in}
+use Rattle.geometry.proofs.Bounds.{layout-ok, limits, unmet-in, waiting-in}
 use Rattle.image.specs.Laid.{Laid}
 use Rattle.image.specs.Read.{tokens, aidIn, tokensIn, noUnmet, unmetRow, noWaiting, waitingRow}
 use Rattle.image.proofs.Access as at
-use Rattle.image.proofs.Seen.{laid-size}
+use Rattle.image.proofs.Seen.{aid-held, laid-size}
 use Rattle.image.proofs.Masks.{mask-start, mask-turn, mask-doubles, mask-adds, mask-end}
 
--- the tokens tell, or the AID does
+-- ---- a test of the tokens first, then of the AID
 other : (b : Bool) (x y : Bool) → b ≡ y → not b ≡ true → false ≡ x && y
 other false x y e q = sym (and-false x) ∙ ap (λ (z : Bool). x && z) e
 other true x y e q = absurd (false-T (sym q) tt)
@@ -34,10 +34,6 @@ alike false r x y e q z = absurd (false-T q tt)
 module _ (c : Card) (img : List ℕ) (h : Laid (layoutOf c) img) where
   abbrev t : Tables
   t = decode (layoutOf c) img
-
-  -- the AID that a place holds, where its length and its bytes are those of a
-  aid-held : (at : ℕ) (a : Aid) → getD img at 0 ≡ length a → take (length a) (drop (at + 1) img) ≡ a → aidIn img at ≡ a
-  aid-held at a p q = ap (λ (n : ℕ). take n (drop (at + 1) img)) p ∙ q
 
   -- ---- unmet calls: their count
   pub unmet-low : length (decode (layoutOf c) img .unmet) ≤ 32
@@ -77,7 +73,9 @@ module _ (c : Card) (img : List ℕ) (h : Laid (layoutOf c) img) where
       callee-short = omega (arith, callee-length, at.callee-short (layoutOf c) (layout-ok c) h r noUnmet p)
 
       callee-seen : aidIn img a ≡ unmetRow t r .callee
-      callee-seen = aid-held a (unmetRow t r .callee) callee-length (ap (λ (x : ℕ). take (length (unmetRow t r .callee)) (drop (x + 1) img)) q ∙ at.unmet-bytes (layoutOf c) (layout-ok c) h r noUnmet p)
+      callee-seen =
+          aid-held img a (unmetRow t r .callee) callee-length
+          (ap (λ (x : ℕ). take (length (unmetRow t r .callee)) (drop (x + 1) img)) q ∙ at.unmet-bytes (layoutOf c) (layout-ok c) h r noUnmet p)
 
       tok-seen : tokensIn img (a + 17) ≡ unmetRow t r .tok
       tok-seen =
@@ -95,7 +93,8 @@ module _ (c : Card) (img : List ℕ) (h : Laid (layoutOf c) img) where
         pub asks-seen : (v : Bool) → not b ≡ false → v ≡ eqAid (aidIn img a) aid
             → v ≡ eqAid (unmetRow (decode (layoutOf c) img) r .callee) aid && eqTok (unmetRow (decode (layoutOf c) img) r .tok) (tokens x y)
         asks-seen v g z =
-            alike b v (eqAid (unmetRow t r .callee) aid) (eqTok (unmetRow t r .tok) (tokens x y)) (e ∙ ap (λ (s : Tok). eqTok s (tokens x y)) tok-seen) g (z ∙ ap (λ (s : Aid). eqAid s aid) callee-seen)
+            alike b v (eqAid (unmetRow t r .callee) aid) (eqTok (unmetRow t r .tok) (tokens x y)) (e ∙ ap (λ (s : Tok). eqTok s (tokens x y)) tok-seen) g
+            (z ∙ ap (λ (s : Aid). eqAid s aid) callee-seen)
 
   -- ---- waiting grants, alike
   pub waiting-low : length (decode (layoutOf c) img .waiting) ≤ 32
@@ -131,7 +130,9 @@ module _ (c : Card) (img : List ℕ) (h : Laid (layoutOf c) img) where
       caller-short = omega (arith, caller-length, at.caller-short (layoutOf c) (layout-ok c) h r noWaiting p)
 
       caller-seen : aidIn img a ≡ waitingRow t r .caller
-      caller-seen = aid-held a (waitingRow t r .caller) caller-length (ap (λ (x : ℕ). take (length (waitingRow t r .caller)) (drop (x + 1) img)) q ∙ at.waiting-bytes (layoutOf c) (layout-ok c) h r noWaiting p)
+      caller-seen =
+          aid-held img a (waitingRow t r .caller) caller-length
+          (ap (λ (x : ℕ). take (length (waitingRow t r .caller)) (drop (x + 1) img)) q ∙ at.waiting-bytes (layoutOf c) (layout-ok c) h r noWaiting p)
 
       pub waits-seen : (aid : List ℕ) (v : Bool) → v ≡ eqAid (aidIn img a) aid → v ≡ eqAid (waitingRow (decode (layoutOf c) img) r .caller) aid
       waits-seen aid v z = z ∙ ap (λ (s : Aid). eqAid s aid) caller-seen

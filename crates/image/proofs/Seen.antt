@@ -1,9 +1,9 @@
 -- What code reads in a laid image of a card, in the form in which the needs ask it: `search seen`.
 use Prim.Native.Nat.{ℕ, _+_, _≤_, _<_}
 use native.Mathlib.Omega.{arith}
-use mathlib.Core.Path.{_≡_, refl, sym, ap, ap₂, _∙_}
+use mathlib.Core.Path.{_≡_, sym, ap, _∙_}
 use mathlib.Core.Bool.{Bool, true, false, not, _&&_}
-use mathlib.Core.List.{List, [], _∷_}
+use mathlib.Core.List.{List}
 use lib.ListN.{length, getD, take, drop, length-take, length-drop}
 use Rattle.policy.specs.Lists.{eqBytes, first, upto}
 use Rattle.policy.specs.Contract.{Aid, eqAid, Tok, eqTok}
@@ -44,6 +44,16 @@ module _ (img aid : List ℕ) (at : ℕ) where
   pub aid-same : (r : Bool) → getD img at 0 ≡ length aid → r ≡ eqBytes (part (at + 1) (length aid) img) aid → r ≡ eqAid (aidIn img at) aid
   aid-same r e p = p ∙ ap (λ (n : ℕ). eqBytes (take n (drop (at + 1) img)) aid) (sym e)
 
+-- the AID that a place holds, where its length and its bytes are those of a
+pub aid-held : (img : List ℕ) (at : ℕ) (a : Aid) → getD img at 0 ≡ length a → take (length a) (drop (at + 1) img) ≡ a → aidIn img at ≡ a
+aid-held img at a p q = ap (λ (n : ℕ). take n (drop (at + 1) img)) p ∙ q
+
+-- ---- the lowest number whose bit is clear
+lowest : (n : ℕ) (f : ℕ → Bool) (row r : ℕ) → n ≤ 16 → row ≡ rowOf n f → r ≡ numberOr 16 (first (λ k. not (bit row k)) (upto 16)) → r ≡ numberOr n (first (λ k. not (f k)) (upto n))
+lowest n f row r l e q =
+    q ∙ ap (λ (x : ℕ). numberOr 16 (first (λ k. not (bit x k)) (upto 16))) e ∙ lowest-row n 16 (rowOf n f) l (rowOf-lt n f)
+    ∙ ap (numberOr n) (first-ext (λ k. not (bit (rowOf n f) k)) (λ k. not (f k)) (upto n) (λ k m. ap not (bit-rowOf n f k (upto-in n m))))
+
 module _ (c : Card) (img : List ℕ) (h : Laid (layoutOf c) img) where
   pub laid-size : length img ≡ size (layoutOf c)
   laid-size = laid-length (layoutOf c) (layout-ok c) h
@@ -62,11 +72,10 @@ module _ (c : Card) (img : List ℕ) (h : Laid (layoutOf c) img) where
 
   -- ---- the AID of a package, in the place at a
   module _ (n a : ℕ) (p : n < layoutOf c .packages) (q : a ≡ aidAt (layoutOf c) n) where
-    pub aid-seen : aidIn img a ≡ decode (layoutOf c) img .aid n
+    aid-seen : aidIn img a ≡ decode (layoutOf c) img .aid n
     aid-seen =
         ap (aidIn img) q
-        ∙ ap (λ (k : ℕ). take k (drop (aidAt (layoutOf c) n + 1) img)) (aid-length (layoutOf c) (layout-ok c) h n p)
-        ∙ aid-bytes (layoutOf c) (layout-ok c) h n p
+        ∙ aid-held img (aidAt (layoutOf c) n) (decode (layoutOf c) img .aid n) (aid-length (layoutOf c) (layout-ok c) h n p) (aid-bytes (layoutOf c) (layout-ok c) h n p)
 
     pub aid-short : getD img a 0 ≤ 16
     aid-short = let e = ap (λ (x : ℕ). getD img x 0) q ∙ aid-length (layoutOf c) (layout-ok c) h n p in omega (arith, e, h .room .aid-short n)
@@ -99,12 +108,7 @@ module _ (c : Card) (img : List ℕ) (h : Laid (layoutOf c) img) where
         bit-on (layoutOf c .services) (decode (layoutOf c) img .provides j) (eqTok (decode (layoutOf c) img .tok j k) (tokens x y)) e l d q
         (v ∙ ap (λ (s : Tok). eqTok s (tokens x y)) (tokens-seen j k a p l z))
 
-  -- ---- the lowest number whose bit is clear
-  lowest : (n : ℕ) (f : ℕ → Bool) (row r : ℕ) → n ≤ 16 → row ≡ rowOf n f → r ≡ numberOr 16 (first (λ k. not (bit row k)) (upto 16)) → r ≡ numberOr n (first (λ k. not (f k)) (upto n))
-  lowest n f row r l e q =
-      q ∙ ap (λ (x : ℕ). numberOr 16 (first (λ k. not (bit x k)) (upto 16))) e ∙ lowest-row n 16 (rowOf n f) l (rowOf-lt n f)
-      ∙ ap (numberOr n) (first-ext (λ k. not (bit (rowOf n f) k)) (λ k. not (f k)) (upto n) (λ k m. ap not (bit-rowOf n f k (upto-in n m))))
-
+  -- ---- free numbers
   pub lowest-unused : (row r : ℕ) → row ≡ rowOf (layoutOf c .packages) (decode (layoutOf c) img .used) → r ≡ numberOr 16 (first (λ k. not (bit row k)) (upto 16))
       → r ≡ numberOr (layoutOf c .packages) (freeNumber (layoutOf c) (decode (layoutOf c) img))
   unfolding freeNumber

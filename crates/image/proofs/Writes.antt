@@ -1,58 +1,36 @@
 -- What writing code leaves, as tables.
 use Prim.Native.Nat.{ℕ, zero, suc, _+_, _-_, _*_, _^_, _≤_, _<_}
 use native.Mathlib.Omega.{arith}
-use native.Mathlib.Nat.{lt-of-lt-of-le, not-le-of-lt, sub-zero, zero-sub, suc-sub-suc}
+use native.Mathlib.Nat.{not-le-of-lt, sub-zero, zero-sub, suc-sub-suc}
 use native.Mathlib.Numerals.{one-add}
 use mathlib.Core.Path.{_≡_, refl, sym, ap, ap₂, _∙_, subst}
-use mathlib.Core.Logic.{_⊎_, inl, inr}
-use mathlib.Core.Bool.{Bool, true, false, not, _&&_, _||_, cond}
+use mathlib.Core.Bool.{Bool, cond}
 use mathlib.Core.List.{List, [], _∷_, _++_}
 use mathlib.Core.List.{List·Memᴰ as In}
-use lib.Dec.{T, eqb}
+use lib.Dec.{eqb}
 use lib.ListN.{length, getD, set, take, drop, replicate, length-append}
-use lib.Pow.{pow-mono}
-use borrow.Author.Tests.{ne-eqb}
 use Rattle.policy.specs.Contract.{Aid, Tok}
 use Rattle.policy.specs.Layout.{Layout, usedAt, unmetAt, waitingAt, size}
 use Rattle.policy.specs.Tables.{Tables, Unmet, Waiting, bit, rowOf, readNumber, writeNumber, writeBits, writeAid, writeTok, writeUnmet, writeWaiting, writeList, decode}
-use Rattle.policy.specs.Draft.{put, put3}
-use Rattle.policy.proofs.Sets.{false-T, T-false, T-true}
-use Rattle.policy.proofs.Pieces.{in-or-off, length-aid, length-unmet, length-waiting}
+use Rattle.policy.specs.Draft.{put, put2, put3}
+use Rattle.policy.proofs.Sets.{T-false}
+use Rattle.policy.proofs.Pieces.{length-aid, length-unmet, length-waiting}
 use Rattle.rows.specs.Area.{IsArea, keepRows, dropped}
 use Rattle.rows.proofs.Over.{over-on}
-use Rattle.bits.proofs.Row.{row-is, bit-past, bit-rowOf, rowOf-lt}
+use Rattle.bits.proofs.Row.{rowOf-lt}
 use Rattle.geometry.specs.declared.Card.{Card}
 use Rattle.geometry.specs.declared.Table.{Table}
 use Rattle.geometry.specs.Geometry.{layoutOf, aidAt, tokAt, provAt, entryAt}
 use Rattle.geometry.proofs.Bounds.{layout-ok, limits, services-row, tok-len, unmet-in, waiting-in, geo}
-use Rattle.image.specs.Laid.{tableOf, BitsIn, Laid, over, withUsed, withAid, withTok, withProvides, withTable, withEntry, withUnmet, withWaiting}
+use Rattle.image.specs.Laid.{tableOf, Laid, over, withUsed, withAid, withTok, withProvides, withTable, withEntry, withUnmet, withWaiting}
 use Rattle.image.specs.Wrote.{Wrote}
 use Rattle.image.proofs.Laid.{laid-length, entry-in}
 use Rattle.image.proofs.Access.{entry-number, unmet-is, unmet-count, waiting-is, waiting-count}
 use Rattle.image.proofs.Replace.{Holds, laid-holds, holds-laid, holds-decode, holds-used, holds-aid, holds-tok, holds-provides, holds-entry, holds-unmet, holds-waiting}
 use Rattle.image.proofs.Append.{holds-unmet-append, holds-waiting-append}
 use Rattle.image.proofs.Drops.{kept-in, kept-short, lent-area, lent-dropped}
-use Rattle.image.proofs.Over.{over-byte, over-length, over-row, entry-put3}
-
--- ---- rows by their numbers
-row-bits : (n row : ℕ) → row < 2 ^ n → row ≡ rowOf n (bit row)
-row-bits n row h = row-is n row (bit row) h (λ k l. refl)
-
-bit-in : (n row : ℕ) → row < 2 ^ n → (k : ℕ) → T (bit row k) → k < n
-bit-in n row h k s = go (in-or-off k n)
-  where
-    go : (k < n) ⊎ (n ≤ k) → k < n
-    go (inl p) = p
-    go (inr p) = absurd (false-T (bit-past n row k h p) s)
-
--- past its n bits a row of m has none
-row-narrow : (n m : ℕ) (f : ℕ → Bool) → n ≤ m → ((k : ℕ) → n ≤ k → f k ≡ false) → rowOf m f ≡ rowOf n f
-row-narrow n m f h e =
-    sym (row-is m (rowOf n f) f (lt-of-lt-of-le (rowOf-lt n f) (pow-mono h)) (λ k l. go k (in-or-off k n)))
-  where
-    go : (k : ℕ) → (k < n) ⊎ (n ≤ k) → bit (rowOf n f) k ≡ f k
-    go k (inl p) = bit-rowOf n f k p
-    go k (inr p) = bit-past n (rowOf n f) k (rowOf-lt n f) p ∙ sym (e k p)
+use Rattle.image.proofs.Over.{over-byte, over-length, over-row, entry-put3, row-put2}
+use Rattle.image.proofs.RowBits.{row-bits, bit-in, Ends, ends-in, put-ends, put-is, put-lt, put-bits, bit-set, bit-clear}
 
 -- ---- bytes put one after another
 two-bytes : (at x y : ℕ) (img : List ℕ) → at + 2 ≤ length img → set (set img at x) (at + 1) y ≡ over at (x ∷ y ∷ []) img
@@ -208,58 +186,44 @@ module _ (c : Card) where
           wrote-as (put-over img′ (L .services) at (entryAt L tb i j) row (bit row) (row-bits (L .services) row r) a e)
           (holds-entry L (layout-ok c) (laid-holds L h) tb i j (bit row) p q (bit-in (L .services) row r))
 
-      -- bit k of it changed to v
-      module _ (k : ℕ) (l : k < L .services) (v : Bool) (row : ℕ) (is : row ≡ readNumber 0 (take (L .width) (drop at img))) where
+      -- bit k of it changed to v, as `bits` changes it
+      module _ (k : ℕ) (l : k < L .services) (v : Bool) (row : ℕ) (is : row ≡ readNumber 0 (take (L .width) (drop at img))) (row′ : ℕ) (g : ℕ → Bool) (e : row′ ≡ rowOf 16 g)
+          (u : g ≡ put k v (bit row)) where
         abbrev f : ℕ → Bool
         f = tableOf tb t i j
 
-        row-is-entry : row ≡ rowOf (L .services) f
-        row-is-entry = is ∙ ap (λ (z : ℕ). readNumber 0 (take (L .width) (drop z img))) a ∙ entry-number L (layout-ok c) h tb i j p q
+        ends : Ends (L .services) f
+        ends z s = T-false (f z) (λ b. not-le-of-lt (entry-in L t (h .room) tb i j z b .2) s)
 
-        off : (z : ℕ) → L .services ≤ z → f z ≡ false
-        off z s = T-false (f z) (λ b. not-le-of-lt (entry-in L t (h .room) tb i j z b .2) s)
+        bit-row : row′ ≡ rowOf (L .services) (put k v f)
+        bit-row =
+            put-is (L .services) f ends k l v (limits c .services-low) row
+            (is ∙ ap (λ (z : ℕ). readNumber 0 (take (L .width) (drop z img))) a ∙ entry-number L (layout-ok c) h tb i j p q) row′ g e u
 
-        same : (z : ℕ) → bit row z ≡ f z
-        same z = ap (λ (r : ℕ). bit r z) row-is-entry ∙ go (in-or-off z (L .services))
-          where
-            go : (z < L .services) ⊎ (L .services ≤ z) → bit (rowOf (L .services) f) z ≡ f z
-            go (inl s) = bit-rowOf (L .services) f z s
-            go (inr s) = bit-past (L .services) (rowOf (L .services) f) z (rowOf-lt (L .services) f) s ∙ sym (off z s)
+        pub bit-fits : row′ < 256 ^ L .width
+        bit-fits = services-row c row′ (subst (λ (x : ℕ). x < 2 ^ L .services) (sym bit-row) (rowOf-lt (L .services) (put k v f)))
 
-        put-off : (z : ℕ) → L .services ≤ z → put k v f z ≡ false
-        put-off z s = ap (λ (b : Bool). cond b v (f z)) (ne-eqb z k (λ e. not-le-of-lt l (subst (λ (x : ℕ). L .services ≤ x) e s))) ∙ off z s
+        pub bit-wrote : {img′ : List ℕ} → Put L img img′ at row′ → Wrote L img′ (withTable tb (put3 i j k v (tableOf tb t)) t)
+        bit-wrote {img′} w =
+            subst (λ (b : ℕ → ℕ → ℕ → Bool). Wrote L img′ (withTable tb b t)) (entry-put3 i j k v (tableOf tb t))
+            (wrote-as (put-over img′ (L .services) at (entryAt L tb i j) row′ (put k v f) bit-row a w)
+            (holds-entry L (layout-ok c) (laid-holds L h) tb i j (put k v f) p q (ends-in (L .services) (put k v f) (put-ends (L .services) f ends k l v))))
 
-        module _ (row′ : ℕ) (g : ℕ → Bool) (e : row′ ≡ rowOf 16 g) (u : g ≡ put k v (bit row)) where
-          bit-row : row′ ≡ rowOf (L .services) (put k v f)
-          bit-row = e ∙ ap (rowOf 16) u ∙ ap (λ (g : ℕ → Bool). rowOf 16 (put k v g)) (λ r z. same z r) ∙ row-narrow (L .services) 16 (put k v f) (limits c .services-low) put-off
+    -- ---- the other rows of bits with one bit changed: what callers of `set_used` and `set_provided` have
+    module _ (k : ℕ) (v : Bool) (row row′ : ℕ) (g : ℕ → Bool) (e : row′ ≡ rowOf 16 g) (u : g ≡ put k v (bit row)) where
+      pub used-put : k < L .packages → row ≡ rowOf (L .packages) (t .used) → (row′ < 2 ^ L .packages) × (bit row′ ≡ put k v (t .used))
+      used-put l is =
+          let ends : Ends (L .packages) (t .used) = λ z s. T-false (t .used z) (λ b. not-le-of-lt (h .room .used-in z b) s) in
+          let low = limits c .packages-low in
+          (put-lt (L .packages) (t .used) ends k l v low row is row′ g e u, put-bits (L .packages) (t .used) ends k l v low row is row′ g e u)
 
-          pub bit-fits : row′ < 256 ^ L .width
-          bit-fits = services-row c row′ (subst (λ (x : ℕ). x < 2 ^ L .services) (sym bit-row) (rowOf-lt (L .services) (put k v f)))
-
-          pub bit-wrote : {img′ : List ℕ} → Put L img img′ at row′ → Wrote L img′ (withTable tb (put3 i j k v (tableOf tb t)) t)
-          bit-wrote {img′} w =
-              subst (λ (b : ℕ → ℕ → ℕ → Bool). Wrote L img′ (withTable tb b t)) (entry-put3 i j k v (tableOf tb t))
-              (wrote-as (put-over img′ (L .services) at (entryAt L tb i j) row′ (put k v f) bit-row a w)
-              (holds-entry L (layout-ok c) (laid-holds L h) tb i j (put k v f) p q (λ z s. in-of z s (in-or-off z (L .services)))))
-            where
-              in-of : (z : ℕ) → T (put k v f z) → (z < L .services) ⊎ (L .services ≤ z) → z < L .services
-              in-of z s (inl o) = o
-              in-of z s (inr o) = absurd (false-T (put-off z o) s)
-
--- ---- a bit set or clear, as `bits` has it
-pub bit-set : (k : ℕ) (f : ℕ → Bool) → (λ (z : ℕ). eqb z k || f z) ≡ put k true f
-bit-set k f = λ r z. go (eqb z k) (f z) r
-  where
-    go : (b x : Bool) → b || x ≡ cond b true x
-    go true x = refl
-    go false x = refl
-
-pub bit-clear : (k : ℕ) (f : ℕ → Bool) → (λ (z : ℕ). not (eqb z k) && f z) ≡ put k false f
-bit-clear k f = λ r z. go (eqb z k) (f z) r
-  where
-    go : (b x : Bool) → not b && x ≡ cond b false x
-    go true x = refl
-    go false x = refl
+      pub provides-put : (j : ℕ) → k < L .services → row ≡ rowOf (L .services) (t .provides j)
+          → (row′ < 2 ^ L .services) × ((λ (x y : ℕ). cond (eqb x j) (bit row′ y) (t .provides x y)) ≡ put2 j k v (t .provides))
+      provides-put j l is =
+          let ends : Ends (L .services) (t .provides j) = λ z s. T-false (t .provides j z) (λ b. not-le-of-lt (h .room .provides-in j z b .1) s) in
+          let low = limits c .services-low in
+          let same = put-bits (L .services) (t .provides j) ends k l v low row is row′ g e u in
+          (put-lt (L .services) (t .provides j) ends k l v low row is row′ g e u, (λ r x y. cond (eqb x j) (same r y) (t .provides x y)) ∙ row-put2 j k v (t .provides))
 
 -- what writing code leaves: `search writes` at each need
 pub ruleset writes = (laid-len, used-wrote, provides-wrote, tok-wrote, aid-wrote, unmet-wrote, waiting-wrote, entry-wrote, bit-set, bit-clear, bit-fits, bit-wrote, geo)

@@ -1,3 +1,3 @@
 pub mod Laid
-pub mod Read
 pub mod Wrote
+pub mod Read

@@ -2,7 +2,7 @@
 use Prim.Native.Nat.{ℕ, _+_, _*_}
 use mathlib.Core.Bool.{Bool, cond}
 use mathlib.Core.List.{List, [], _∷_}
-use mathlib.Core.Option.{Option, none, some}
+use mathlib.Core.Option.{Option}
 use lib.ListN.{getD, take, drop}
 use Rattle.policy.specs.Lists.{orElse}
 use Rattle.policy.specs.Contract.{Aid, Tok, Row}

@@ -1,4 +1,4 @@
-// A laid image: reading and writing its places, and its two lists.
+// A laid image: reading its places, its two lists, and writing.
 pub mod lists;
 pub mod read;
 pub mod write;

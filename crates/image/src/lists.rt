@@ -39,7 +39,7 @@ pub fn waiting_count(img: &[u8], c: Card) -> usize
     byte_at(img, at)
 }
 
-// Where row r of the unmet calls stands.
+// Where row r of the unmet calls stands, of 20 bytes each: the AID of the callee in 17, two tokens, the caller.
 fn unmet_row(c: Card, r: usize) -> usize
     requires { ⌜ r < layoutOf c .capacity ⌝ }
     ensures { λ a. ⌜ a ≡ unmetAt (layoutOf c) + (1 + r * 20) ⌝ }
@@ -48,7 +48,7 @@ fn unmet_row(c: Card, r: usize) -> usize
     at + (1 + r * 20)
 }
 
-// Where row r of the waiting grants stands.
+// Where row r of the waiting grants stands, of 19 bytes each: the AID of the caller in 17, the callee, the service.
 fn waiting_row(c: Card, r: usize) -> usize
     requires { ⌜ r < layoutOf c .capacity ⌝ }
     ensures { λ a. ⌜ a ≡ waitingAt (layoutOf c) + (1 + r * 19) ⌝ }

@@ -9,7 +9,7 @@ ghost use Rattle.policy.specs.Draft.{put3};
 ghost use Rattle.geometry.specs.Geometry.{layoutOf};
 ghost use Rattle.rows.specs.Area.{keepRows};
 ghost use Rattle.image.specs.Laid.{Laid, tableOf, over, withUsed, withAid, withTok, withProvides, withTable, withEntry, withUnmet, withWaiting};
-ghost use Rattle.image.specs.Wrote.{Wrote};
+ghost use Rattle.image.specs.Wrote.{Wrote, withoutPackage, inColumn, inRow, withoutService, withoutServices};
 use geometry::Card;
 use geometry::Table;
 
@@ -171,4 +171,71 @@ pub fn drop_waiting(img: &mut [u8], c: Card, mask: u32)
 {
     let at = geometry::waiting_at(c);
     rows::drop_rows(&mut img[at..], 19, mask);
+}
+
+// Row n and column n of a table clear.
+pub fn clear_cross(img: &mut [u8], c: Card, tb: Table, n: usize)
+    requires laid { ⌜ Laid (layoutOf c) (now img) ⌝ }
+    requires inside { ⌜ n < layoutOf c .packages ⌝ }
+    ensures { λ _. ⌜ Wrote (layoutOf c) (now (img .exit))
+        (withTable tb (withoutPackage n (tableOf tb (decode (layoutOf c) (now (img .entry))))) (decode (layoutOf c) (now (img .entry)))) ⌝ }
+{
+    let size = geometry::packages(c);
+    for x in 0..size {
+        set_entry(img, c, tb, n, x, 0);
+        set_entry(img, c, tb, x, n, 0);
+    }
+}
+
+// Bit k of every entry of column j clear.
+fn clear_column(img: &mut [u8], c: Card, tb: Table, j: usize, k: usize)
+    requires laid { ⌜ Laid (layoutOf c) (now img) ⌝ }
+    requires inside { ⌜ (j < layoutOf c .packages) × (k < layoutOf c .services) ⌝ }
+    ensures { λ _. ⌜ Wrote (layoutOf c) (now (img .exit))
+        (withTable tb (inColumn j k (tableOf tb (decode (layoutOf c) (now (img .entry))))) (decode (layoutOf c) (now (img .entry)))) ⌝ }
+{
+    let size = geometry::packages(c);
+    for x in 0..size {
+        clear_bit(img, c, tb, x, j, k);
+    }
+}
+
+// Bit k of every entry of row j clear.
+fn clear_row(img: &mut [u8], c: Card, tb: Table, j: usize, k: usize)
+    requires laid { ⌜ Laid (layoutOf c) (now img) ⌝ }
+    requires inside { ⌜ (j < layoutOf c .packages) × (k < layoutOf c .services) ⌝ }
+    ensures { λ _. ⌜ Wrote (layoutOf c) (now (img .exit))
+        (withTable tb (inRow j k (tableOf tb (decode (layoutOf c) (now (img .entry))))) (decode (layoutOf c) (now (img .entry)))) ⌝ }
+{
+    let size = geometry::packages(c);
+    for x in 0..size {
+        clear_bit(img, c, tb, j, x, k);
+    }
+}
+
+// Every bit of service k of package j in a table clear.
+pub fn clear_column_bit(img: &mut [u8], c: Card, tb: Table, j: usize, k: usize)
+    requires laid { ⌜ Laid (layoutOf c) (now img) ⌝ }
+    requires inside { ⌜ (j < layoutOf c .packages) × (k < layoutOf c .services) ⌝ }
+    ensures { λ _. ⌜ Wrote (layoutOf c) (now (img .exit))
+        (withTable tb (withoutService tb j k (tableOf tb (decode (layoutOf c) (now (img .entry))))) (decode (layoutOf c) (now (img .entry)))) ⌝ }
+{
+    match tb {
+        Table::Calls => clear_column(img, c, tb, j, k),
+        Table::Grants => clear_row(img, c, tb, j, k),
+        Table::Needs => clear_column(img, c, tb, j, k),
+    }
+}
+
+// The services of package n and their tokens clear.
+pub fn clear_services(img: &mut [u8], c: Card, n: usize)
+    requires laid { ⌜ Laid (layoutOf c) (now img) ⌝ }
+    requires inside { ⌜ n < layoutOf c .packages ⌝ }
+    ensures { λ _. ⌜ Wrote (layoutOf c) (now (img .exit)) (withoutServices n (decode (layoutOf c) (now (img .entry)))) ⌝ }
+{
+    set_provided(img, c, n, 0);
+    let size = geometry::services(c);
+    for k in 0..size {
+        put_tok(img, c, n, k, 0, 0);
+    }
 }

@@ -24,14 +24,14 @@ use Rattle.policy.proofs.Found.{NumberIs, ServerIs, number-is, server-i
 use Rattle.policy.proofs.Facts.{need-bits, lawful-of, of-lawful}
 
 -- ---- what tables hold stands in range
-record InRange (L : Layout) (t : Tables) : Type 0 where
-  used-in : (n : ℕ) → T (t .used n) → n < L .packages
-  aid-in : (n : ℕ) → (t .aid n ≡ [] → ⊥) → n < L .packages
-  tok-in : (j k : ℕ) → (t .tok j k ≡ noTok → ⊥) → (j < L .packages) × (k < L .services)
-  prov-in : (j k : ℕ) → T (t .provides j k) → (j < L .packages) × (k < L .services)
-  calls-in : (i j k : ℕ) → T (t .calls i j k) → BitIn L i j k
-  grants-in : (i j k : ℕ) → T (t .grants i j k) → BitIn L i j k
-  needs-in : (i j k : ℕ) → T (t .needs i j k) → BitIn L i j k
+pub record InRange (L : Layout) (t : Tables) : Type 0 where
+  pub used-in : (n : ℕ) → T (t .used n) → n < L .packages
+  pub aid-in : (n : ℕ) → (t .aid n ≡ [] → ⊥) → n < L .packages
+  pub tok-in : (j k : ℕ) → (t .tok j k ≡ noTok → ⊥) → (j < L .packages) × (k < L .services)
+  pub prov-in : (j k : ℕ) → T (t .provides j k) → (j < L .packages) × (k < L .services)
+  pub calls-in : (i j k : ℕ) → T (t .calls i j k) → BitIn L i j k
+  pub grants-in : (i j k : ℕ) → T (t .grants i j k) → BitIn L i j k
+  pub needs-in : (i j k : ℕ) → T (t .needs i j k) → BitIn L i j k
 
 -- what is not the default stands in the list
 entry-in : {A : Type 0} (l : List A) (d : A) (n : ℕ) → (getD l n d ≡ d → ⊥) → n < length l
@@ -61,7 +61,7 @@ module _ (L : Layout) (img : List ℕ) where
       let c = cell-in (pieces (L .width) (L .packages)) (L .packages) (length-pieces (L .width) (L .packages)) lines [] i j (r .1) in
       (subst (λ (z : ℕ). i < z) (length-pieces (L .packages * L .width) (L .packages) (drop at img)) (c .0), c .1, r .0)
 
-  decode-in : InRange L (decode L img)
+  pub decode-in : InRange L (decode L img)
   unfolding decode
   decode-in = record {
     used-in = λ n h. row-bit L (L .packages) (take (L .width) (drop (usedAt L) img)) n h .0;

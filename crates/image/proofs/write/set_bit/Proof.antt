@@ -1,43 +1,25 @@
 -- `image::write::set_bit` meets its contract. Assumes nothing.
 use mathlib.Core.Bool.{true}
 use Rattle.policy.specs.Tables.{bit}
-use Rattle.image.proofs.Writes.{writes, bit-set, bit-fits}
+use Rattle.image.proofs.RowBits.{bit-set}
+use Rattle.image.proofs.Writes.{writes, bit-fits}
 use Rattle.image.proofs.write.set_bit.Statement.{statement}
 use Rattle.image.proofs.write.set_bit.Tie as tie
 
-entry-at-requires : tie.Need-entry-at-requires
-entry-at-requires c κs = search writes
-
-row-at-requires : tie.Need-row-at-requires
-row-at-requires c κs = search writes
-
-with-bit-requires : tie.Need-with-bit-requires
-with-bit-requires c κs = search writes
-
-put-row-requires : tie.Need-put-row-requires
-put-row-requires c κs =
-    let s = c .before .before .before .before .before .before in
+pub set-bit-spec : {M : Type 1} → statement M
+set-bit-spec =
+    tie.close
+    (tie.spec
+    (λ c κs. search writes)
+    (λ c κs. search writes)
+    (λ c κs. search writes)
+    (λ c κs. let s = c .before .before .before .before .before .before in
     let p = s .pre .1 in
     let at = c .before .before .before .before .entry-at in
     let row = c .before .before .row-at in (
       search writes,
       bit-fits (s .args .c) (s .pre .0) (s .args .tb) (s .args .i) (s .args .j) (at .result) (p .0) (p .1) (at .ensures) (s .args .k) (p .2) true (row .result) (row .ensures)
           (c .with-bit .result) _ (c .with-bit .ensures) (bit-set (s .args .k) (bit (row .result))),
-    )
-
-same-length : tie.Need-same-length
-same-length c = search writes
-
-returns : tie.Need-returns
-returns c = search writes
-
-pub set-bit-spec : {M : Type 1} → statement M
-set-bit-spec =
-    tie.close
-    (tie.spec
-    entry-at-requires
-    row-at-requires
-    with-bit-requires
-    put-row-requires
-    same-length
-    returns)
+    ))
+    (λ c. search writes)
+    (λ c. search writes))

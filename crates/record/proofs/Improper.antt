@@ -1,0 +1,80 @@
+-- Cause 3, part by part. Assumes nothing.
+use Prim.Native.Nat.{ℕ}
+use mathlib.Core.Path.{_≡_, refl, sym, _∙_}
+use mathlib.Core.Bool.{Bool, true, false, not, _&&_, and-false}
+use mathlib.Core.List.{List}
+use native.Mathlib.Omega.{arith}
+use Rattle.policy.specs.Lists.{every, exists, distinct}
+use Rattle.policy.specs.Contract.{Aid as Bytes, Tok, Row, eqAid, eqTok, eqRow, hasTok, hasRow}
+use Rattle.policy.specs.Record.{Reader, load, notOwn, proper}
+use Rattle.record.specs.Meaning.{aidIn, itemsIn, Uncons}
+use Rattle.record.specs.declared.Aid.{Aid}
+use Rattle.record.specs.declared.Items.{Items}
+use Rattle.record.proofs.Loops.{Todo, todo-cons, todo-next}
+
+-- a row or a caller whose AID is the own
+abbrev pub ownRow : List ℕ → Aid → Row → Bool
+ownRow s own x = eqAid (x .aid) (aidIn s own)
+
+abbrev pub ownAid : List ℕ → Aid → Bytes → Bool
+ownAid s own x = eqAid x (aidIn s own)
+
+-- no thing of a list is the own, and none stands twice
+abbrev pub others : {A : Type 0} → (A → Bool) → (A → A → Bool) → List A → Bool
+others own eq l = every (λ x. not (own x)) l && distinct eq l
+
+module _ {A : Type 0} {p : Reader A} {s : List ℕ} {todo rest : Items} (eq : A → A → Bool) {b r : Bool} {x : A} (u : Uncons p s todo x rest)
+    (q : r ≡ exists (eq x) (itemsIn p s rest)) where
+  pub distinct-stop : Todo p s todo (distinct eq) b → r ≡ true → false ≡ b
+  distinct-stop h e = rw (sym q ∙ e) at (todo-cons h u)
+
+  pub distinct-next : Todo p s todo (distinct eq) b → r ≡ false → Todo p s rest (distinct eq) b
+  distinct-next h e = todo-next h u (distinct eq) (rw (sym q ∙ e))
+
+module _ {A : Type 0} {p : Reader A} {s : List ℕ} {todo rest : Items} (own : A → Bool) (eq : A → A → Bool) {b o : Bool} {x : A} (u : Uncons p s todo x rest)
+    (h : Todo p s todo (others own eq) b) (w : o ≡ own x) where
+  pub own-stop : o ≡ true → false ≡ b
+  own-stop e = rw (sym w ∙ e) at (todo-cons h u)
+
+  module _ {r : Bool} (f : o ≡ false) (q : r ≡ exists (eq x) (itemsIn p s rest)) where
+    pub twice-stop : r ≡ true → false ≡ b
+    twice-stop e = rw (sym w ∙ f, sym q ∙ e, and-false (every (λ y. not (own y)) (itemsIn p s rest))) at (todo-cons h u)
+
+    pub once-next : r ≡ false → Todo p s rest (others own eq) b
+    once-next e = todo-next h u (others own eq) (rw (sym w ∙ f, sym q ∙ e))
+
+-- ---- the lists of a load, in the order of the code
+arranged : (dp dc dg dn oc og on x y : Bool)
+    → ((dp && dc && dg && dn) && (oc && og && on) && (x && y)) ≡ (dp && ((oc && dc) && ((og && dg) && ((on && dn) && (x && y)))))
+arranged false dc dg dn oc og on x y = refl
+arranged true false dg dn false og on x y = refl
+arranged true false dg dn true og on x y = refl
+arranged true true false dn false og on x y = refl
+arranged true true false dn true false on x y = refl
+arranged true true false dn true true on x y = refl
+arranged true true true false false og on x y = refl
+arranged true true true false true false on x y = refl
+arranged true true true false true true false x y = refl
+arranged true true true false true true true x y = refl
+arranged true true true true false og on x y = refl
+arranged true true true true true false on x y = refl
+arranged true true true true true true false x y = refl
+arranged true true true true true true true x y = refl
+
+pub load-is : (a : Bytes) (p : List Tok) (c g n : List Row) {rp rc rg rn x y : Bool}
+    → rp ≡ distinct eqTok p → rc ≡ (notOwn a c && distinct eqRow c) → rg ≡ (notOwn a g && distinct eqRow g) → rn ≡ (notOwn a n && distinct eqRow n)
+    → x ≡ every (λ r. hasRow r c) n → y ≡ every (λ r. hasTok (r .tok) p) g
+    → (rp && (rc && (rg && (rn && (x && y))))) ≡ proper a (load p c g n)
+unfolding proper
+load-is a p c g n hp hc hg hn hx hy =
+    rw (hp, hc, hg, hn, hx, hy)
+    (sym (arranged (distinct eqTok p) (distinct eqRow c) (distinct eqRow g) (distinct eqRow n) (notOwn a c) (notOwn a g) (notOwn a n) (every (λ r. hasRow r c) n) (every (λ r. hasTok (r .tok) p) g)))
+
+-- an answer whose negation was tested
+pub yes : (r : Bool) {b : Bool} → r ≡ b → not r ≡ false → true ≡ b
+yes true q e = q
+yes false q e = absurd (let z : _≡_ {A = ℕ} 0 1 = cc in omega arith)
+
+pub no : (r : Bool) {b : Bool} → r ≡ b → not r ≡ true → false ≡ b
+no true q e = absurd (let z : _≡_ {A = ℕ} 0 1 = cc in omega arith)
+no false q e = q

@@ -1,0 +1,92 @@
+-- `record::items_end` meets its contract. The loop's invariant is `Still`; the measure is how many rows are to come.
+use Prim.Native.Nat.{_-_}
+use mathlib.Core.Path.{refl}
+use borrow.Author.Needs.{needs}
+use native.Mathlib.Omega.{arith}
+use lib.ListN.{drop, length-drop}
+use denote.Ref.{now}
+use Rattle.record.specs.Meaning.{Takes, reader}
+use Rattle.record.specs.declared.Took.the-variants.{Bytes}
+use Rattle.record.proofs.Fronts.{at-part, Still, still-next, still-bad, still-done}
+use Rattle.record.proofs.items_end.Statement.{statement}
+use Rattle.record.proofs.items_end.Tie as tie
+
+abbrev Inv-loop : tie.InvT-loop
+Inv-loop part sort count at₀ left₀ at left = Still (reader sort) count part at left
+
+abbrev μ-loop : tie.MeasureT-loop
+μ-loop part sort count at₀ left₀ at left = left
+
+loop-holds : tie.Need-loop-holds Inv-loop μ-loop
+loop-holds c = record { inside = omega arith; same = refl }
+
+sub-item-end : tie.Need-sub-item-end Inv-loop μ-loop
+sub-item-end c = search needs
+
+part-item-end-start : tie.Need-part-item-end-start Inv-loop μ-loop
+part-item-end-start c = search needs
+
+part-item-end-end : tie.Need-part-item-end-end Inv-loop μ-loop
+part-item-end-end c = search needs
+
+item-end-requires : tie.Need-item-end-requires Inv-loop μ-loop
+item-end-requires c κs = search needs
+
+enum-told : tie.Need-enum-told Inv-loop μ-loop
+enum-told c = search needs
+
+returns : tie.Need-returns Inv-loop μ-loop
+returns c =
+    let l = c .before .before .before .before in
+    still-bad (l .before .loop .inv) (l .loop-test .taken)
+    (at-part (now (l .before .before .before .args .part)) (l .before .loop .at) (c .enum-told .given .1) (c .before .before .item-end .ensures))
+
+enum-known-n : tie.Need-enum-known-n Inv-loop μ-loop
+enum-known-n c = search needs
+
+-- what item_end says where it took n bytes
+next : (c : tie.After-known-told Inv-loop μ-loop)
+    → Takes (reader (c .before .before .before .before .before .before .before .before .args .sort)) (drop (c .before .before .before .before .before .before .loop .at) (now (c .before .before .before .before .before .before .before .before .args .part)))
+    (Bytes (c .before .n .given .0 .0))
+next c =
+    let l = c .before .before .before .before .before in
+    at-part (now (l .before .before .before .args .part)) (l .before .loop .at) (c .before .n .given .1) (c .before .before .before .item-end .ensures)
+
+add-at : tie.Need-add-at Inv-loop μ-loop
+add-at c =
+    let l = c .before .before .before .before .before in
+    omega (arith, next c .fits, length-drop (l .before .loop .at) (now (l .before .before .before .args .part)), l)
+
+sub-left : tie.Need-sub-left Inv-loop μ-loop
+sub-left c = search needs
+
+loop-less : tie.Need-loop-less Inv-loop μ-loop
+loop-less c = search needs
+
+loop-again : tie.Need-loop-again Inv-loop μ-loop
+loop-again c =
+    let l = c .before .before .before .before .before in
+    still-next (l .before .loop .inv) (l .loop-test .taken) (next c)
+
+returns-2 : tie.Need-returns-2 Inv-loop μ-loop
+returns-2 c = still-done (c .before .loop .inv) (c .loop-test .left)
+
+pub items-end-spec : {M : Type 1} → statement M
+items-end-spec =
+    tie.close
+    (tie.spec
+    Inv-loop
+    μ-loop
+    loop-holds
+    sub-item-end
+    part-item-end-start
+    part-item-end-end
+    item-end-requires
+    enum-told
+    returns
+    enum-known-n
+    add-at
+    sub-left
+    loop-less
+    loop-again
+    returns-2)

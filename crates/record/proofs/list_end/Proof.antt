@@ -1,0 +1,100 @@
+-- `record::list_end` meets its contract: a count that fits, and the things after it.
+use native.Mathlib.Omega.{arith}
+use denote.Ref.{now}
+use lib.ListN.{drop, length-drop}
+use borrow.Author.Needs.{needs}
+use Rattle.policy.specs.Record.{many}
+use Rattle.geometry.specs.Geometry.{layoutOf}
+use Rattle.record.specs.Meaning.{Takes, Counts, reader, widthOf}
+use Rattle.record.specs.declared.Took.the-variants.{Bytes}
+use Rattle.record.specs.declared.Count.the-variants as count
+use Rattle.record.proofs.Fronts.{at-part, list-none, list-over, list-bad, list-good}
+use Rattle.record.proofs.list_end.Statement.{statement}
+use Rattle.record.proofs.list_end.Tie as tie
+
+-- the count that was found
+counted : (c : tie.After-known-told)
+    → let a = c .before .before .before .before .before .args in
+    Counts (widthOf (layoutOf (a .c)) (a .sort)) (now (a .part)) (count.Found (c .before .count .given .0 .0) (c .before .count .given .0 .1 .0))
+counted c = rw (c .before .count .given .1) at (c .before .before .before .read-count .ensures)
+
+-- what items_end says where it took n bytes
+things : (c : tie.After-known-told2)
+    → let d = c .before .before .before .before .before .before .before in
+    let a = d .before .before .before .before .before .args in
+    Takes (many (reader (a .sort)) (d .before .count .given .0 .0)) (drop (d .before .count .given .0 .1 .0) (now (a .part))) (Bytes (c .before .n .given .0 .0))
+things c =
+    let d = c .before .before .before .before .before .before .before in
+    at-part (now (d .before .before .before .before .before .args .part)) (d .before .count .given .0 .1 .0) (c .before .n .given .1) (c .before .before .before .items-end .ensures)
+
+read-count-requires : tie.Need-read-count-requires
+read-count-requires c κs = search needs
+
+enum-known-count : tie.Need-enum-known-count
+enum-known-count c = search needs
+
+enum-told : tie.Need-enum-told
+enum-told c = search needs
+
+returns : tie.Need-returns
+returns c = list-none _ _ _ (rw (c .enum-told .given .1) at (c .before .before .read-count .ensures))
+
+most-requires : tie.Need-most-requires
+most-requires c κs = search needs
+
+returns-2 : tie.Need-returns-2
+returns-2 c = list-over _ _ _ (counted (c .before .before)) (rw (c .before .most .ensures) at (c .if1 .taken))
+
+sub-items-end : tie.Need-sub-items-end
+sub-items-end c = counted (c .before .before) .fits
+
+part-items-end-start : tie.Need-part-items-end-start
+part-items-end-start c = counted (c .before .before) .fits
+
+part-items-end-end : tie.Need-part-items-end-end
+part-items-end-end c = search needs
+
+items-end-requires : tie.Need-items-end-requires
+items-end-requires c κs = search needs
+
+enum-known-n : tie.Need-enum-known-n
+enum-known-n c = search needs
+
+enum-told-2 : tie.Need-enum-told-2
+enum-told-2 c = search needs
+
+returns-3 : tie.Need-returns-3
+returns-3 c =
+    let d = c .before .before .before .before .before .before in
+    list-bad _ _ _ (counted d) (at-part (now (d .before .before .before .before .before .args .part)) (d .before .count .given .0 .1 .0) (c .enum-told2 .given .1) (c .before .before .items-end .ensures))
+
+add-size : tie.Need-add-size
+add-size c =
+    let d = c .before .before .before .before .before .before .before in
+    let s = now (d .before .before .before .before .before .args .part) in
+    omega (arith, things c .fits, counted d .fits, length-drop (d .before .count .given .0 .1 .0) s, d .before .before .before .before .before)
+
+returns-4 : tie.Need-returns-4
+returns-4 c =
+    let e = c .before .before .before .before .before in
+    list-good _ _ _ (counted (e .before .before)) (rw (e .before .most .ensures) at (e .if1 .left)) (things c)
+
+pub list-end-spec : {M : Type 1} → statement M
+list-end-spec =
+    tie.close
+    (tie.spec
+    read-count-requires
+    enum-known-count
+    enum-told
+    returns
+    most-requires
+    returns-2
+    sub-items-end
+    part-items-end-start
+    part-items-end-end
+    items-end-requires
+    enum-known-n
+    enum-told-2
+    returns-3
+    add-size
+    returns-4)

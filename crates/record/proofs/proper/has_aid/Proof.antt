@@ -1,0 +1,54 @@
+-- `record::proper::has_aid` meets its contract: the things to come decide.
+use native.Mathlib.Omega.{arith}
+use Rattle.policy.specs.Lists.{exists}
+use Rattle.policy.specs.Contract.{eqAid}
+use Rattle.policy.specs.Record.{aid}
+use Rattle.record.specs.Meaning.{aidIn}
+use Rattle.record.proofs.Loops.{Left, todo-start, todo-end, exists-stop, exists-next}
+use Rattle.record.proofs.proper.has_aid.Statement.{statement}
+use Rattle.record.proofs.proper.has_aid.Tie as tie
+
+abbrev Inv-loop : tie.InvT-loop
+Inv-loop rec a todo₀ todo = Left aid rec (exists (eqAid (aidIn rec a))) todo₀ todo
+
+abbrev μ-loop : tie.MeasureT-loop
+μ-loop rec a todo₀ todo = todo .count
+
+loop-holds : tie.Need-loop-holds Inv-loop μ-loop
+loop-holds c = todo-start (c .before .pre .1)
+
+take-aid-requires : tie.Need-take-aid-requires Inv-loop μ-loop
+take-aid-requires c κs = (c .before .before .loop .inv .stands, c .if1 .taken)
+
+same-aid-requires : tie.Need-same-aid-requires Inv-loop μ-loop
+same-aid-requires c κs = (c .before .before .before .before .before .before .pre .0, c .before .take-aid .ensures .fits)
+
+returns : tie.Need-returns Inv-loop μ-loop
+returns c =
+    let d = c .before .before .before in
+    exists-stop _ (d .take-aid .ensures .split) (c .before .same-aid .ensures) (d .before .before .before .loop .inv) (c .if2 .taken)
+
+loop-less : tie.Need-loop-less Inv-loop μ-loop
+loop-less c = omega (arith, c .before .before .before .before .take-aid .ensures .split .fewer)
+
+loop-again : tie.Need-loop-again Inv-loop μ-loop
+loop-again c =
+    let d = c .before .before .before .before in
+    exists-next _ (d .take-aid .ensures .split) (c .before .before .same-aid .ensures) (d .before .before .before .loop .inv) (c .before .if2 .left)
+
+returns-2 : tie.Need-returns-2 Inv-loop μ-loop
+returns-2 c = todo-end (c .before .before .loop .inv) (c .if1 .left)
+
+pub has-aid-spec : {M : Type 1} → statement M
+has-aid-spec =
+    tie.close
+    (tie.spec
+    Inv-loop
+    μ-loop
+    loop-holds
+    take-aid-requires
+    same-aid-requires
+    returns
+    loop-less
+    loop-again
+    returns-2)

@@ -1,0 +1,55 @@
+-- `record::proper::has_tokens` meets its contract: the tokens to come decide.
+use native.Mathlib.Omega.{arith}
+use borrow.Author.Needs.{needs}
+use Rattle.policy.specs.Lists.{exists}
+use Rattle.policy.specs.Contract.{eqTok}
+use Rattle.policy.specs.Record.{tokens}
+use Rattle.record.specs.Meaning.{tokOf}
+use Rattle.record.proofs.Loops.{Left, todo-start, todo-end, exists-stop, exists-next}
+use Rattle.record.proofs.proper.has_tokens.Statement.{statement}
+use Rattle.record.proofs.proper.has_tokens.Tie as tie
+
+abbrev Inv-loop : tie.InvT-loop
+Inv-loop rec t todo₀ todo = Left tokens rec (exists (eqTok (tokOf t))) todo₀ todo
+
+abbrev μ-loop : tie.MeasureT-loop
+μ-loop rec t todo₀ todo = todo .count
+
+loop-holds : tie.Need-loop-holds Inv-loop μ-loop
+loop-holds c = todo-start (c .before .pre)
+
+take-tokens-requires : tie.Need-take-tokens-requires Inv-loop μ-loop
+take-tokens-requires c κs = (c .before .before .loop .inv .stands, c .if1 .taken)
+
+same-tokens-requires : tie.Need-same-tokens-requires Inv-loop μ-loop
+same-tokens-requires c κs = search needs
+
+returns : tie.Need-returns Inv-loop μ-loop
+returns c =
+    let d = c .before .before .before in
+    exists-stop _ (d .take-tokens .ensures) (c .before .same-tokens .ensures) (d .before .before .before .loop .inv) (c .if2 .taken)
+
+loop-less : tie.Need-loop-less Inv-loop μ-loop
+loop-less c = omega (arith, c .before .before .before .before .take-tokens .ensures .fewer)
+
+loop-again : tie.Need-loop-again Inv-loop μ-loop
+loop-again c =
+    let d = c .before .before .before .before in
+    exists-next _ (d .take-tokens .ensures) (c .before .before .same-tokens .ensures) (d .before .before .before .loop .inv) (c .before .if2 .left)
+
+returns-2 : tie.Need-returns-2 Inv-loop μ-loop
+returns-2 c = todo-end (c .before .before .loop .inv) (c .if1 .left)
+
+pub has-tokens-spec : {M : Type 1} → statement M
+has-tokens-spec =
+    tie.close
+    (tie.spec
+    Inv-loop
+    μ-loop
+    loop-holds
+    take-tokens-requires
+    same-tokens-requires
+    returns
+    loop-less
+    loop-again
+    returns-2)

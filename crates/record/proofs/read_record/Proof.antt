@@ -1,0 +1,158 @@
+-- `record::read_record` meets its contract: the header, the first AID, and what follows it.
+use Prim.Native.Nat.{_≤_, _+_, _*_}
+use mathlib.Core.Path.{_≡_, sym, _∙_}
+use native.Mathlib.Omega.{arith}
+use lib.ListN.{length, getD, drop}
+use denote.Ref.{now}
+use borrow.Author.Needs.{needs}
+use Rattle.policy.specs.Record.{aid}
+use Rattle.geometry.specs.Geometry.{layoutOf}
+use Rattle.record.specs.Meaning.{Takes}
+use Rattle.record.specs.declared.Took.the-variants.{Bytes}
+use Rattle.record.proofs.Fronts.{at-part}
+use Rattle.record.proofs.Header.{record-short, record-length, record-version, record-aid, aid-inside, record-body, record-whole}
+use Rattle.record.proofs.read_record.Statement.{statement}
+use Rattle.record.proofs.read_record.Tie as tie
+
+-- the tests of the header
+pub record Headed (c : tie.Start) : Type 0 where
+  pub four : 4 ≤ length (now (c .args .rec))
+  pub long : getD (now (c .args .rec)) 0 0 * 256 + getD (now (c .args .rec)) 1 0 ≡ length (now (c .args .rec))
+  pub kept : getD (now (c .args .rec)) 2 0 ≡ layoutOf (c .args .c) .version
+
+headed : (c : tie.After-aid-end) → Headed (c .before .before .before .before .before .before .before .before .before .before)
+headed c =
+    let e = c .before .before in
+    record {
+      four = e .before .before .before .before .before .before .if1 .left;
+      long = e .before .before .before .if2 .left;
+      kept = e .if3 .left ∙ e .before .before .version .ensures;
+    }
+
+-- what aid_end says where it took n bytes
+front : (c : tie.After-known-told)
+    → Takes aid (drop 4 (now (c .before .before .before .before .before .before .before .before .before .before .before .before .before .args .rec))) (Bytes (c .before .n .given .0 .0))
+front c =
+    at-part (now (c .before .before .before .before .before .before .before .before .before .before .before .before .before .args .rec)) 4 (c .before .n .given .1) (c .before .before .before .aid-end .ensures)
+
+inside : (c : tie.After-known-told)
+    → (6 ≤ c .before .n .given .0 .0) × (c .before .n .given .0 .0 ≤ 17) × (c .before .n .given .0 .0 + 4 ≤ length (now (c .before .before .before .before .before .before .before .before .before .before .before .before .before .args .rec)))
+inside c = aid-inside (now (c .before .before .before .before .before .before .before .before .before .before .before .before .before .args .rec)) (headed (c .before .before .before) .four) (front c)
+
+returns : tie.Need-returns
+returns c = record-short _ _ (c .if1 .taken)
+
+shared-slice-read-length : tie.Need-shared-slice-read-length
+shared-slice-read-length c = search needs
+
+cast-length : tie.Need-cast-length
+cast-length c = omega (arith, c .shared-slice-known2 .given 0)
+
+mul-length : tie.Need-mul-length
+mul-length c = omega (arith, c .shared-slice-known2 .given 0)
+
+shared-slice-read-length-2 : tie.Need-shared-slice-read-length-2
+shared-slice-read-length-2 c = search needs
+
+cast-length-2 : tie.Need-cast-length-2
+cast-length-2 c = omega (arith, c .shared-slice-known3 .given 1)
+
+add-length : tie.Need-add-length
+add-length c = omega (arith, c .shared-slice-known3 .given 0, c .shared-slice-known3 .given 1)
+
+returns-2 : tie.Need-returns-2
+returns-2 c = record-length _ _ (c .before .before .before .if1 .left) (c .if2 .taken)
+
+version-requires : tie.Need-version-requires
+version-requires c κs = search needs
+
+shared-slice-read-if3 : tie.Need-shared-slice-read-if3
+shared-slice-read-if3 c = search needs
+
+returns-3 : tie.Need-returns-3
+returns-3 c = record-version _ _ (c .before .before .before .before .before .before .if1 .left) (c .before .before .before .if2 .left) (λ e. c .if3 .taken (e ∙ sym (c .before .before .version .ensures)))
+
+sub-aid-end : tie.Need-sub-aid-end
+sub-aid-end c = search needs
+
+part-aid-end-start : tie.Need-part-aid-end-start
+part-aid-end-start c = search needs
+
+part-aid-end-end : tie.Need-part-aid-end-end
+part-aid-end-end c = search needs
+
+aid-end-requires : tie.Need-aid-end-requires
+aid-end-requires c κs = search needs
+
+enum-known-n : tie.Need-enum-known-n
+enum-known-n c = search needs
+
+enum-told : tie.Need-enum-told
+enum-told c = search needs
+
+returns-4 : tie.Need-returns-4
+returns-4 c =
+    let h = headed (c .before .before) in
+    record-aid _ _ (h .four) (h .long) (h .kept)
+    (at-part (now (c .before .before .before .before .before .before .before .before .before .before .before .before .args .rec)) 4 (c .enum-told .given .1) (c .before .before .aid-end .ensures))
+
+add-read-body : tie.Need-add-read-body
+add-read-body c = omega (arith, inside c)
+
+shared-slice-read-read-body : tie.Need-shared-slice-read-read-body
+shared-slice-read-read-body c = search needs
+
+read-body-requires : tie.Need-read-body-requires
+read-body-requires c κs = inside (c .before) .2
+
+enum-known-kind : tie.Need-enum-known-kind
+enum-known-kind c = search needs
+
+enum-told-2 : tie.Need-enum-told-2
+enum-told-2 c = search needs
+
+returns-5 : tie.Need-returns-5
+returns-5 c =
+    let d = c .before .before .before .before in
+    let h = headed (d .before .before .before) in
+    record-body _ _ (h .four) (h .long) (h .kept) (front d) (rw (c .enum-told2 .given .1) at (c .before .before .read-body .ensures))
+
+sub-len : tie.Need-sub-len
+sub-len c = omega (arith, inside (c .before .before .before .before .before))
+
+returns-6 : tie.Need-returns-6
+returns-6 c =
+    let d = c .before .before .before .before .before in
+    let h = headed (d .before .before .before) in
+    record-whole _ _ (h .four) (h .long) (h .kept) (front d) (rw (c .before .kind .given .1) at (c .before .before .before .read-body .ensures))
+
+pub read-record-spec : {M : Type 1} → statement M
+read-record-spec =
+    tie.close
+    (tie.spec
+    returns
+    shared-slice-read-length
+    cast-length
+    mul-length
+    shared-slice-read-length-2
+    cast-length-2
+    add-length
+    returns-2
+    version-requires
+    shared-slice-read-if3
+    returns-3
+    sub-aid-end
+    part-aid-end-start
+    part-aid-end-end
+    aid-end-requires
+    enum-known-n
+    enum-told
+    returns-4
+    add-read-body
+    shared-slice-read-read-body
+    read-body-requires
+    enum-known-kind
+    enum-told-2
+    returns-5
+    sub-len
+    returns-6)

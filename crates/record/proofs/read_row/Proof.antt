@@ -1,0 +1,65 @@
+-- `record::read_row` meets its contract: one row, and nothing after it.
+use denote.Ref.{now}
+use Rattle.record.proofs.Fronts.{at-part, took, took-bad}
+use Rattle.record.proofs.Bodies.{row-bad, row-left, row-good}
+use borrow.Author.Needs.{needs}
+use Rattle.record.proofs.read_row.Statement.{statement}
+use Rattle.record.proofs.read_row.Tie as tie
+
+sub-row-end : tie.Need-sub-row-end
+sub-row-end c = search needs
+
+part-row-end-start : tie.Need-part-row-end-start
+part-row-end-start c = search needs
+
+part-row-end-end : tie.Need-part-row-end-end
+part-row-end-end c = search needs
+
+row-end-requires : tie.Need-row-end-requires
+row-end-requires c κs = search needs
+
+enum-told : tie.Need-enum-told
+enum-told c = search needs
+
+enum-told-2 : tie.Need-enum-told-2
+enum-told-2 c = search needs
+
+returns : tie.Need-returns
+returns c =
+    let a = c .before .before .before .before .before in
+    row-bad _ (now (a .args .rec)) (a .args .kind) (a .args .at) (a .pre .1) (a .pre .2)
+    (took-bad (at-part (now (a .args .rec)) (a .args .at) (c .enum-told2 .given .1) (c .before .before .row-end .ensures)))
+
+row-at-requires : tie.Need-row-at-requires
+row-at-requires c κs =
+    let a = c .before .before .before .before .before in
+    rw (took (at-part (now (a .args .rec)) (a .args .at) (c .enum-told .given .1) (c .before .before .row-end .ensures)) .1) tt
+
+returns-2 : tie.Need-returns-2
+returns-2 c =
+    let a = c .before .before .before .before .before .before .before .before in
+    row-left _ _ _ _ (a .pre .1) (a .pre .2) (c .before .before .row-at .ensures) (c .if1 .taken)
+
+row-kind-requires : tie.Need-row-kind-requires
+row-kind-requires c κs = search needs
+
+returns-3 : tie.Need-returns-3
+returns-3 c =
+    let a = c .before .before .before .before .before .before .before .before .before .before .before in
+    row-good _ _ _ _ (a .pre .1) (a .pre .2) (c .before .before .before .before .before .row-at .ensures) (c .row-kind .ensures) (c .before .before .before .if1 .left)
+
+pub read-row-spec : {M : Type 1} → statement M
+read-row-spec =
+    tie.close
+    (tie.spec
+    sub-row-end
+    part-row-end-start
+    part-row-end-end
+    row-end-requires
+    enum-told
+    enum-told-2
+    returns
+    row-at-requires
+    returns-2
+    row-kind-requires
+    returns-3)

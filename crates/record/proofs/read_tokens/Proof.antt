@@ -1,0 +1,52 @@
+-- `record::read_tokens` meets its contract.
+use denote.Ref.{now}
+use Rattle.record.proofs.Fronts.{at-part}
+use Rattle.record.proofs.Places.{served-bad, served-two, served-good}
+use borrow.Author.Needs.{needs}
+use Rattle.record.proofs.read_tokens.Statement.{statement}
+use Rattle.record.proofs.read_tokens.Tie as tie
+
+sub-tokens-end : tie.Need-sub-tokens-end
+sub-tokens-end c = search needs
+
+part-tokens-end-start : tie.Need-part-tokens-end-start
+part-tokens-end-start c = search needs
+
+part-tokens-end-end : tie.Need-part-tokens-end-end
+part-tokens-end-end c = search needs
+
+tokens-end-requires : tie.Need-tokens-end-requires
+tokens-end-requires c κs = search needs
+
+enum-told : tie.Need-enum-told
+enum-told c = search needs
+
+enum-told-2 : tie.Need-enum-told-2
+enum-told-2 c = search needs
+
+returns : tie.Need-returns
+returns c = let a = c .before .before .before .before .before .args in served-bad (at-part (now (a .rec)) (a .at) (c .enum-told2 .given .1) (c .before .before .tokens-end .ensures))
+
+tokens-at-requires : tie.Need-tokens-at-requires
+tokens-at-requires c κs =
+    let a = c .before .before .before .before .before in
+    served-two (a .args .at) (now (a .args .rec)) (a .pre) (at-part (now (a .args .rec)) (a .args .at) (c .enum-told .given .1) (c .before .before .tokens-end .ensures))
+
+returns-2 : tie.Need-returns-2
+returns-2 c =
+    let a = c .before .before .before .before .before .before in
+    served-good (a .pre) (at-part (now (a .args .rec)) (a .args .at) (c .before .enum-told .given .1) (c .before .before .before .tokens-end .ensures)) (c .tokens-at .ensures)
+
+pub read-tokens-spec : {M : Type 1} → statement M
+read-tokens-spec =
+    tie.close
+    (tie.spec
+    sub-tokens-end
+    part-tokens-end-start
+    part-tokens-end-end
+    tokens-end-requires
+    enum-told
+    enum-told-2
+    returns
+    tokens-at-requires
+    returns-2)

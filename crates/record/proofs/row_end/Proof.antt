@@ -1,0 +1,79 @@
+-- `record::row_end` meets its contract: an AID, and then tokens.
+use native.Mathlib.Omega.{arith}
+use denote.Ref.{now}
+use lib.ListN.{length-drop}
+use Rattle.policy.specs.Record.{aid}
+use Rattle.record.specs.Meaning.{Takes}
+use Rattle.record.specs.declared.Took.the-variants.{Bytes}
+use Rattle.record.proofs.Fronts.{at-part, row-none, row-short, row-good}
+use borrow.Author.Needs.{needs}
+use Rattle.record.proofs.row_end.Statement.{statement}
+use Rattle.record.proofs.row_end.Tie as tie
+
+-- what aid_end says where it took n bytes
+front : (c : tie.After-known-told) → Takes aid (now (c .before .before .before .before .before .args .part)) (Bytes (c .before .n .given .0 .0))
+front c = rw (c .before .n .given .1) at (c .before .before .before .aid-end .ensures)
+
+aid-end-requires : tie.Need-aid-end-requires
+aid-end-requires c κs = search needs
+
+enum-known-n : tie.Need-enum-known-n
+enum-known-n c = search needs
+
+enum-told : tie.Need-enum-told
+enum-told c = search needs
+
+returns : tie.Need-returns
+returns c = row-none (rw (c .enum-told .given .1) at (c .before .before .aid-end .ensures))
+
+sub-tokens-end : tie.Need-sub-tokens-end
+sub-tokens-end c = front c .fits
+
+part-tokens-end-start : tie.Need-part-tokens-end-start
+part-tokens-end-start c = front c .fits
+
+part-tokens-end-end : tie.Need-part-tokens-end-end
+part-tokens-end-end c = search needs
+
+tokens-end-requires : tie.Need-tokens-end-requires
+tokens-end-requires c κs = search needs
+
+enum-known-m : tie.Need-enum-known-m
+enum-known-m c = search needs
+
+enum-told-2 : tie.Need-enum-told-2
+enum-told-2 c = search needs
+
+returns-2 : tie.Need-returns-2
+returns-2 c =
+    let d = c .before .before .before .before in
+    row-short (front d) (at-part (now (d .before .before .before .before .before .args .part)) (d .before .n .given .0 .0) (c .enum-told2 .given .1) (c .before .before .tokens-end .ensures))
+
+add-t7 : tie.Need-add-t7
+add-t7 c =
+    let d = c .before .before .before .before .before in
+    let s = now (d .before .before .before .before .before .args .part) in
+    omega (arith, front d .fits, at-part s (d .before .n .given .0 .0) (c .before .m .given .1) (c .before .before .before .tokens-end .ensures) .fits, length-drop (d .before .n .given .0 .0) s, d .before .before .before .before .before)
+
+returns-3 : tie.Need-returns-3
+returns-3 c =
+    let d = c .before .before .before .before .before in
+    row-good (front d) (at-part (now (d .before .before .before .before .before .args .part)) (d .before .n .given .0 .0) (c .before .m .given .1) (c .before .before .before .tokens-end .ensures))
+
+pub row-end-spec : {M : Type 1} → statement M
+row-end-spec =
+    tie.close
+    (tie.spec
+    aid-end-requires
+    enum-known-n
+    enum-told
+    returns
+    sub-tokens-end
+    part-tokens-end-start
+    part-tokens-end-end
+    tokens-end-requires
+    enum-known-m
+    enum-told-2
+    returns-2
+    add-t7
+    returns-3)

@@ -1,0 +1,267 @@
+-- What the positions in the code's answers stand for.
+use Prim.Native.Nat.{ℕ, _+_, _≤_}
+use mathlib.Core.Path.{_≡_}
+use mathlib.Core.Bool.{cond}
+use mathlib.Core.List.{List, [], _∷_}
+use mathlib.Core.Option.{Option, none, some}
+use lib.Dec.{eqb}
+use lib.ListN.{length, take, drop, getD}
+use Rattle.policy.specs.Contract.{Aid as Bytes, Tok, Row}
+use Rattle.policy.specs.Layout.{Layout}
+use Rattle.policy.specs.Record.{Got, got, bad, Reader, number, aid, tokens, aRow, many, counted, whole, parse}
+use Rattle.policy.specs.Record.{Change, load, remove, addService, removeService, addCall, removeCall, addGrant, removeGrant, addNeed, removeNeed, Request}
+use Rattle.record.specs.declared.Took.{Took}
+use Rattle.record.specs.declared.Took.the-variants as took
+use Rattle.record.specs.declared.Sort.{Sort}
+use Rattle.record.specs.declared.Sort.the-variants as sort
+use Rattle.record.specs.declared.Count.{Count}
+use Rattle.record.specs.declared.Count.the-variants as count
+use Rattle.record.specs.declared.Listed.{Listed}
+use Rattle.record.specs.declared.Listed.the-variants as listed
+use Rattle.record.specs.declared.Tokens.{Tokens}
+use Rattle.record.specs.declared.Aid.{Aid}
+use Rattle.record.specs.declared.Items.{Items}
+use Rattle.record.specs.declared.Kind.{Kind}
+use Rattle.record.specs.declared.Kind.the-variants.{Load, Remove, AddService, RemoveService, AddCall, RemoveCall, AddGrant, RemoveGrant, AddNeed, RemoveNeed}
+use Rattle.record.specs.declared.Body.{Body}
+use Rattle.record.specs.declared.Body.the-variants as body
+use Rattle.record.specs.declared.Read.{Read}
+use Rattle.record.specs.declared.Read.the-variants as read
+use Rattle.record.specs.declared.Record.{Record}
+use Rattle.record.specs.declared.Placed.{Placed}
+use Rattle.record.specs.declared.Placed.the-variants as placed
+use Rattle.record.specs.declared.Service.{Service}
+use Rattle.record.specs.declared.Service.the-variants as service
+use Rattle.record.specs.declared.RowAt.{RowAt}
+use Rattle.record.specs.declared.rows.RowStep.{RowStep}
+use Rattle.record.specs.declared.rows.AidStep.{AidStep}
+use Rattle.record.specs.declared.rows.TokensStep.{TokensStep}
+
+-- ---- what a reader gives
+-- the value, or d where there is none
+abbrev pub valueOf : {A : Type 0} → A → Got A → A
+valueOf d (got a s) = a
+valueOf d bad = d
+
+-- something was read
+abbrev pub Good : {A : Type 0} → Got A → Type 0
+Good (got a s) = Unit {0}
+Good bad = ⊥
+
+-- the bytes after what was read
+abbrev pub after : {A : Type 0} → Got A → Option (List ℕ)
+after (got a s) = some s
+after bad = none
+
+-- the n things that stand at the front of s
+abbrev pub itemsOf : {A : Type 0} → Reader A → ℕ → List ℕ → List A
+itemsOf p n s = valueOf [] (many p n s)
+
+-- ---- what the code took of the front of a part s
+abbrev pub leftOf : List ℕ → Took → Option (List ℕ)
+leftOf s (took.Bytes n) = some (drop n s)
+leftOf s took.Malformed = none
+
+abbrev pub TookFits : List ℕ → Took → Type 0
+TookFits s (took.Bytes n) = n ≤ length s
+TookFits s took.Malformed = Unit {0}
+
+-- r takes of the front of s what p reads, and is Malformed exactly where p reads nothing
+pub record Takes {A : Type 0} (p : Reader A) (s : List ℕ) (r : Took) : Type 0 where
+  pub fits : TookFits s r
+  pub same : leftOf s r ≡ after (p s)
+
+-- ---- lists: what each sort holds, its reader, the bytes of its count, and the most things of it
+abbrev pub Item : Sort → Type 0
+Item sort.Service = Tok
+Item sort.Caller = Bytes
+Item sort.Row = Row
+
+abbrev pub reader : (k : Sort) → Reader (Item k)
+reader sort.Service = tokens
+reader sort.Caller = aid
+reader sort.Row = aRow
+
+module _ (L : Layout) where
+  abbrev pub widthOf : Sort → ℕ
+  widthOf sort.Service = 1
+  widthOf sort.Caller = 1
+  widthOf sort.Row = L .countWidth
+
+  abbrev pub mostOf : Sort → ℕ
+  mostOf sort.Service = L .services
+  mostOf sort.Caller = L .mostCallers
+  mostOf sort.Row = L .mostRows
+
+  abbrev pub listReader : (k : Sort) → Reader (List (Item k))
+  listReader k = counted (widthOf k) (mostOf k) (reader k)
+
+abbrev pub countOf : List ℕ → Count → Got ℕ
+countOf s (count.Found n size) = got n (drop size s)
+countOf s count.Malformed = bad
+
+abbrev pub CountFits : List ℕ → Count → Type 0
+CountFits s (count.Found n size) = size ≤ length s
+CountFits s count.Malformed = Unit {0}
+
+-- r is the count of w bytes at the front of s
+pub record Counts (w : ℕ) (s : List ℕ) (r : Count) : Type 0 where
+  pub fits : CountFits s r
+  pub same : countOf s r ≡ number w s
+
+-- c things from b on, n bytes in all
+abbrev pub listOf : {A : Type 0} → Reader A → List ℕ → Listed → Got (List A)
+listOf p s (listed.Found b c n) = got (itemsOf p c (drop b s)) (drop n s)
+listOf p s listed.Malformed = bad
+
+abbrev pub ListFits : {A : Type 0} → Reader A → List ℕ → Listed → Type 0
+ListFits p s (listed.Found b c n) = (b ≤ n) × (n ≤ length s) × Good (many p c (drop b s))
+ListFits p s listed.Malformed = Unit {0}
+
+-- r is the list that q reads at the front of s, of things that p reads
+pub record Lists {A : Type 0} (p : Reader A) (q : Reader (List A)) (s : List ℕ) (r : Listed) : Type 0 where
+  pub fits : ListFits p s r
+  pub same : listOf p s r ≡ q s
+
+-- ---- what an answer names in the record s: tokens, an AID, a row, the things of a list, a change
+abbrev pub tokOf : Tokens → Tok
+tokOf t = record { itf = t .interface; mth = t .method }
+
+-- the tokens at a position of s
+abbrev pub tokAt : List ℕ → ℕ → Tok
+tokAt s at = record { itf = getD s at 0; mth = getD s (at + 1) 0 }
+
+abbrev pub aidIn : List ℕ → Aid → Bytes
+aidIn s a = take (a .len) (drop (a .at) s)
+
+abbrev pub rowIn : List ℕ → Aid → Tokens → Row
+rowIn s a t = record { aid = aidIn s a; tok = tokOf t }
+
+abbrev pub itemsIn : {A : Type 0} → Reader A → List ℕ → Items → List A
+itemsIn p s i = itemsOf p (i .count) (drop (i .at) s)
+
+abbrev pub kindOf : List ℕ → Kind → Change
+kindOf s (Load p c g n) = load (itemsIn tokens s p) (itemsIn aRow s c) (itemsIn aRow s g) (itemsIn aRow s n)
+kindOf s Remove = remove
+kindOf s (AddService t l) = addService (tokOf t) (itemsIn aid s l)
+kindOf s (RemoveService t) = removeService (tokOf t)
+kindOf s (AddCall a t) = addCall (rowIn s a t)
+kindOf s (RemoveCall a t) = removeCall (rowIn s a t)
+kindOf s (AddGrant a t) = addGrant (rowIn s a t)
+kindOf s (RemoveGrant a t) = removeGrant (rowIn s a t)
+kindOf s (AddNeed a t) = addNeed (rowIn s a t)
+kindOf s (RemoveNeed a t) = removeNeed (rowIn s a t)
+
+-- the positions are in the record, an AID has 5 to 16 bytes, and the lists stand where they are said to
+pub record AidFits (s : List ℕ) (a : Aid) : Type 0 where
+  pub inside : a .at + a .len ≤ length s
+  pub low : 5 ≤ a .len
+  pub high : a .len ≤ 16
+
+pub record Stands {A : Type 0} (p : Reader A) (s : List ℕ) (i : Items) : Type 0 where
+  pub inside : i .at ≤ length s
+  pub good : Good (many p (i .count) (drop (i .at) s))
+
+abbrev pub KindFits : List ℕ → Kind → Type 0
+KindFits s (Load p c g n) = Stands tokens s p × Stands aRow s c × Stands aRow s g × Stands aRow s n
+KindFits s Remove = Unit {0}
+KindFits s (AddService t l) = Stands aid s l
+KindFits s (RemoveService t) = Unit {0}
+KindFits s (AddCall a t) = AidFits s a
+KindFits s (RemoveCall a t) = AidFits s a
+KindFits s (AddGrant a t) = AidFits s a
+KindFits s (RemoveGrant a t) = AidFits s a
+KindFits s (AddNeed a t) = AidFits s a
+KindFits s (RemoveNeed a t) = AidFits s a
+
+-- ---- parts at a position of the record s
+abbrev pub placedOf : {A : Type 0} → Reader A → List ℕ → Placed → Got (List A)
+placedOf p s (placed.Found i n) = got (itemsIn p s i) (drop n s)
+placedOf p s placed.Malformed = bad
+
+abbrev pub PlacedFits : {A : Type 0} → Reader A → List ℕ → Placed → Type 0
+PlacedFits p s (placed.Found i n) = (n ≤ length s) × Stands p s i
+PlacedFits p s placed.Malformed = Unit {0}
+
+-- r is the list that q reads at a position
+pub record Places {A : Type 0} (p : Reader A) (q : Reader (List A)) (at : ℕ) (s : List ℕ) (r : Placed) : Type 0 where
+  pub fits : PlacedFits p s r
+  pub same : placedOf p s r ≡ q (drop at s)
+
+abbrev pub servedOf : ℕ → List ℕ → Service → Got Tok
+servedOf at s (service.Found t) = got (tokOf t) (drop (at + 2) s)
+servedOf at s service.Malformed = bad
+
+abbrev pub ServedFits : ℕ → List ℕ → Service → Type 0
+ServedFits at s (service.Found t) = at + 2 ≤ length s
+ServedFits at s service.Malformed = Unit {0}
+
+-- r is the tokens at a position
+pub record Served (at : ℕ) (s : List ℕ) (r : Service) : Type 0 where
+  pub fits : ServedFits at s r
+  pub same : servedOf at s r ≡ tokens (drop at s)
+
+-- r is the row at a position
+pub record RowStands (at : ℕ) (s : List ℕ) (r : RowAt) : Type 0 where
+  pub inside : r .next ≤ length s
+  pub other : AidFits s (r .other)
+  pub same : aRow (drop at s) ≡ got (rowIn s (r .other) (r .tokens)) (drop (r .next) s)
+
+-- ---- the first of the things of a list, and the list of those after it
+pub record Uncons {A : Type 0} (p : Reader A) (s : List ℕ) (items : Items) (x : A) (rest : Items) : Type 0 where
+  pub stands : Stands p s rest
+  pub fewer : rest .count + 1 ≡ items .count
+  pub same : itemsIn p s items ≡ x ∷ itemsIn p s rest
+
+pub record UnconsRow (s : List ℕ) (items : Items) (r : RowStep) : Type 0 where
+  pub other : AidFits s (r .other)
+  pub split : Uncons aRow s items (rowIn s (r .other) (r .tokens)) (r .rest)
+
+pub record UnconsAid (s : List ℕ) (items : Items) (r : AidStep) : Type 0 where
+  pub fits : AidFits s (r .aid)
+  pub split : Uncons aid s items (aidIn s (r .aid)) (r .rest)
+
+abbrev pub UnconsTokens : List ℕ → Items → TokensStep → Type 0
+UnconsTokens s items r = Uncons tokens s items (tokOf (r .tokens)) (r .rest)
+
+-- ---- the change, and the whole record
+-- the kind of a record whose change is of one row, and the change
+unfoldable pub rowKind : ℕ → Aid → Tokens → Kind
+rowKind k a t =
+    cond (eqb k 5) (AddCall a t)
+    (cond (eqb k 6) (RemoveCall a t)
+    (cond (eqb k 7) (AddGrant a t)
+    (cond (eqb k 8) (RemoveGrant a t)
+    (cond (eqb k 9) (AddNeed a t) (RemoveNeed a t)))))
+
+abbrev pub bodyOf : List ℕ → Body → Option Change
+bodyOf s (body.Whole k) = some (kindOf s k)
+bodyOf s body.Malformed = none
+
+abbrev pub BodyFits : List ℕ → Body → Type 0
+BodyFits s (body.Whole k) = KindFits s k
+BodyFits s body.Malformed = Unit {0}
+
+-- r is the change g, in positions of s, and is Malformed exactly where there is none, or bytes are left over
+pub record Bodies (L : Layout) (g : Got Change) (s : List ℕ) (r : Body) : Type 0 where
+  pub fits : BodyFits s r
+  pub same : bodyOf s r ≡ whole L g
+
+abbrev pub recordOf : List ℕ → Record → Request
+recordOf s r = record { aid = aidIn s (r .aid); change = kindOf s (r .kind) }
+
+abbrev pub RecordFits : List ℕ → Record → Type 0
+RecordFits s r = AidFits s (r .aid) × KindFits s (r .kind)
+
+abbrev pub requestOf : List ℕ → Read → Option Request
+requestOf s (read.Whole r) = some (recordOf s r)
+requestOf s read.Malformed = none
+
+abbrev pub ReadFits : List ℕ → Read → Type 0
+ReadFits s (read.Whole r) = RecordFits s r
+ReadFits s read.Malformed = Unit {0}
+
+-- r is the request that s reads as, in positions of s, and is Malformed exactly where s is no record
+pub record Parses (L : Layout) (s : List ℕ) (r : Read) : Type 0 where
+  pub fits : ReadFits s r
+  pub same : requestOf s r ≡ parse L s

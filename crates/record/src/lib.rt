@@ -1,0 +1,459 @@
+// Reads a record: where its parts are, or that it is malformed. Positions count from the record's first byte.
+ghost use mathlib.Core.Path.{_≡_};
+ghost use Prim.Native.Nat.{_+_, _-_, _≤_, _<_};
+ghost use lib.ListN.{length, drop, getD};
+ghost use Rattle.policy.specs.Record.{aid, tokens, aRow, many, aLoad, aService, change, firstAid};
+ghost use Rattle.geometry.specs.Geometry.{layoutOf};
+ghost use Rattle.record.specs.Meaning.{Takes, reader, widthOf, mostOf, listReader, Counts, Lists, Places, Served, Good, RowStands, tokOf, tokAt, Bodies, rowKind, Parses};
+use geometry::Card;
+
+pub mod proper;
+pub mod reader;
+pub mod rows;
+pub mod same;
+
+// How many bytes a reader took of the front of its part.
+pub enum Took {
+    Bytes(usize),
+    Malformed,
+}
+
+// What a list holds.
+pub enum Sort {
+    Service,
+    Caller,
+    Row,
+}
+
+// A count that was read, and how many bytes it takes.
+pub enum Count {
+    Found { count: usize, size: usize },
+    Malformed,
+}
+
+// A list that was read: where its things start, how many there are, and how many bytes it takes in all.
+pub enum Listed {
+    Found {
+        start: usize,
+        count: usize,
+        size: usize,
+    },
+    Malformed,
+}
+
+// The tokens of a service.
+pub struct Tokens {
+    pub interface: u8,
+    pub method: u8,
+}
+
+// The bytes of an AID in the record.
+pub struct Aid {
+    pub at: usize,
+    pub len: usize,
+}
+
+// The things of a list: where the first starts, and how many there are.
+pub struct Items {
+    pub at: usize,
+    pub count: usize,
+}
+
+// What follows the first AID, for the kinds from 1 to 10.
+pub enum Kind {
+    Load {
+        provides: Items,
+        calls: Items,
+        grants: Items,
+        needs: Items,
+    },
+    Remove,
+    AddService(Tokens, Items),
+    RemoveService(Tokens),
+    AddCall(Aid, Tokens),
+    RemoveCall(Aid, Tokens),
+    AddGrant(Aid, Tokens),
+    RemoveGrant(Aid, Tokens),
+    AddNeed(Aid, Tokens),
+    RemoveNeed(Aid, Tokens),
+}
+
+// A record: the first AID, and the change of its contract.
+pub struct Record {
+    pub aid: Aid,
+    pub kind: Kind,
+}
+
+// A record that was read; Malformed is cause 2.
+pub enum Read {
+    Whole(Record),
+    Malformed,
+}
+
+// What follows the first AID, with no bytes left over.
+pub enum Body {
+    Whole(Kind),
+    Malformed,
+}
+
+// A list at a position: its things, and the position after it.
+pub enum Placed {
+    Found { items: Items, next: usize },
+    Malformed,
+}
+
+// The tokens at a position.
+pub enum Service {
+    Found(Tokens),
+    Malformed,
+}
+
+// A row at a position: the other end's AID, the tokens, and the position after it.
+pub struct RowAt {
+    pub other: Aid,
+    pub tokens: Tokens,
+    pub next: usize,
+}
+
+// An AID: a length byte from 5 to 16, and as many bytes.
+fn aid_end(part: &[u8]) -> Took
+    ensures { λ r. ⌜ Takes aid (now (part .entry)) r ⌝ }
+{
+    if part.len() == 0 {
+        return Took::Malformed;
+    }
+    let n = part[0] as usize;
+    if n < 5 {
+        return Took::Malformed;
+    }
+    if 16 < n {
+        return Took::Malformed;
+    }
+    if part.len() - 1 < n {
+        return Took::Malformed;
+    }
+    Took::Bytes(n + 1)
+}
+
+// Two token bytes.
+fn tokens_end(part: &[u8]) -> Took
+    ensures { λ r. ⌜ Takes tokens (now (part .entry)) r ⌝ }
+{
+    if part.len() < 2 {
+        return Took::Malformed;
+    }
+    Took::Bytes(2)
+}
+
+// A row: an AID and two token bytes.
+fn row_end(part: &[u8]) -> Took
+    ensures { λ r. ⌜ Takes aRow (now (part .entry)) r ⌝ }
+{
+    let Took::Bytes(n) = aid_end(part) else {
+        return Took::Malformed;
+    };
+    let Took::Bytes(m) = tokens_end(&part[n..]) else {
+        return Took::Malformed;
+    };
+    Took::Bytes(n + m)
+}
+
+fn item_end(part: &[u8], sort: Sort) -> Took
+    ensures { λ r. ⌜ Takes (reader sort) (now (part .entry)) r ⌝ }
+{
+    match sort {
+        Sort::Service => tokens_end(part),
+        Sort::Caller => aid_end(part),
+        Sort::Row => row_end(part),
+    }
+}
+
+// So many things of a sort, one after another.
+fn items_end(part: &[u8], sort: Sort, count: usize) -> Took
+    ensures { λ r. ⌜ Takes (many (reader sort) count) (now (part .entry)) r ⌝ }
+{
+    let mut at: usize = 0;
+    let mut left = count;
+    while 0 < left {
+        match item_end(&part[at..], sort) {
+            Took::Malformed => {
+                return Took::Malformed;
+            }
+            Took::Bytes(n) => {
+                at += n;
+            }
+        }
+        left -= 1;
+    }
+    Took::Bytes(at)
+}
+
+// The count of a list of a sort.
+fn read_count(part: &[u8], c: Card, sort: Sort) -> Count
+    ensures { λ r. ⌜ Counts (widthOf (layoutOf c) sort) (now (part .entry)) r ⌝ }
+{
+    match c {
+        Card::Small => {
+            if part.len() == 0 {
+                return Count::Malformed;
+            }
+            let count = part[0] as usize;
+            Count::Found { count, size: 1 }
+        }
+    }
+}
+
+// The most things of a list of a sort.
+fn most(c: Card, sort: Sort) -> usize
+    ensures { λ r. ⌜ r ≡ mostOf (layoutOf c) sort ⌝ }
+{
+    match sort {
+        Sort::Service => geometry::services(c),
+        Sort::Caller => geometry::most_callers(c),
+        Sort::Row => geometry::most_rows(c),
+    }
+}
+
+// A list: a count, at most as high as the card has it, and as many things.
+fn list_end(part: &[u8], c: Card, sort: Sort) -> Listed
+    ensures { λ r. ⌜ Lists (reader sort) (listReader (layoutOf c) sort) (now (part .entry)) r ⌝ }
+{
+    let Count::Found { count, size: start } = read_count(part, c, sort) else {
+        return Listed::Malformed;
+    };
+    if most(c, sort) < count {
+        return Listed::Malformed;
+    }
+    let Took::Bytes(n) = items_end(&part[start..], sort, count) else {
+        return Listed::Malformed;
+    };
+    let size = start + n;
+    Listed::Found { start, count, size }
+}
+
+// The list at a position of the record.
+fn list_at(rec: &[u8], at: usize, c: Card, sort: Sort) -> Placed
+    requires { ⌜ at ≤ length (now rec) ⌝ }
+    ensures { λ r. ⌜ Places (reader sort) (listReader (layoutOf c) sort) at (now (rec .entry)) r ⌝ }
+{
+    let Listed::Found { start, count, size } = list_end(&rec[at..], c, sort) else {
+        return Placed::Malformed;
+    };
+    let first = at + start;
+    let next = at + size;
+    let items = Items { at: first, count };
+    Placed::Found { items, next }
+}
+
+// A load's four lists, from a position to the record's end.
+fn read_load(rec: &[u8], at: usize, c: Card) -> Body
+    requires { ⌜ at ≤ length (now rec) ⌝ }
+    ensures { λ r. ⌜ Bodies (layoutOf c) (aLoad (layoutOf c) (drop at (now (rec .entry)))) (now (rec .entry)) r ⌝ }
+{
+    let Placed::Found {
+        items: provides,
+        next: calls_at,
+    } = reader::read_list(rec, at, c, Sort::Service)
+    else {
+        return Body::Malformed;
+    };
+    let Placed::Found {
+        items: calls,
+        next: grants_at,
+    } = reader::read_list(rec, calls_at, c, Sort::Row)
+    else {
+        return Body::Malformed;
+    };
+    let Placed::Found {
+        items: grants,
+        next: needs_at,
+    } = reader::read_list(rec, grants_at, c, Sort::Row)
+    else {
+        return Body::Malformed;
+    };
+    let Placed::Found {
+        items: needs,
+        next: end,
+    } = reader::read_list(rec, needs_at, c, Sort::Row)
+    else {
+        return Body::Malformed;
+    };
+    if end < rec.len() {
+        return Body::Malformed;
+    }
+    Body::Whole(Kind::Load {
+        provides,
+        calls,
+        grants,
+        needs,
+    })
+}
+
+// The tokens at a position of the record.
+fn tokens_at(rec: &[u8], at: usize) -> Tokens
+    requires { ⌜ at + 2 ≤ length (now rec) ⌝ }
+    ensures { λ r. ⌜ tokOf r ≡ tokAt (now (rec .entry)) at ⌝ }
+{
+    Tokens {
+        interface: rec[at],
+        method: rec[at + 1],
+    }
+}
+
+// The tokens at a position of the record, or that none stand there.
+fn read_tokens(rec: &[u8], at: usize) -> Service
+    requires { ⌜ at ≤ length (now rec) ⌝ }
+    ensures { λ r. ⌜ Served at (now (rec .entry)) r ⌝ }
+{
+    let Took::Bytes(_) = tokens_end(&rec[at..]) else {
+        return Service::Malformed;
+    };
+    Service::Found(tokens_at(rec, at))
+}
+
+// A service and its callers, from a position to the record's end.
+fn read_add_service(rec: &[u8], at: usize, c: Card) -> Body
+    requires { ⌜ at ≤ length (now rec) ⌝ }
+    ensures { λ r. ⌜ Bodies (layoutOf c) (aService (layoutOf c) (drop at (now (rec .entry)))) (now (rec .entry)) r ⌝ }
+{
+    let Service::Found(tokens) = read_tokens(rec, at) else {
+        return Body::Malformed;
+    };
+    let Placed::Found {
+        items: callers,
+        next: end,
+    } = reader::read_list(rec, at + 2, c, Sort::Caller)
+    else {
+        return Body::Malformed;
+    };
+    if end < rec.len() {
+        return Body::Malformed;
+    }
+    Body::Whole(Kind::AddService(tokens, callers))
+}
+
+// A service alone, from a position to the record's end.
+fn read_remove_service(rec: &[u8], at: usize, c: Card) -> Body
+    requires { ⌜ at ≤ length (now rec) ⌝ }
+    ensures { λ r. ⌜ Bodies (layoutOf c) (change (layoutOf c) 4 (drop at (now (rec .entry)))) (now (rec .entry)) r ⌝ }
+{
+    let Service::Found(tokens) = read_tokens(rec, at) else {
+        return Body::Malformed;
+    };
+    if at + 2 < rec.len() {
+        return Body::Malformed;
+    }
+    Body::Whole(Kind::RemoveService(tokens))
+}
+
+// The kind of a record whose change is of one row.
+fn row_kind(kind: u8, other: Aid, tokens: Tokens) -> Kind
+    ensures { λ r. ⌜ r ≡ rowKind kind other tokens ⌝ }
+{
+    match kind {
+        5 => Kind::AddCall(other, tokens),
+        6 => Kind::RemoveCall(other, tokens),
+        7 => Kind::AddGrant(other, tokens),
+        8 => Kind::RemoveGrant(other, tokens),
+        9 => Kind::AddNeed(other, tokens),
+        _ => Kind::RemoveNeed(other, tokens),
+    }
+}
+
+// The row at a position of the record, where one stands.
+fn row_at(rec: &[u8], at: usize) -> RowAt
+    requires { ⌜ Good (aRow (drop at (now rec))) ⌝ }
+    ensures { λ r. ⌜ RowStands at (now (rec .entry)) r ⌝ }
+{
+    let len = rec[at] as usize;
+    let other = Aid { at: at + 1, len };
+    let tokens = tokens_at(rec, at + 1 + len);
+    RowAt {
+        other,
+        tokens,
+        next: at + 3 + len,
+    }
+}
+
+// One row, from a position to the record's end.
+fn read_row(rec: &[u8], at: usize, c: Card, kind: u8) -> Body
+    requires { ⌜ (at ≤ length (now rec)) × (5 ≤ kind) × (kind ≤ 10) ⌝ }
+    ensures { λ r. ⌜ Bodies (layoutOf c) (change (layoutOf c) kind (drop at (now (rec .entry)))) (now (rec .entry)) r ⌝ }
+{
+    let Took::Bytes(_) = row_end(&rec[at..]) else {
+        return Body::Malformed;
+    };
+    let r = row_at(rec, at);
+    if r.next < rec.len() {
+        return Body::Malformed;
+    }
+    let other = r.other;
+    let tokens = r.tokens;
+    Body::Whole(row_kind(kind, other, tokens))
+}
+
+// What follows the first AID, from a position to the record's end.
+fn read_body(rec: &[u8], at: usize, c: Card, kind: u8) -> Body
+    requires { ⌜ at ≤ length (now rec) ⌝ }
+    ensures { λ r. ⌜ Bodies (layoutOf c) (change (layoutOf c) kind (drop at (now (rec .entry)))) (now (rec .entry)) r ⌝ }
+{
+    match kind {
+        1 => read_load(rec, at, c),
+        2 => {
+            if at < rec.len() {
+                return Body::Malformed;
+            }
+            Body::Whole(Kind::Remove)
+        }
+        3 => read_add_service(rec, at, c),
+        4 => read_remove_service(rec, at, c),
+        _ => {
+            if kind < 5 {
+                return Body::Malformed;
+            }
+            if 10 < kind {
+                return Body::Malformed;
+            }
+            read_row(rec, at, c, kind)
+        }
+    }
+}
+
+// The whole record.
+pub fn read_record(rec: &[u8], c: Card) -> Read
+    ensures { λ r. ⌜ Parses (layoutOf c) (now (rec .entry)) r ⌝ }
+{
+    if rec.len() < 4 {
+        return Read::Malformed;
+    }
+    let length = (rec[0] as usize) * 256 + (rec[1] as usize);
+    if length != rec.len() {
+        return Read::Malformed;
+    }
+    let version = geometry::version(c);
+    if rec[2] != version {
+        return Read::Malformed;
+    }
+    let Took::Bytes(n) = aid_end(&rec[4..]) else {
+        return Read::Malformed;
+    };
+    let Body::Whole(kind) = read_body(rec, n + 4, c, rec[3]) else {
+        return Read::Malformed;
+    };
+    let len = n - 1;
+    let aid = Aid { at: 5, len };
+    Read::Whole(Record { aid, kind })
+}
+
+// The first AID's bytes, or an empty part of a malformed record.
+pub fn aid_part(rec: &[u8], c: Card) -> &[u8]
+    ensures { λ r. ⌜ now r ≡ firstAid (layoutOf c) (now (rec .entry)) ⌝ }
+{
+    let Read::Whole(r) = read_record(rec, c) else {
+        return &rec[..0];
+    };
+    let a = r.aid;
+    let at = a.at;
+    let end = at + a.len;
+    &rec[at..end]
+}

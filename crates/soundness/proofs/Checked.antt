@@ -1,0 +1,453 @@
+-- An image that passes the check is what its tables give, and they satisfy the facts.
+use Prim.Native.Nat.{ℕ, zero, suc, _+_, _*_, _-_, _^_, _≤_, _<_}
+use native.Mathlib.Omega.{arith}
+use native.Mathlib.Nat.{add-mul, add-sub-of-le}
+use mathlib.Core.Path.{_≡_, refl, sym, ap, _∙_, subst}
+use mathlib.Core.Logic.{_⊎_, inl, inr}
+use mathlib.Core.Bool.{Bool, true, false, not, _&&_, _||_, cond}
+use mathlib.Core.List.{List, [], _∷_, _++_, map}
+use mathlib.Core.List.{List·Memᴰ as In}
+use lib.Dec.{T, eqb, leb, ltb, eqb→eq, ltb→lt, leb→le}
+use lib.ListN.{length, take, drop, replicate}
+use lib.Seq.{take-take}
+use Rattle.policy.specs.Lists.{implies, every, upto, NoRepeat}
+use Rattle.policy.specs.Contract.{Aid, Tok, validAid}
+use Rattle.policy.specs.Layout.{Layout, size, aidSize, unmetSize, waitingSize, usedAt, unmetAt, waitingAt}
+use Rattle.policy.specs.Tables.{Tables, Unmet, Waiting, noTok, bit, readAid, writeAid, readTok, writeTok, readUnmet, writeUnmet, readWaiting, writeWaiting, decode}
+use Rattle.policy.proofs.Sets.{and-l, and-r, and-i, or-e, implies-e, not-e, test, false-T, map-in, upto-in, in-upto, once-map, once-upto}
+use Rattle.policy.proofs.Equal.{eqb-of}
+use Rattle.policy.proofs.Pieces.{in-or-off}
+use Rattle.policy.proofs.Formed.{Names, Bits, Off, UnmetRows, WaitingRows, grantBit, Formed, Lawful, Fitting}
+use Rattle.policy.proofs.SoundFacts.{InRange, decode-in}
+use Rattle.bits.proofs.Row.{bit-none}
+use Rattle.geometry.specs.Geometry.{aidAt, tokAt, provAt, entryAt}
+use Rattle.geometry.specs.declared.Table.the-variants.{Calls, Grants, Needs}
+use Rattle.soundness.specs.declared.Kept.{Kept}
+use Rattle.soundness.specs.declared.Kept.the-variants.{Unmet as Unmets, Waiting as Waitings}
+use Rattle.soundness.specs.Check.{byteAt, partAt, zerosAt, sameAt, aidOk, within, rowAt, usedRow, provRow, isAid, numberBelow, isTok, newTok, tokOk, toksOk, newAid, blankOk, packageOk, packagesOk}
+use Rattle.soundness.specs.Check.{grantOk, pairOk, lineOk, linesOk, isUsed, unserved, unmetOk, isProvided, waitingOk, listAt, rowSize, placeAt, countOf, rowOk, newRow, placeOk, listOk}
+use Rattle.soundness.proofs.Parts.{part-length, same-part, part-same, zero-byte, zeros-part, Filled, filled-inj, ok-filled, zeros-blank}
+use Rattle.soundness.proofs.Decoded.{piece-end, used-read, aid-read, aid-off, tok-read, tok-off, unmet-read, waiting-read}
+use Rattle.soundness.proofs.Encoded.{Bytes, tok-back, unmet-back, waiting-back, list-back, length-rows}
+use Rattle.soundness.proofs.Whole.{Full, Parts}
+use Rattle.soundness.proofs.Lookup.{below, cond-then, cond-else, tok-bytes, unmet-at, waiting-at, below-is, BelowIs, used-is, prov-is, calls-is, grants-is, needs-is, row-small}
+use Rattle.soundness.proofs.Lookup.{aid-same, same-aid, same-used, found-used}
+
+-- conjunctions as they stand in the tests
+three : (a b c : Bool) → T (a && b && c) → T a × T b × T c
+three a b c h = let p = and-l (a && b) c h in (and-l a b p, and-r a b p, and-r (a && b) c h)
+
+-- numbers of which neither is lower
+level : (i j : ℕ) → (i < j → ⊥) → (j < i → ⊥) → i ≡ j
+level i j f g = omega arith
+
+module _ (L : Layout) (lf : Full L) (l : List ℕ) (bytes : Bytes l) (len : length l ≡ size L) where
+  abbrev n : ℕ
+  n = L .packages
+
+  abbrev m : ℕ
+  m = L .services
+
+  abbrev t : Tables
+  t = decode L l
+
+  abbrev place : ℕ → List ℕ
+  place i = partAt l (aidAt L i) aidSize
+
+  aid-in : (i : ℕ) → i < n → aidAt L i + 17 ≤ length l
+  aid-in i h = let e = piece-end aidSize n i h in omega arith
+
+  tok-in : (j k : ℕ) → j < n → k < m → tokAt L j k + 2 ≤ length l
+  tok-in j k h p = let a = piece-end (m * 2) n j h in let b = piece-end 2 m k p in omega arith
+
+  -- tokens that are read alike stand alike
+  tok-inj : (a b : ℕ) → a + 2 ≤ length l → b + 2 ≤ length l → readTok (partAt l a 2) ≡ readTok (partAt l b 2) → partAt l a 2 ≡ partAt l b 2
+  tok-inj a b h p e = sym (tok-back (partAt l a 2) (part-length l a 2 h)) ∙ ap writeTok e ∙ tok-back (partAt l b 2) (part-length l b 2 p)
+
+  r : InRange L t
+  r = decode-in L l
+
+  -- ---- packages
+  module _ (ok : T (packagesOk L l)) where
+    package-used : (i : ℕ) → T (t .used i) → T (aidOk l (aidAt L i)) × T (newAid L l i) × T (toksOk L l i)
+    unfolding packagesOk packageOk
+    package-used i u =
+        let h = r .used-in i u in
+        three (aidOk l (aidAt L i)) (newAid L l i) (toksOk L l i)
+        (cond-then (bit (usedRow L l) i) (aidOk l (aidAt L i) && newAid L l i && toksOk L l i) (blankOk L l i) (subst T (used-is L lf l bytes len i h) u) (below (packageOk L l) n ok i h))
+
+    package-blank : (i : ℕ) → i < n → (T (t .used i) → ⊥) → T (zerosAt l (aidAt L i) aidSize) × T (eqb (provRow L l i) 0) × T (zerosAt l (tokAt L i 0) (m * 2))
+    unfolding packagesOk packageOk blankOk
+    package-blank i h f =
+        three (zerosAt l (aidAt L i) aidSize) (eqb (provRow L l i) 0) (zerosAt l (tokAt L i 0) (m * 2))
+        (cond-else (bit (usedRow L l) i) (aidOk l (aidAt L i) && newAid L l i && toksOk L l i) (blankOk L l i) (λ u. f (subst T (sym (used-is L lf l bytes len i h)) u)) (below (packageOk L l) n ok i h))
+
+    filled-used : (i : ℕ) → T (t .used i) → Filled (place i) × T (validAid (readAid (place i)))
+    filled-used i u = ok-filled l (aidAt L i) (aid-in i (r .used-in i u)) (package-used i u .0)
+
+    blank-is : (i : ℕ) → i < n → (T (t .used i) → ⊥) → place i ≡ writeAid []
+    blank-is i h f = zeros-blank l (aidAt L i) (aid-in i h) (package-blank i h f .0)
+
+    filled : (i : ℕ) → i < n → Filled (place i)
+    filled i h = go (test (t .used i))
+      where
+        go : T (t .used i) ⊎ (T (t .used i) → ⊥) → Filled (place i)
+        go (inl u) = filled-used i u .0
+        go (inr f) = ap (λ (z : List ℕ). writeAid (readAid z)) (blank-is i h f) ∙ sym (blank-is i h f)
+
+    prov-used : (j k : ℕ) → T (t .provides j k) → T (t .used j)
+    prov-used j k s = go (test (t .used j))
+      where
+        go : T (t .used j) ⊎ (T (t .used j) → ⊥) → T (t .used j)
+        go (inl u) = u
+        go (inr f) =
+            let c = r .prov-in j k s in
+            let e : provRow L l j ≡ 0 = eqb→eq (provRow L l j) 0 (package-blank j (c .0) f .1) in
+            absurd (false-T (bit-none k) (subst (λ (z : ℕ). T (bit z k)) e (subst T (prov-is L lf l bytes len j k (c .0) (c .1)) s)))
+
+    aid-valid : (i : ℕ) → T (t .used i) → T (validAid (t .aid i))
+    aid-valid i u = subst (λ (z : Aid). T (validAid z)) (sym (aid-read L l i (r .used-in i u))) (filled-used i u .1)
+
+    aid-blank : (i : ℕ) → (T (t .used i) → ⊥) → t .aid i ≡ []
+    aid-blank i f = go (in-or-off i n)
+      where
+        go : (i < n) ⊎ (n ≤ i) → t .aid i ≡ []
+        go (inl h) = aid-read L l i h ∙ ap readAid (blank-is i h f)
+        go (inr h) = aid-off L l i h
+
+    aid-new : (i j : ℕ) → T (t .used i) → T (t .used j) → t .aid i ≡ t .aid j → i < j → ⊥
+    aid-new i j u v e h = go (numberBelow L l j (aidAt L j)) (eqb→eq (numberBelow L l j (aidAt L j)) j (package-used j v .1)) (below-is L l j (aidAt L j))
+      where
+        same : T (isAid L l (aidAt L j) i)
+        same =
+            let p = r .used-in i u in
+            let q = r .used-in j v in
+            part-same l (aidAt L j) (aidAt L i) aidSize (filled-inj (filled j q) (filled i p) (sym (aid-read L l j q) ∙ sym e ∙ aid-read L l i p))
+
+        go : (k : ℕ) → k ≡ j → BelowIs L l j (aidAt L j) k → ⊥
+        go k q (inl b) = b .1 i h same
+        go k q (inr b) = absurd (let c = b .0 in omega arith)
+
+    tok-ok : (j k : ℕ) → T (t .used j) → k < m → T (tokOk L l j k)
+    unfolding toksOk
+    tok-ok j k u p = below (tokOk L l j) m (package-used j u .2) k p
+
+    zero-tok : (j k : ℕ) → j < n → k < m → byteAt l (tokAt L j k) ≡ 0 → byteAt l (tokAt L j k + 1) ≡ 0 → t .tok j k ≡ noTok
+    zero-tok j k h p a b = tok-read L l j k h p ∙ tok-bytes l (tokAt L j k) ∙ λ i. record { itf = a i; mth = b i }
+
+    tok-blank : (j k : ℕ) → (T (t .provides j k) → ⊥) → t .tok j k ≡ noTok
+    unfolding tokOk
+    tok-blank j k f = go (in-or-off j n) (in-or-off k m)
+      where
+        at : j < n → k < m → T (t .used j) ⊎ (T (t .used j) → ⊥) → t .tok j k ≡ noTok
+        at h p (inl u) =
+            let z = cond-else (bit (provRow L l j) k) (newTok L l k (tokAt L j k) j) (zerosAt l (tokAt L j k) 2) (λ s. f (subst T (sym (prov-is L lf l bytes len j k h p)) s)) (tok-ok j k u p) in
+            let e : tokAt L j k + 0 ≡ tokAt L j k = omega arith in
+            zero-tok j k h p (ap (byteAt l) (sym e) ∙ zero-byte l (tokAt L j k) 2 (tok-in j k h p) z 0 (omega arith)) (zero-byte l (tokAt L j k) 2 (tok-in j k h p) z 1 (omega arith))
+        at h p (inr g) =
+            let z = package-blank j h g .2 in
+            let a = piece-end (m * 2) n j h in
+            let b = piece-end 2 m k p in
+            let e : tokAt L j k ≡ tokAt L j 0 + k * 2 = omega arith in
+            let e1 : tokAt L j k + 1 ≡ tokAt L j 0 + (k * 2 + 1) = omega arith in
+            zero-tok j k h p (ap (byteAt l) e ∙ zero-byte l (tokAt L j 0) (m * 2) (omega arith) z (k * 2) (omega arith))
+            (ap (byteAt l) e1 ∙ zero-byte l (tokAt L j 0) (m * 2) (omega arith) z (k * 2 + 1) (omega arith))
+
+        go : (j < n) ⊎ (n ≤ j) → (k < m) ⊎ (m ≤ k) → t .tok j k ≡ noTok
+        go (inl h) (inl p) = at h p (test (t .used j))
+        go (inl h) (inr p) = tok-off L l j k (inr p)
+        go (inr h) _ = tok-off L l j k (inl h)
+
+    tok-new : (j k q : ℕ) → T (t .provides j k) → T (t .provides j q) → t .tok j k ≡ t .tok j q → q < k → ⊥
+    unfolding tokOk newTok
+    tok-new j k q s o e h =
+        let c = r .prov-in j k s in
+        let d = r .prov-in j q o in
+        let new = cond-then (bit (provRow L l j) k) (newTok L l k (tokAt L j k) j) (zerosAt l (tokAt L j k) 2)
+        (subst T (prov-is L lf l bytes len j k (c .0) (c .1)) s) (tok-ok j k (prov-used j k s) (c .1)) in
+        let same = part-same l (tokAt L j k) (tokAt L j q) 2 (tok-inj (tokAt L j k) (tokAt L j q) (tok-in j k (c .0) (c .1)) (tok-in j q (d .0) (d .1))
+        (sym (tok-read L l j k (c .0) (c .1)) ∙ e ∙ tok-read L l j q (d .0) (d .1))) in
+        not-e (isTok L l (tokAt L j k) j q) (below (λ k′. not (isTok L l (tokAt L j k) j k′)) k new q h)
+        (and-i (bit (provRow L l j) q) (sameAt l (tokAt L j k) (tokAt L j q) 2) (subst T (prov-is L lf l bytes len j q (d .0) (d .1)) o) same)
+
+    names : Names L (t .used) (t .aid) (t .tok) (t .provides)
+    names = record {
+      used-lt = r .used-in;
+      prov-lt = λ j k s. r .prov-in j k s .1;
+      prov-used = prov-used;
+      aid-valid = aid-valid;
+      aid-blank = aid-blank;
+      tok-blank = tok-blank;
+      aid-inj = λ i j u v e. level i j (aid-new i j u v e) (aid-new j i v u (sym e));
+      tok-inj = λ j k q s o e. level k q (tok-new j q k o s (sym e)) (tok-new j k q s o e);
+    }
+
+    -- ---- bits
+    module _ (lines : T (linesOk L l)) where
+      abbrev call : ℕ → ℕ → ℕ
+      call i j = rowAt L l (entryAt L Calls i j)
+
+      abbrev grant : ℕ → ℕ → ℕ
+      grant i j = rowAt L l (entryAt L Grants j i)
+
+      abbrev need : ℕ → ℕ → ℕ
+      need i j = rowAt L l (entryAt L Needs i j)
+
+      pair-ok : (i j : ℕ) → i < n → j < n → T (within (need i j) (call i j)) × T (within (call i j) (grant i j)) × T (grantOk L l (grant i j) i j)
+      unfolding linesOk lineOk pairOk
+      pair-ok i j h q = three (within (need i j) (call i j)) (within (call i j) (grant i j)) (grantOk L l (grant i j) i j) (below (pairOk L l i) n (below (lineOk L l) n lines i h) j q)
+
+      -- bit k of a row is one of a row that it is within
+      within-bit : (a b k : ℕ) → T (within a b) → k < m → T (bit a k) → T (bit b k)
+      within-bit a b k h p = implies-e (bit a k) (bit b k) (below (λ k. implies (bit a k) (bit b k)) 16 h k (let e = lf .services-low in omega arith))
+
+      abbrev Granted : ℕ → ℕ → ℕ → Type 0
+      Granted i j k = T (t .used i) × T (t .provides j k) × (i ≡ j → ⊥)
+
+      grant-facts : (i j k : ℕ) → i < n → j < n → k < m → T (bit (grant i j) k) → Granted i j k
+      grant-facts i j k h q p s = go (or-e (eqb (grant i j) 0) (not (eqb i j) && bit (usedRow L l) i && within (grant i j) (provRow L l j)) (pair-ok i j h q .2))
+        where
+          go : T (eqb (grant i j) 0) ⊎ T (not (eqb i j) && bit (usedRow L l) i && within (grant i j) (provRow L l j)) → Granted i j k
+          go (inl z) = absurd (false-T (bit-none k) (subst (λ (x : ℕ). T (bit x k)) (eqb→eq (grant i j) 0 z) s))
+          go (inr o) =
+              let a = three (not (eqb i j)) (bit (usedRow L l) i) (within (grant i j) (provRow L l j)) o in (
+                subst T (sym (used-is L lf l bytes len i h)) (a .1),
+                subst T (sym (prov-is L lf l bytes len j k q p)) (within-bit (grant i j) (provRow L l j) k (a .2) p s),
+                λ e. not-e (eqb i j) (a .0) (eqb-of e),
+              )
+
+      grants-facts : (i j k : ℕ) → T (grantBit t i j k) → Granted i j k
+      grants-facts i j k s = let c = r .grants-in j i k s in grant-facts i j k (c .1) (c .0) (c .2) (subst T (grants-is L lf l bytes len j i k (c .0) (c .1) (c .2)) s)
+
+      lawful : Lawful t
+      lawful i j k s =
+          let c = r .calls-in i j k s in
+          subst T (sym (grants-is L lf l bytes len j i k (c .1) (c .0) (c .2)))
+          (within-bit (call i j) (grant i j) k (pair-ok i j (c .0) (c .1) .1) (c .2) (subst T (calls-is L lf l bytes len i j k (c .0) (c .1) (c .2)) s))
+
+      need-call : (i j k : ℕ) → T (t .needs i j k) → T (t .calls i j k)
+      need-call i j k s =
+          let c = r .needs-in i j k s in
+          subst T (sym (calls-is L lf l bytes len i j k (c .0) (c .1) (c .2)))
+          (within-bit (need i j) (call i j) k (pair-ok i j (c .0) (c .1) .0) (c .2) (subst T (needs-is L lf l bytes len i j k (c .0) (c .1) (c .2)) s))
+
+      bits-by : (b : ℕ → ℕ → ℕ → Bool) → ((i j k : ℕ) → T (b i j k) → T (grantBit t i j k)) → Bits (t .used) (t .provides) b
+      bits-by b f = record {
+        by-used = λ i j k s. grants-facts i j k (f i j k s) .0;
+        of-prov = λ i j k s. grants-facts i j k (f i j k s) .1;
+        other = λ i j k s. grants-facts i j k (f i j k s) .2;
+      }
+
+  -- ---- lists
+  module _ (k : Kept) (ok : T (listOk L l k)) where
+    abbrev count : ℕ
+    count = countOf L l k
+
+    abbrev row : ℕ → List ℕ
+    row q = partAt l (placeAt L k q) (rowSize k)
+
+    list-facts : (count ≤ L .capacity) × T (every (placeOk L l k) (upto count)) × T (zerosAt l (placeAt L k count) ((L .capacity - count) * rowSize k))
+    unfolding listOk
+    list-facts =
+        let p = three (leb count (L .capacity)) (every (placeOk L l k) (upto count)) (zerosAt l (placeAt L k count) ((L .capacity - count) * rowSize k)) ok in
+        (leb→le count (L .capacity) (p .0), p .1, p .2)
+
+    row-ok : (q : ℕ) → q < count → T (rowOk L l k (placeAt L k q)) × T (newRow L l k q)
+    row-ok q p =
+        let h = below (placeOk L l k) count (list-facts .1) q p in
+        (and-l (rowOk L l k (placeAt L k q)) (newRow L l k q) h, and-r (rowOk L l k (placeAt L k q)) (newRow L l k q) h)
+
+    module _ {A : Type 0} (f : List ℕ → A) (g : A → List ℕ) (back : (q : ℕ) → q < count → g (f (row q)) ≡ row q) where
+      rows-once : NoRepeat (map (λ q. f (row q)) (upto count))
+      unfolding newRow
+      rows-once = once-map (λ q. f (row q)) (upto count) (λ x y a b e. level x y (new x y (upto-in count a) (upto-in count b) e) (new y x (upto-in count b) (upto-in count a) (sym e))) (once-upto count)
+        where
+          new : (x y : ℕ) → x < count → y < count → f (row x) ≡ f (row y) → x < y → ⊥
+          new x y a b e h =
+              not-e (sameAt l (placeAt L k y) (placeAt L k x) (rowSize k)) (below (λ q. not (sameAt l (placeAt L k y) (placeAt L k q) (rowSize k))) y (row-ok y b .1) x h)
+              (part-same l (placeAt L k y) (placeAt L k x) (rowSize k) (sym (back y b) ∙ ap g (sym e) ∙ back x a))
+
+  each-row : {A : Type 0} (f : ℕ → A) (c : ℕ) {rows : List A} → rows ≡ map f (upto c) → (P : A → Type 0) → ((q : ℕ) → q < c → P (f q)) → (x : A) → In x rows → P x
+  each-row {A} f c e P h x i =
+      let p = map-in f (upto c) (subst (λ (z : List A). In x z) e i) in
+      subst P (sym (p .2)) (h (p .0) (upto-in c (p .1)))
+
+  unmet-in : (q : ℕ) → q < L .capacity → placeAt L Unmets q + 20 ≤ length l
+  unmet-in q h = let e = piece-end unmetSize (L .capacity) q h in omega arith
+
+  waiting-in : (q : ℕ) → q < L .capacity → placeAt L Waitings q + 19 ≤ length l
+  waiting-in q h = let e = piece-end waitingSize (L .capacity) q h in omega arith
+
+  module _ (packages : T (packagesOk L l)) where
+    abbrev na : Names L (t .used) (t .aid) (t .tok) (t .provides)
+    na = names packages
+
+    -- a row of unmet calls, and one of waiting grants
+    module _ (at : ℕ) (inside : at + 20 ≤ length l) (ok : T (unmetOk L l at)) where
+      abbrev caller : ℕ
+      caller = byteAt l (at + 19)
+
+      abbrev number : ℕ
+      number = numberBelow L l n at
+
+      unmet-three : T (isUsed L l caller) × T (aidOk l at) × T (unserved L l (at + 17) caller number)
+      unfolding unmetOk
+      unmet-three = three (isUsed L l caller) (aidOk l at) (unserved L l (at + 17) caller number) ok
+
+      unmet-filled : Filled (partAt l at 17) × T (validAid (readAid (partAt l at 17)))
+      unmet-filled = ok-filled l at (omega arith) (unmet-three .1)
+
+      row-used : T (t .used caller)
+      row-used = subst T (sym (used-read L l caller)) (unmet-three .0)
+
+      -- a used package with the row's AID
+      module _ (j : ℕ) (u : T (t .used j)) (e : t .aid j ≡ readAid (partAt l at 17)) where
+        served : T (not (eqb j caller) && newTok L l m (at + 17) j)
+        served = go number (found-used L lf l bytes len na (filled packages) at (unmet-filled .0) (unmet-filled .1) j u e) (unmet-three .2)
+          where
+            go : (c : ℕ) → c ≡ j → T (unserved L l (at + 17) caller c) → T (not (eqb j caller) && newTok L l m (at + 17) j)
+            go c q h = pick (or-e (eqb c n) (not (eqb c caller) && newTok L l m (at + 17) c) h)
+              where
+                pick : T (eqb c n) ⊎ T (not (eqb c caller) && newTok L l m (at + 17) c) → T (not (eqb j caller) && newTok L l m (at + 17) j)
+                pick (inl z) = let a = eqb→eq c n z in let b = r .used-in j u in absurd (omega arith)
+                pick (inr z) = subst (λ (x : ℕ). T (not (eqb x caller) && newTok L l m (at + 17) x)) q z
+
+        row-other : j ≡ caller → ⊥
+        row-other q = not-e (eqb j caller) (and-l (not (eqb j caller)) (newTok L l m (at + 17) j) served) (eqb-of q)
+
+        row-off : (k : ℕ) → T (t .provides j k) → t .tok j k ≡ readTok (partAt l (at + 17) 2) → ⊥
+        unfolding newTok
+        row-off k s f =
+            let c = r .prov-in j k s in
+            let same = part-same l (at + 17) (tokAt L j k) 2 (tok-inj (at + 17) (tokAt L j k) (omega arith) (tok-in j k (c .0) (c .1)) (sym f ∙ tok-read L l j k (c .0) (c .1))) in
+            not-e (isTok L l (at + 17) j k) (below (λ k′. not (isTok L l (at + 17) j k′)) m (and-r (not (eqb j caller)) (newTok L l m (at + 17) j) served) k (c .1))
+            (and-i (bit (provRow L l j) k) (sameAt l (at + 17) (tokAt L j k) 2) (subst T (prov-is L lf l bytes len j k (c .0) (c .1)) s) same)
+
+    module _ (at : ℕ) (inside : at + 19 ≤ length l) (ok : T (waitingOk L l at)) where
+      abbrev callee : ℕ
+      callee = byteAt l (at + 17)
+
+      abbrev service : ℕ
+      service = byteAt l (at + 18)
+
+      waiting-three : T (isProvided L l callee service) × T (aidOk l at) × T (eqb (numberBelow L l n at) n)
+      unfolding waitingOk
+      waiting-three = three (isProvided L l callee service) (aidOk l at) (eqb (numberBelow L l n at) n) ok
+
+      waiting-filled : Filled (partAt l at 17) × T (validAid (readAid (partAt l at 17)))
+      waiting-filled = ok-filled l at (omega arith) (waiting-three .1)
+
+      row-prov : T (t .provides callee service)
+      row-prov =
+          let p = three (ltb callee n) (ltb service m) (bit (provRow L l callee) service) (waiting-three .0) in
+          subst T (sym (prov-is L lf l bytes len callee service (ltb→lt callee n (p .0)) (ltb→lt service m (p .1)))) (p .2)
+
+      row-absent : (j : ℕ) → T (t .used j) → t .aid j ≡ readAid (partAt l at 17) → ⊥
+      row-absent j u e =
+          let a = found-used L lf l bytes len na (filled packages) at (waiting-filled .0) (waiting-filled .1) j u e in
+          let b = eqb→eq (numberBelow L l n at) n (waiting-three .2) in
+          let c = r .used-in j u in
+          absurd (omega arith)
+
+    module _ (unmets : T (listOk L l Unmets)) where
+      unmet-row : (q : ℕ) → q < count Unmets unmets → (placeAt L Unmets q + 20 ≤ length l) × T (unmetOk L l (placeAt L Unmets q))
+      unfolding rowOk
+      unmet-row q p = let h = list-facts Unmets unmets .0 in (unmet-in q (omega arith), row-ok Unmets unmets q p .0)
+
+      unmet-rows-back : (q : ℕ) → q < count Unmets unmets → writeUnmet (readUnmet (row Unmets unmets q)) ≡ row Unmets unmets q
+      unmet-rows-back q p =
+          let h = unmet-row q p in
+          let at = placeAt L Unmets q in
+          unmet-back (partAt l at 20) (part-length l at 20 (h .0)) (subst Filled (sym (take-take 17 20 (drop at l) (omega arith))) (unmet-filled at (h .0) (h .1) .0))
+
+      unmets-are : t .unmet ≡ map (λ q. readUnmet (row Unmets unmets q)) (upto (count Unmets unmets))
+      unmets-are = unmet-read L l (omega arith)
+
+      each-unmet : (P : Unmet → Type 0) → ((at : ℕ) → at + 20 ≤ length l → T (unmetOk L l at)
+          → P (record { callee = readAid (partAt l at 17); tok = readTok (partAt l (at + 17) 2); caller = byteAt l (at + 19) })) → (u : Unmet) → In u (t .unmet) → P u
+      each-unmet P f = each-row (λ q. readUnmet (row Unmets unmets q)) (count Unmets unmets) unmets-are P
+          (λ q p. let h = unmet-row q p in subst P (sym (unmet-at l (placeAt L Unmets q))) (f (placeAt L Unmets q) (h .0) (h .1)))
+
+      unmet-rows : UnmetRows (t .used) (t .aid) (t .tok) (t .provides) (t .unmet)
+      unmet-rows = record {
+        off = record {
+          off-used = each-unmet (λ u. T (t .used (u .caller))) row-used;
+          off-card = each-unmet (λ u. (j k : ℕ) → T (t .provides j k) → t .aid j ≡ u .callee → t .tok j k ≡ u .tok → ⊥)
+              (λ at a b j k s e f. row-off at a b j (prov-used packages j k s) e k s f);
+        };
+        unmet-valid = each-unmet (λ u. T (validAid (u .callee))) (λ at a b. unmet-filled at a b .1);
+        unmet-other = each-unmet (λ u. u .callee ≡ t .aid (u .caller) → ⊥) (λ at a b e. row-other at a b (byteAt l (at + 19)) (row-used at a b) (sym e) refl);
+        unmet-once = subst NoRepeat (sym unmets-are) (rows-once Unmets unmets readUnmet writeUnmet unmet-rows-back);
+      }
+
+    module _ (waitings : T (listOk L l Waitings)) where
+      waiting-row : (q : ℕ) → q < count Waitings waitings → (placeAt L Waitings q + 19 ≤ length l) × T (waitingOk L l (placeAt L Waitings q))
+      unfolding rowOk
+      waiting-row q p = let h = list-facts Waitings waitings .0 in (waiting-in q (omega arith), row-ok Waitings waitings q p .0)
+
+      waiting-rows-back : (q : ℕ) → q < count Waitings waitings → writeWaiting (readWaiting (row Waitings waitings q)) ≡ row Waitings waitings q
+      waiting-rows-back q p =
+          let h = waiting-row q p in
+          let at = placeAt L Waitings q in
+          waiting-back (partAt l at 19) (part-length l at 19 (h .0)) (subst Filled (sym (take-take 17 19 (drop at l) (omega arith))) (waiting-filled at (h .0) (h .1) .0))
+
+      waitings-are : t .waiting ≡ map (λ q. readWaiting (row Waitings waitings q)) (upto (count Waitings waitings))
+      waitings-are = waiting-read L l (omega arith)
+
+      each-waiting : (P : Waiting → Type 0) → ((at : ℕ) → at + 19 ≤ length l → T (waitingOk L l at)
+          → P (record { caller = readAid (partAt l at 17); callee = byteAt l (at + 17); service = byteAt l (at + 18) })) → (v : Waiting) → In v (t .waiting) → P v
+      each-waiting P f = each-row (λ q. readWaiting (row Waitings waitings q)) (count Waitings waitings) waitings-are P
+          (λ q p. let h = waiting-row q p in subst P (sym (waiting-at l (placeAt L Waitings q))) (f (placeAt L Waitings q) (h .0) (h .1)))
+
+      waiting-rows : WaitingRows (t .used) (t .aid) (t .provides) (t .waiting)
+      waiting-rows = record {
+        wait-valid = each-waiting (λ v. T (validAid (v .caller))) (λ at a b. waiting-filled at a b .1);
+        wait-off = each-waiting (λ v. (j : ℕ) → T (t .used j) → t .aid j ≡ v .caller → ⊥) row-absent;
+        wait-prov = each-waiting (λ v. T (t .provides (v .callee) (v .service))) row-prov;
+        wait-once = subst NoRepeat (sym waitings-are) (rows-once Waitings waitings readWaiting writeWaiting waiting-rows-back);
+      }
+
+  -- ---- the whole
+  module _ (packages : T (packagesOk L l)) (lines : T (linesOk L l)) (unmets : T (listOk L l Unmets)) (waitings : T (listOk L l Waitings)) where
+    pub check-formed : Formed L t
+    check-formed = record {
+      names = names packages;
+      calls = bits-by packages lines (t .calls) (lawful packages lines);
+      grants = bits-by packages lines (grantBit t) (λ i j k s. s);
+      need-call = need-call packages lines;
+      unmet = unmet-rows packages unmets;
+      waiting = waiting-rows packages waitings;
+    }
+
+    pub check-lawful : Lawful t
+    check-lawful = lawful packages lines
+
+    pub check-fitting : Fitting L t
+    unfolding decode
+    check-fitting = record {
+      unmet-fits = subst (λ (z : ℕ). z ≤ L .capacity) (sym (length-rows L l readUnmet writeUnmet unmetSize (unmetAt L) (omega arith))) (list-facts Unmets unmets .0);
+      waiting-fits = subst (λ (z : ℕ). z ≤ L .capacity) (sym (length-rows L l readWaiting writeWaiting waitingSize (waitingAt L) (omega arith))) (list-facts Waitings waitings .0);
+    }
+
+    pub check-parts : Parts L lf l bytes len
+    unfolding decode
+    check-parts =
+        let u = list-facts Unmets unmets in
+        let v = list-facts Waitings waitings in (
+          λ i h. ap writeAid (aid-read L l i h) ∙ filled packages i h,
+          list-back L l readUnmet writeUnmet unmetSize (unmetAt L) (omega arith) (u .0) (unmet-rows-back packages unmets) (rest Unmets u-in (u .0) (u .2)),
+          list-back L l readWaiting writeWaiting waitingSize (waitingAt L) (omega arith) (v .0) (waiting-rows-back packages waitings) (rest Waitings v-in (v .0) (v .2)),
+        )
+      where
+        u-in : listAt L Unmets + (1 + L .capacity * rowSize Unmets) ≤ length l
+        u-in = omega arith
+
+        v-in : listAt L Waitings + (1 + L .capacity * rowSize Waitings) ≤ length l
+        v-in = omega arith
+
+        rest : (k : Kept) → listAt L k + (1 + L .capacity * rowSize k) ≤ length l → countOf L l k ≤ L .capacity → T (zerosAt l (placeAt L k (countOf L l k)) ((L .capacity - countOf L l k) * rowSize k))
+            → partAt l (placeAt L k (countOf L l k)) ((L .capacity - countOf L l k) * rowSize k) ≡ replicate ((L .capacity - countOf L l k) * rowSize k) 0
+        rest k h c z =
+            let q : L .capacity * rowSize k ≡ countOf L l k * rowSize k + (L .capacity - countOf L l k) * rowSize k =
+            ap (λ (x : ℕ). x * rowSize k) (sym (add-sub-of-le c)) ∙ add-mul (countOf L l k) (L .capacity - countOf L l k) (rowSize k) in
+            zeros-part l (placeAt L k (countOf L l k)) ((L .capacity - countOf L l k) * rowSize k) (omega arith) z

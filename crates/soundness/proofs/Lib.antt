@@ -1,0 +1,9 @@
+pub mod Parts
+pub mod Decoded
+pub mod Encoded
+pub mod Whole
+pub mod Lookup
+pub mod Checked
+pub mod Passes
+pub mod Agree
+pub mod Tests

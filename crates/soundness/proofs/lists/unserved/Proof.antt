@@ -1,0 +1,18 @@
+-- `lists::unserved` meets its contract.
+use mathlib.Core.Path.{_≡_, sym, ap, _∙_}
+use native.Mathlib.Omega.{arith}
+use Rattle.geometry.specs.Geometry.{layoutOf}
+use Rattle.soundness.proofs.Tests.{places, tests}
+use Rattle.soundness.proofs.lists.unserved.Statement.{statement}
+use Rattle.soundness.proofs.lists.unserved.Tie as tie
+
+pub unserved-spec : {M : Type 1} → statement M
+unserved-spec =
+    tie.close
+    (tie.spec
+    (λ c κs. search places)
+    (λ c. let a = c .before .before .before .args in let h : a .n ≡ layoutOf (a .c) .packages = omega arith in search tests)
+    (λ c. let a = c .before .before .before .before .args in let h : a .n ≡ layoutOf (a .c) .packages → ⊥ = λ e. c .before .if1 .left (e ∙ sym (c .before .before .packages .ensures)) in search tests)
+    (λ c κs. search places)
+    (λ c κs. search places)
+    (λ c. let a = c .before .before .before .before .before .before .args in let h : a .n ≡ layoutOf (a .c) .packages → ⊥ = λ e. c .before .before .before .if1 .left (e ∙ sym (c .before .before .before .before .packages .ensures)) in let e = rw (c .before .services .ensures) at (c .new-tok .ensures) in search tests))

@@ -1,0 +1,12 @@
+-- `packages::used` meets its contract.
+use Rattle.geometry.proofs.Bounds.{geo}
+use Rattle.soundness.proofs.packages.used.Statement.{statement}
+use Rattle.soundness.proofs.packages.used.Tie as tie
+
+pub used-spec : {M : Type 1} → statement M
+used-spec =
+    tie.close
+    (tie.spec
+    (λ c κs. search geo)
+    (λ c κs. search geo)
+    (λ c. cc))

@@ -1,0 +1,55 @@
+// Bytes of an image: zeros, the same bytes, and the place of an AID.
+ghost use mathlib.Core.Path.{_≡_};
+ghost use Prim.Native.Nat.{_+_, _≤_};
+ghost use lib.ListN.{length};
+ghost use Rattle.policy.specs.Lists.{every};
+ghost use Rattle.soundness.specs.Check.{isZero, zerosAt, sameAt, aidOk};
+
+// Every byte is zero.
+fn zeros(part: &[u8]) -> bool
+    ensures { λ r. ⌜ r ≡ every isZero (now (part .entry)) ⌝ }
+{
+    let mut ok = true;
+    for k in 0..part.len() {
+        ok = ok & (part[k] == 0);
+    }
+    ok
+}
+
+// The n bytes from at on are zero.
+pub fn zeros_at(img: &[u8], at: usize, n: usize) -> bool
+    requires { ⌜ at + n ≤ length (now img) ⌝ }
+    ensures { λ r. ⌜ r ≡ zerosAt (now (img .entry)) at n ⌝ }
+{
+    let end = at + n;
+    zeros(&img[at..end])
+}
+
+// The n bytes from a on are those from b on.
+pub fn same_at(img: &[u8], a: usize, b: usize, n: usize) -> bool
+    requires { ⌜ (a + n ≤ length (now img)) × (b + n ≤ length (now img)) ⌝ }
+    ensures { λ r. ⌜ r ≡ sameAt (now (img .entry)) a b n ⌝ }
+{
+    for k in 0..n {
+        if img[a + k] != img[b + k] {
+            return false;
+        }
+    }
+    true
+}
+
+// A valid AID stands at at, with zeros to the end of its place.
+pub fn aid_ok(img: &[u8], at: usize) -> bool
+    requires { ⌜ at + 17 ≤ length (now img) ⌝ }
+    ensures { λ r. ⌜ r ≡ aidOk (now (img .entry)) at ⌝ }
+{
+    let n = img[at] as usize;
+    if n < 5 {
+        return false;
+    }
+    if 16 < n {
+        return false;
+    }
+    let rest = 16 - n;
+    zeros_at(img, at + (1 + n), rest)
+}

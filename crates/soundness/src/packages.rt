@@ -1,0 +1,150 @@
+// Packages: AIDs that are valid and differ, tokens that differ, and zeros where no package or service stands.
+ghost use mathlib.Core.Path.{_≡_};
+ghost use mathlib.Core.Bool.{_&&_};
+ghost use Prim.Native.Nat.{_+_, _≤_, _<_};
+ghost use lib.ListN.{length};
+ghost use Rattle.policy.specs.Layout.{size as sizeOf};
+ghost use Rattle.policy.specs.Tables.{bit};
+ghost use Rattle.geometry.specs.Geometry.{layoutOf};
+ghost use Rattle.soundness.specs.Check.{isAid, otherTok, numberBelow, newTok, tokOk, toksOk, blankOk, packageOk, packagesOk, usedRow, provRow};
+use crate::bytes;
+use geometry::Card;
+
+// Package n is used.
+pub fn used(img: &[u8], c: Card, n: usize) -> bool
+    requires { ⌜ (length (now img) ≡ sizeOf (layoutOf c)) × (n < layoutOf c .packages) ⌝ }
+    ensures { λ r. ⌜ r ≡ bit (usedRow (layoutOf c) (now (img .entry))) n ⌝ }
+{
+    bits::has_bit(geometry::row_at(img, c, 3), n)
+}
+
+// The provided services of package j.
+pub fn prov_row(img: &[u8], c: Card, j: usize) -> u16
+    requires { ⌜ (length (now img) ≡ sizeOf (layoutOf c)) × (j < layoutOf c .packages) ⌝ }
+    ensures { λ r. ⌜ r ≡ provRow (layoutOf c) (now (img .entry)) j ⌝ }
+{
+    geometry::row_at(img, c, geometry::prov_at(c, j))
+}
+
+// Package j provides service k.
+pub fn provides(img: &[u8], c: Card, j: usize, k: usize) -> bool
+    requires { ⌜ (length (now img) ≡ sizeOf (layoutOf c)) × (j < layoutOf c .packages) × (k < layoutOf c .services) ⌝ }
+    ensures { λ r. ⌜ r ≡ bit (provRow (layoutOf c) (now (img .entry)) j) k ⌝ }
+{
+    bits::has_bit(prov_row(img, c, j), k)
+}
+
+// Package n has the AID at at.
+fn is_aid(img: &[u8], c: Card, at: usize, n: usize) -> bool
+    requires { ⌜ (length (now img) ≡ sizeOf (layoutOf c)) × (at + 17 ≤ length (now img)) × (n < layoutOf c .packages) ⌝ }
+    ensures { λ r. ⌜ r ≡ isAid (layoutOf c) (now (img .entry)) at n ⌝ }
+{
+    bytes::same_at(img, at, geometry::aid_at(c, n), 17)
+}
+
+// The lowest of the first n packages that has the AID at at; n where none has.
+pub fn number_below(img: &[u8], c: Card, n: usize, at: usize) -> usize
+    requires { ⌜ (length (now img) ≡ sizeOf (layoutOf c)) × (n ≤ layoutOf c .packages) × (at + 17 ≤ length (now img)) ⌝ }
+    ensures { λ r. ⌜ r ≡ numberBelow (layoutOf c) (now (img .entry)) n at ⌝ }
+{
+    for m in 0..n {
+        if is_aid(img, c, at, m) {
+            return m;
+        }
+    }
+    n
+}
+
+// Service k of package j has not the tokens at at.
+fn other_tok(img: &[u8], c: Card, at: usize, j: usize, k: usize) -> bool
+    requires { ⌜ (length (now img) ≡ sizeOf (layoutOf c)) × (at + 2 ≤ length (now img)) × (j < layoutOf c .packages) × (k < layoutOf c .services) ⌝ }
+    ensures { λ r. ⌜ r ≡ otherTok (layoutOf c) (now (img .entry)) at j k ⌝ }
+{
+    if !provides(img, c, j, k) {
+        return true;
+    }
+    !bytes::same_at(img, at, geometry::tok_at(c, j, k), 2)
+}
+
+// None of the first n services of package j has the tokens at at.
+pub fn new_tok(img: &[u8], c: Card, n: usize, at: usize, j: usize) -> bool
+    requires { ⌜ (length (now img) ≡ sizeOf (layoutOf c)) × (n ≤ layoutOf c .services) × (at + 2 ≤ length (now img)) × (j < layoutOf c .packages) ⌝ }
+    ensures { λ r. ⌜ r ≡ newTok (layoutOf c) (now (img .entry)) n at j ⌝ }
+{
+    for k in 0..n {
+        if !other_tok(img, c, at, j, k) {
+            return false;
+        }
+    }
+    true
+}
+
+// Tokens are new where the service is provided, and zero where it is not.
+fn tok_ok(img: &[u8], c: Card, j: usize, k: usize) -> bool
+    requires { ⌜ (length (now img) ≡ sizeOf (layoutOf c)) × (j < layoutOf c .packages) × (k < layoutOf c .services) ⌝ }
+    ensures { λ r. ⌜ r ≡ tokOk (layoutOf c) (now (img .entry)) j k ⌝ }
+{
+    let at = geometry::tok_at(c, j, k);
+    if provides(img, c, j, k) {
+        return new_tok(img, c, k, at, j);
+    }
+    bytes::zeros_at(img, at, 2)
+}
+
+fn toks_ok(img: &[u8], c: Card, j: usize) -> bool
+    requires { ⌜ (length (now img) ≡ sizeOf (layoutOf c)) × (j < layoutOf c .packages) ⌝ }
+    ensures { λ r. ⌜ r ≡ toksOk (layoutOf c) (now (img .entry)) j ⌝ }
+{
+    let n = geometry::services(c);
+    for k in 0..n {
+        if !tok_ok(img, c, j, k) {
+            return false;
+        }
+    }
+    true
+}
+
+// An unused package has no AID, no services and no tokens.
+fn blank_ok(img: &[u8], c: Card, n: usize) -> bool
+    requires { ⌜ (length (now img) ≡ sizeOf (layoutOf c)) × (n < layoutOf c .packages) ⌝ }
+    ensures { λ r. ⌜ r ≡ blankOk (layoutOf c) (now (img .entry)) n ⌝ }
+{
+    if !bytes::zeros_at(img, geometry::aid_at(c, n), 17) {
+        return false;
+    }
+    if prov_row(img, c, n) != 0 {
+        return false;
+    }
+    let size = geometry::services(c) * 2;
+    bytes::zeros_at(img, geometry::tok_at(c, n, 0), size)
+}
+
+fn package_ok(img: &[u8], c: Card, n: usize) -> bool
+    requires { ⌜ (length (now img) ≡ sizeOf (layoutOf c)) × (n < layoutOf c .packages) ⌝ }
+    ensures { λ r. ⌜ r ≡ packageOk (layoutOf c) (now (img .entry)) n ⌝ }
+{
+    if !used(img, c, n) {
+        return blank_ok(img, c, n);
+    }
+    let at = geometry::aid_at(c, n);
+    if !bytes::aid_ok(img, at) {
+        return false;
+    }
+    if number_below(img, c, n, at) != n {
+        return false;
+    }
+    toks_ok(img, c, n)
+}
+
+pub fn packages_ok(img: &[u8], c: Card) -> bool
+    requires { ⌜ length (now img) ≡ sizeOf (layoutOf c) ⌝ }
+    ensures { λ r. ⌜ r ≡ packagesOk (layoutOf c) (now (img .entry)) ⌝ }
+{
+    let n = geometry::packages(c);
+    for i in 0..n {
+        if !package_ok(img, c, i) {
+            return false;
+        }
+    }
+    true
+}
