@@ -1,0 +1,5 @@
+pub mod EmptyImage
+pub mod Checks
+pub mod Shorts
+pub mod Decisions
+pub mod Writing

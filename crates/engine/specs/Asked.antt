@@ -1,0 +1,24 @@
+-- What the code of a kind is asked: a proper record that was read, on a sound image.
+use Prim.Native.Nat.{ℕ}
+use mathlib.Core.Bool.{cond}
+use mathlib.Core.List.{List}
+use lib.Dec.{T, eqb}
+use Rattle.policy.specs.Contract.{Aid, Row, validAid}
+use Rattle.policy.specs.Layout.{Layout}
+use Rattle.policy.specs.Record.{Change, proper}
+use Rattle.policy.specs.Sound.{sound}
+use Rattle.policy.proofs.Formed.{Valid}
+
+pub record Asked (L : Layout) (img : List ℕ) (a : Aid) (c : Change) : Type 0 where
+  pub is-sound : T (sound L img)
+  pub first-valid : T (validAid a)
+  pub valid : Valid L c
+  pub is-proper : T (proper a c)
+
+-- a row of AID a with the tokens x and y
+abbrev pub rowWith : Aid → ℕ → ℕ → Row
+rowWith a x y = record { aid = a; tok = record { itf = x; mth = y } }
+
+-- the second number of an answer: the package number on acceptance, else 255
+abbrev pub secondOf : ℕ → ℕ → ℕ
+secondOf number n = cond (eqb number 0) n 255
