@@ -1,21 +1,19 @@
 -- The check of an image's bytes is the test that it is sound.
-use Prim.Native.Nat.{ℕ, _+_, _*_, _^_, _≤_, _<_}
+use Prim.Native.Nat.{ℕ, _^_, _<_}
 use native.Mathlib.Omega.{arith}
-use mathlib.Core.Path.{_≡_, refl, sym, ap, _∙_, subst}
-use mathlib.Core.Logic.{_⊎_, inl, inr}
-use mathlib.Core.Bool.{Bool, true, false, _&&_}
+use mathlib.Core.Path.{_≡_, refl, sym, ap, _∙_}
+use mathlib.Core.Bool.{Bool, false, _&&_}
 use mathlib.Core.List.{List}
-use lib.Dec.{T, eqb, leb, eqb→eq}
+use lib.Dec.{T, eqb, eqb→eq}
 use lib.ListN.{length, take}
 use Rattle.policy.specs.Lists.{eqBytes, keep, upto}
 use Rattle.policy.specs.Layout.{Layout, size, unmetSize, usedAt}
-use Rattle.policy.specs.Tables.{bit, decode, encode, writeAid, writeUnmet, readUnmet}
+use Rattle.policy.specs.Tables.{bit, decode, encode, writeUnmet, readUnmet}
 use Rattle.policy.specs.Lookup.{usedNumbers}
 use Rattle.policy.specs.Sound.{soundTables, sound}
 use Rattle.policy.proofs.Sets.{T-eq, T-false, and-l, and-r, and-i, upto-in, eqBytes→}
 use Rattle.policy.proofs.Equal.{eqAid-of, eqb-of}
 use Rattle.policy.proofs.Pieces.{length-aid, length-unmet, length-list}
-use Rattle.policy.proofs.Formed.{Formed}
 use Rattle.policy.proofs.SoundFacts.{sound-formed, sound-lawful, sound-fitting, sound-tables}
 use Rattle.bits.proofs.Loops.{keep-ext}
 use Rattle.bits.proofs.Row.{keep-row}

@@ -1,37 +1,37 @@
 -- An image that passes the check is what its tables give, and they satisfy the facts.
-use Prim.Native.Nat.{ℕ, zero, suc, _+_, _*_, _-_, _^_, _≤_, _<_}
+use Prim.Native.Nat.{ℕ, _+_, _*_, _-_, _≤_, _<_}
 use native.Mathlib.Omega.{arith}
 use native.Mathlib.Nat.{add-mul, add-sub-of-le}
 use mathlib.Core.Path.{_≡_, refl, sym, ap, _∙_, subst}
 use mathlib.Core.Logic.{_⊎_, inl, inr}
-use mathlib.Core.Bool.{Bool, true, false, not, _&&_, _||_, cond}
-use mathlib.Core.List.{List, [], _∷_, _++_, map}
+use mathlib.Core.Bool.{Bool, not, _&&_}
+use mathlib.Core.List.{List, [], map}
 use mathlib.Core.List.{List·Memᴰ as In}
 use lib.Dec.{T, eqb, leb, ltb, eqb→eq, ltb→lt, leb→le}
-use lib.ListN.{length, take, drop, replicate}
+use lib.ListN.{length, drop, replicate}
 use lib.Seq.{take-take}
 use Rattle.policy.specs.Lists.{implies, every, upto, NoRepeat}
-use Rattle.policy.specs.Contract.{Aid, Tok, validAid}
-use Rattle.policy.specs.Layout.{Layout, size, aidSize, unmetSize, waitingSize, usedAt, unmetAt, waitingAt}
+use Rattle.policy.specs.Contract.{Aid, validAid}
+use Rattle.policy.specs.Layout.{Layout, size, aidSize, unmetSize, waitingSize, unmetAt, waitingAt}
 use Rattle.policy.specs.Tables.{Tables, Unmet, Waiting, noTok, bit, readAid, writeAid, readTok, writeTok, readUnmet, writeUnmet, readWaiting, writeWaiting, decode}
-use Rattle.policy.proofs.Sets.{and-l, and-r, and-i, or-e, implies-e, not-e, test, false-T, map-in, upto-in, in-upto, once-map, once-upto}
+use Rattle.policy.proofs.Sets.{and-l, and-r, and-i, or-e, implies-e, not-e, test, false-T, map-in, upto-in, once-map, once-upto}
 use Rattle.policy.proofs.Equal.{eqb-of}
 use Rattle.policy.proofs.Pieces.{in-or-off}
-use Rattle.policy.proofs.Formed.{Names, Bits, Off, UnmetRows, WaitingRows, grantBit, Formed, Lawful, Fitting}
+use Rattle.policy.proofs.Formed.{Names, Bits, UnmetRows, WaitingRows, grantBit, Formed, Lawful, Fitting}
 use Rattle.policy.proofs.SoundFacts.{InRange, decode-in}
 use Rattle.bits.proofs.Row.{bit-none}
-use Rattle.geometry.specs.Geometry.{aidAt, tokAt, provAt, entryAt}
+use Rattle.geometry.specs.Geometry.{aidAt, tokAt, entryAt}
 use Rattle.geometry.specs.declared.Table.the-variants.{Calls, Grants, Needs}
 use Rattle.soundness.specs.declared.Kept.{Kept}
 use Rattle.soundness.specs.declared.Kept.the-variants.{Unmet as Unmets, Waiting as Waitings}
 use Rattle.soundness.specs.Check.{byteAt, partAt, zerosAt, sameAt, aidOk, within, rowAt, usedRow, provRow, isAid, numberBelow, isTok, newTok, tokOk, toksOk, newAid, blankOk, packageOk, packagesOk}
 use Rattle.soundness.specs.Check.{grantOk, pairOk, lineOk, linesOk, isUsed, unserved, unmetOk, isProvided, waitingOk, listAt, rowSize, placeAt, countOf, rowOk, newRow, placeOk, listOk}
-use Rattle.soundness.proofs.Parts.{part-length, same-part, part-same, zero-byte, zeros-part, Filled, filled-inj, ok-filled, zeros-blank}
+use Rattle.soundness.proofs.Parts.{part-length, part-same, zero-byte, zeros-part, Filled, filled-inj, ok-filled, zeros-blank}
 use Rattle.soundness.proofs.Decoded.{piece-end, used-read, aid-read, aid-off, tok-read, tok-off, unmet-read, waiting-read}
 use Rattle.soundness.proofs.Encoded.{Bytes, tok-back, unmet-back, waiting-back, list-back, length-rows}
 use Rattle.soundness.proofs.Whole.{Full, Parts}
-use Rattle.soundness.proofs.Lookup.{below, cond-then, cond-else, tok-bytes, unmet-at, waiting-at, below-is, BelowIs, used-is, prov-is, calls-is, grants-is, needs-is, row-small}
-use Rattle.soundness.proofs.Lookup.{aid-same, same-aid, same-used, found-used}
+use Rattle.soundness.proofs.Lookup.{below, cond-then, cond-else, tok-bytes, unmet-at, waiting-at, below-is, BelowIs, used-is, prov-is, calls-is, grants-is, needs-is}
+use Rattle.soundness.proofs.Lookup.{found-used}
 
 -- conjunctions as they stand in the tests
 three : (a b c : Bool) → T (a && b && c) → T a × T b × T c

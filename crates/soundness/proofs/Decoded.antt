@@ -1,22 +1,20 @@
 -- What the tables of an image hold, by the places of its bytes.
 use Prim.Native.Nat.{ℕ, zero, suc, _+_, _*_, _≤_, _<_}
 use native.Mathlib.Omega.{arith}
-use native.Mathlib.Nat.{le-of-suc-le-suc, not-suc-le-zero, zero-mul, suc-mul, mul-le-mul-right, add-mul}
-use native.Mathlib.Numerals.{one-add}
-use mathlib.Core.Path.{_≡_, refl, sym, ap, _∙_}
+use native.Mathlib.Nat.{le-of-suc-le-suc, not-suc-le-zero, zero-mul, suc-mul, mul-le-mul-right}
+use mathlib.Core.Path.{_≡_, refl, ap, _∙_}
 use mathlib.Core.Logic.{_⊎_, inl, inr}
-use mathlib.Core.Bool.{Bool, _&&_}
+use mathlib.Core.Bool.{_&&_}
 use mathlib.Core.List.{List, [], _∷_, map}
 use lib.Dec.{ltb}
 use lib.ListN.{length, getD, take, drop}
 use lib.Seq.{drop-cons, drop-drop}
 use Rattle.policy.specs.Lists.{from, upto}
 use Rattle.policy.specs.Contract.{Tok}
-use Rattle.policy.specs.Layout.{Layout, aidSize, aidsAt, tokensAt, providesAt, unmetSize, waitingSize, usedAt, callsAt, grantsAt, needsAt, unmetAt, waitingAt}
-use Rattle.policy.specs.Tables.{Tables, Unmet, Waiting, noTok, bit, pieces, readAid, readTok, readUnmet, readWaiting, readList, bitOf, readTable, decode}
+use Rattle.policy.specs.Layout.{Layout, aidSize, aidsAt, tokensAt, providesAt, unmetSize, waitingSize, callsAt, grantsAt, needsAt, unmetAt, waitingAt}
+use Rattle.policy.specs.Tables.{Tables, noTok, bit, pieces, readAid, readTok, readUnmet, readWaiting, readList, bitOf, readTable, decode}
 use Rattle.policy.proofs.Pieces.{in-or-off, read-at, read-off}
-use Rattle.geometry.specs.Geometry.{aidAt, tokAt, provAt, entryAt}
-use Rattle.geometry.specs.declared.Table.{Table}
+use Rattle.geometry.specs.Geometry.{aidAt, tokAt, entryAt}
 use Rattle.geometry.specs.declared.Table.the-variants.{Calls, Grants, Needs}
 use Rattle.soundness.specs.Check.{byteAt, partAt, rowAt, usedRow, provRow}
 use Rattle.soundness.proofs.Parts.{part-in}

@@ -1,18 +1,17 @@
 -- The bytes that an image's tables give are the image's, exactly when each part of them is.
 use Prim.Native.Nat.{ℕ, zero, suc, _+_, _*_, _-_, _/_, _%_, _^_, _≤_, _<_}
 use native.Mathlib.Omega.{arith}
-use native.Mathlib.Nat.{zero-mul, suc-mul, pow-suc, mul-le-mul-right, add-zero, le-trans, add-mul, add-sub-of-le}
-use mathlib.Core.Path.{_≡_, refl, sym, ap, _∙_, subst}
+use native.Mathlib.Nat.{zero-mul, suc-mul, pow-suc, mul-le-mul-right, add-zero, add-mul, add-sub-of-le}
+use mathlib.Core.Path.{_≡_, refl, sym, ap, _∙_}
 use mathlib.Core.Logic.{_⊎_, inl, inr}
-use mathlib.Core.Bool.{Bool, true, false, _&&_}
+use mathlib.Core.Bool.{Bool, _&&_}
 use mathlib.Core.List.{List, [], _∷_, _++_, map, append-nil}
-use lib.Dec.{T, ltb, lt→ltb}
+use lib.Dec.{ltb, lt→ltb}
 use lib.ListN.{length, getD, take, drop, replicate, length-map, take-append-drop, length-take, length-drop, List·getD-eq-default}
-use lib.Seq.{drop-drop, take-at, drop-at, take-take, getD-take, getD-drop}
+use lib.Seq.{drop-drop, take-at, drop-at, getD-take, getD-drop}
 use Rattle.policy.specs.Lists.{flat, from, upto}
-use Rattle.policy.specs.Contract.{Tok}
 use Rattle.policy.specs.Layout.{Layout}
-use Rattle.policy.specs.Tables.{Unmet, Waiting, bit, rowOf, readNumber, writeNumber, readAid, writeAid, readTok, writeTok, readUnmet, writeUnmet, readWaiting, writeWaiting, readList, writeList, bitOf, writeBits, pieces}
+use Rattle.policy.specs.Tables.{bit, rowOf, readNumber, writeNumber, readAid, writeAid, readTok, writeTok, readUnmet, writeUnmet, readWaiting, writeWaiting, readList, writeList, bitOf, writeBits, pieces}
 use Rattle.policy.proofs.Sets.{T-true}
 use Rattle.policy.proofs.Pieces.{in-or-off, piece-only, length-table}
 use Rattle.soundness.specs.Check.{byteAt, partAt}

@@ -1,27 +1,26 @@
 -- The tables of an image by its bytes: bits, tokens and rows of lists; and packages and services found by their bytes.
-use Prim.Native.Nat.{ℕ, zero, suc, _+_, _*_, _-_, _^_, _≤_, _<_}
+use Prim.Native.Nat.{ℕ, _+_, _^_, _≤_, _<_}
 use native.Mathlib.Omega.{arith}
-use native.Mathlib.Nat.{add-zero, add-assoc}
+use native.Mathlib.Nat.{add-zero}
 use mathlib.Core.Path.{_≡_, refl, sym, ap, _∙_, subst}
 use mathlib.Core.Logic.{_⊎_, inl, inr}
-use mathlib.Core.Bool.{Bool, true, false, not, _&&_, cond}
-use mathlib.Core.List.{List, [], _∷_, _++_}
-use mathlib.Core.List.{List·Memᴰ as In}
+use mathlib.Core.Bool.{Bool, true, false, _&&_, cond}
+use mathlib.Core.List.{List, []}
 use mathlib.Core.Option.{Option, none, some}
-use lib.Dec.{T, eqb, leb, ltb, lt→ltb, leb→le}
-use lib.ListN.{length, getD, take, drop}
+use lib.Dec.{T, ltb, lt→ltb}
+use lib.ListN.{length, getD, drop}
 use lib.Seq.{take-take, getD-drop}
 use Rattle.policy.specs.Lists.{every, first, upto, orElse}
-use Rattle.policy.specs.Contract.{Aid, Tok, validAid}
-use Rattle.policy.specs.Layout.{Layout, size, aidSize, usedAt}
-use Rattle.policy.specs.Tables.{Tables, Unmet, Waiting, noTok, bit, readAid, readTok, readUnmet, readWaiting, decode}
-use Rattle.policy.proofs.Sets.{T-true, and-l, test, every-in, in-every, upto-in, in-upto, Found, found}
+use Rattle.policy.specs.Contract.{Aid, validAid}
+use Rattle.policy.specs.Layout.{Layout, size, aidSize}
+use Rattle.policy.specs.Tables.{Tables, bit, readAid, readTok, readUnmet, readWaiting, decode}
+use Rattle.policy.proofs.Sets.{T-true, test, every-in, in-every, upto-in, in-upto, Found, found}
 use Rattle.policy.proofs.Formed.{Names}
-use Rattle.geometry.specs.Geometry.{aidAt, tokAt, provAt, entryAt}
+use Rattle.geometry.specs.Geometry.{aidAt, provAt, entryAt}
 use Rattle.geometry.specs.declared.Table.the-variants.{Calls, Grants, Needs}
-use Rattle.soundness.specs.Check.{byteAt, partAt, sameAt, rowAt, usedRow, provRow, isAid, numberBelow}
-use Rattle.soundness.proofs.Parts.{part-byte, part-rest, part-length, same-part, part-same, Filled, filled-inj}
-use Rattle.soundness.proofs.Decoded.{piece-end, used-read, aid-read, tok-read, prov-read, calls-read, grants-read, needs-read}
+use Rattle.soundness.specs.Check.{byteAt, partAt, rowAt, usedRow, provRow, isAid, numberBelow}
+use Rattle.soundness.proofs.Parts.{part-byte, part-length, same-part, part-same, Filled, filled-inj}
+use Rattle.soundness.proofs.Decoded.{piece-end, used-read, aid-read, prov-read, calls-read, grants-read, needs-read}
 use Rattle.soundness.proofs.Encoded.{Bytes, part-bytes, row-lt}
 use Rattle.soundness.proofs.Whole.{Full}
 

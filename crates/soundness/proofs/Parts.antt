@@ -1,19 +1,19 @@
 -- Parts of an image: bytes that are zero, bytes that are the same, and the places of AIDs.
-use Prim.Native.Nat.{ℕ, zero, suc, _+_, _*_, _-_, _≤_, _<_}
+use Prim.Native.Nat.{ℕ, zero, suc, _+_, _-_, _≤_, _<_}
 use native.Mathlib.Omega.{arith}
-use native.Mathlib.Nat.{le-of-suc-le-suc, not-suc-le-zero, zero-mul, suc-mul, zero-add, add-assoc, min-le-left}
-use native.Mathlib.Numerals.{one-add, add-one}
+use native.Mathlib.Nat.{zero-add}
+use native.Mathlib.Numerals.{add-one}
 use mathlib.Core.Path.{_≡_, refl, sym, ap, _∙_, subst}
-use mathlib.Core.Bool.{Bool, _&&_}
-use mathlib.Core.List.{List, [], _∷_, _++_, map}
+use mathlib.Core.Bool.{_&&_}
+use mathlib.Core.List.{List, [], _∷_, _++_}
 use lib.Dec.{T, eqb, leb, eqb→eq, leb→le, le→leb}
-use lib.ListN.{length, getD, take, drop, replicate, length-append, length-take, length-drop, length-replicate, getD-replicate, take-append-drop, List·getD-eq-default}
-use lib.Seq.{drop-cons, drop-drop, take-take, take-add, drop-at, getD-take, getD-drop, length-take-le, getD-append-add, ext-getD, take-nil}
-use Rattle.policy.specs.Lists.{every, flat, from, upto, eqBytes}
+use lib.ListN.{length, getD, take, drop, replicate, length-drop, length-replicate, getD-replicate, take-append-drop}
+use lib.Seq.{drop-cons, drop-drop, take-take, take-add, drop-at, getD-take, getD-drop, length-take-le, ext-getD, take-nil}
+use Rattle.policy.specs.Lists.{every}
 use Rattle.policy.specs.Contract.{Aid, validAid}
-use Rattle.policy.specs.Tables.{pieces, readAid, writeAid}
+use Rattle.policy.specs.Tables.{readAid, writeAid}
 use Rattle.policy.proofs.Sets.{and-l, and-r, and-i, eqBytes→}
-use Rattle.policy.proofs.Equal.{eqAid-of, eqb-of}
+use Rattle.policy.proofs.Equal.{eqAid-of}
 use Rattle.soundness.specs.Check.{byteAt, partAt, isZero, zerosAt, sameAt, aidOk}
 
 -- ---- lists

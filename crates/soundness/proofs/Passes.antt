@@ -1,30 +1,30 @@
 -- An image that is what its tables give passes the check where they satisfy the facts.
 use Prim.Native.Nat.{ℕ, zero, suc, _+_, _*_, _-_, _/_, _%_, _^_, _≤_, _<_, zero-le}
 use native.Mathlib.Omega.{arith}
-use mathlib.Core.Path.{_≡_, refl, sym, ap, _∙_, subst}
+use mathlib.Core.Path.{_≡_, sym, ap, _∙_, subst}
 use mathlib.Core.Logic.{_⊎_, inl, inr}
-use mathlib.Core.Bool.{Bool, true, false, not, _&&_, _||_, cond}
-use mathlib.Core.List.{List, [], _∷_, _++_, map}
+use mathlib.Core.Bool.{Bool, not, _&&_, _||_}
+use mathlib.Core.List.{List, _++_, map}
 use mathlib.Core.List.{List·Memᴰ as In}
 use lib.Dec.{T, eqb, leb, ltb, eqb→eq, leb→le, le→leb, lt→ltb}
 use lib.ListN.{length, take, drop, replicate}
 use lib.Seq.{take-at, take-take}
 use Rattle.policy.specs.Lists.{implies, every, upto, NoRepeat}
 use Rattle.policy.specs.Contract.{Aid, Tok, validAid}
-use Rattle.policy.specs.Layout.{Layout, size, aidSize, unmetSize, waitingSize, usedAt, unmetAt, waitingAt}
+use Rattle.policy.specs.Layout.{Layout, size, aidSize, unmetSize, waitingSize, unmetAt, waitingAt}
 use Rattle.policy.specs.Tables.{Tables, Unmet, Waiting, noTok, bit, readAid, writeAid, readTok, readUnmet, writeUnmet, readWaiting, writeWaiting, decode}
-use Rattle.policy.proofs.Sets.{T-false, and-l, and-r, and-i, or-l, or-r, implies-i, not-i, test, false-T, in-map, upto-in, in-upto}
+use Rattle.policy.proofs.Sets.{T-false, and-l, and-r, and-i, or-l, or-r, implies-i, not-i, test, false-T, in-map, in-upto}
 use Rattle.policy.proofs.Equal.{eqb-of}
 use Rattle.policy.proofs.Pieces.{in-or-off, length-aid, length-unmet, length-waiting}
 use Rattle.policy.proofs.Formed.{Names, grantBit, Formed, Lawful, Fitting}
 use Rattle.policy.proofs.Sets.{map-inj}
 use Rattle.bits.proofs.Row.{bit-none, bit-past, bit-ext}
-use Rattle.geometry.specs.Geometry.{aidAt, tokAt, provAt, entryAt}
+use Rattle.geometry.specs.Geometry.{aidAt, tokAt, entryAt}
 use Rattle.geometry.specs.declared.Table.the-variants.{Calls, Grants, Needs}
 use Rattle.soundness.specs.declared.Kept.{Kept}
 use Rattle.soundness.specs.declared.Kept.the-variants.{Unmet as Unmets, Waiting as Waitings}
-use Rattle.soundness.specs.Check.{byteAt, partAt, zerosAt, sameAt, aidOk, within, rowAt, usedRow, provRow, isAid, numberBelow, isTok, newTok, tokOk, toksOk, newAid, blankOk, packageOk, packagesOk}
-use Rattle.soundness.specs.Check.{grantOk, pairOk, lineOk, linesOk, isUsed, unserved, unmetOk, isProvided, waitingOk, listAt, rowSize, placeAt, countOf, rowOk, newRow, placeOk, listOk}
+use Rattle.soundness.specs.Check.{byteAt, partAt, zerosAt, sameAt, aidOk, within, rowAt, usedRow, provRow, numberBelow, isTok, newTok, tokOk, toksOk, newAid, blankOk, packageOk, packagesOk}
+use Rattle.soundness.specs.Check.{grantOk, pairOk, lineOk, linesOk, isUsed, unserved, unmetOk, isProvided, waitingOk, rowSize, placeAt, countOf, rowOk, newRow, placeOk, listOk}
 use Rattle.soundness.proofs.Parts.{same-part, byte-zeros, part-zeros, Filled, filled-ok, blank-zeros}
 use Rattle.soundness.proofs.Decoded.{piece-end, used-read, aid-read, tok-read, unmet-read, waiting-read}
 use Rattle.soundness.proofs.Encoded.{Bytes, list-parts, length-rows}

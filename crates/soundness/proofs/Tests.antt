@@ -1,21 +1,19 @@
 -- What the code's loops and branches have shown, as tests: `search tests` at each need.
-use Prim.Native.Nat.{ℕ, zero, suc, _+_, _*_, _-_, _≤_, _<_}
+use Prim.Native.Nat.{ℕ, _+_, _*_, _-_, _≤_, _<_}
 use native.Mathlib.Omega.{arith}
-use native.Mathlib.Nat.{add-sub-cancel-left, add-sub-of-le, add-mul, mul-le-mul-left}
+use native.Mathlib.Nat.{add-zero, add-sub-cancel-left, add-sub-of-le, add-mul, mul-le-mul-left}
 use native.Mathlib.Numerals.{add-one}
-use mathlib.Core.Path.{_≡_, refl, sym, ap, ap₂, _∙_, subst}
-use mathlib.Core.Logic.{_⊎_, inl, inr}
+use mathlib.Core.Path.{_≡_, refl, sym, ap, ap₂, _∙_}
+use mathlib.Core.Logic.{inl, inr}
 use mathlib.Core.Bool.{Bool, true, false, not, _&&_, _||_, cond}
 use mathlib.Core.List.{List, [], _∷_, _++_}
-use lib.Dec.{T, eqb, leb, ltb}
+use lib.Dec.{eqb, leb, ltb}
 use lib.ListN.{length, getD, take, drop, length-drop}
 use lib.Seq.{take-suc, take-all, getD-drop}
 use borrow.Author.Tests.{lt-ltb, le-ltb, le-leb, lt-leb, eq-eqb, ne-eqb}
-use borrow.Author.Needs.{needs}
 use Rattle.policy.specs.Lists.{every, eqBytes}
 use Rattle.policy.specs.Layout.{size}
-use Rattle.policy.proofs.Sets.{T-true, T-false}
-use Rattle.bits.proofs.Loops.{early}
+use Rattle.policy.proofs.Sets.{T-false}
 use Rattle.geometry.specs.declared.Card.{Card}
 use Rattle.geometry.specs.declared.Card.the-variants.{Small}
 use Rattle.geometry.specs.Geometry.{layoutOf, tokAt}
@@ -23,7 +21,7 @@ use Rattle.geometry.proofs.Bounds.{geo, layout-ok, limits, head-len, unmet-in, 
 use Rattle.soundness.specs.declared.Kept.{Kept}
 use Rattle.soundness.specs.declared.Kept.the-variants.{Unmet, Waiting}
 use Rattle.soundness.specs.Check.{byteAt, partAt, isZero, zerosAt, sameAt, listAt, rowSize, placeAt, numberBelow}
-use Rattle.soundness.proofs.Parts.{part-byte, same-part, part-same}
+use Rattle.soundness.proofs.Parts.{part-byte, part-length, same-part}
 use Rattle.soundness.proofs.Decoded.{piece-end}
 use Rattle.soundness.proofs.Lookup.{below-is, BelowIs}
 
@@ -102,22 +100,19 @@ eqb-fell a b h = sym (ne-eqb a b h)
 pub eqb-is : {r p : ℕ} (m n : ℕ) → r ≡ m → p ≡ n → eqb r p ≡ eqb m n
 eqb-is m n e q = λ i. eqb (e i) (q i)
 
+and-true : (b : Bool) → b && true ≡ b
+and-true true = refl
+and-true false = refl
+
+and-again : (a b c : Bool) → a && (b && c) ≡ a && b && c
+and-again true b c = refl
+and-again false b c = refl
+
 -- ---- a loop over a list's elements that gathers a flag
 module _ (f : ℕ → Bool) (l : List ℕ) where
-  pub each-start : true ≡ every f (take 0 l)
-  each-start = refl
-
   every-snoc : (p : List ℕ) (x : ℕ) → every f (p ++ (x ∷ [])) ≡ every f p && f x
   every-snoc [] x = and-true (f x)
-    where
-      and-true : (b : Bool) → b && true ≡ b
-      and-true true = refl
-      and-true false = refl
   every-snoc (y ∷ p) x = ap (λ (b : Bool). f y && b) (every-snoc p x) ∙ and-again (f y) (every f p) (f x)
-    where
-      and-again : (a b c : Bool) → a && (b && c) ≡ a && b && c
-      and-again true b c = refl
-      and-again false b c = refl
 
   pub each-turn : (k : ℕ) {b r : Bool} → b ≡ every f (take k l) → k < length l → r ≡ f (getD l k 0) → b && r ≡ every f (take (k + 1) l)
   each-turn k p h q = rw (add-one, take-suc l k 0) (ap₂ _&&_ p q ∙ sym (every-snoc (take k l) (getD l k 0)))
@@ -130,24 +125,31 @@ pub zeros-of : (l : List ℕ) (at n : ℕ) {r : Bool} → r ≡ every isZero (ta
 unfolding zerosAt
 zeros-of l at n e = rw (add-sub-cancel-left at n) at e
 
--- ---- a loop that compares two parts, and leaves at the first bytes that differ
-module _ (l : List ℕ) (a b : ℕ) where
-  pub same-start : partAt l a 0 ≡ partAt l b 0
-  same-start = refl
+-- ---- a loop that compares two parts
+eqBytes-snoc : (p q : List ℕ) (x y : ℕ) → length p ≡ length q → eqBytes (p ++ (x ∷ [])) (q ++ (y ∷ [])) ≡ eqBytes p q && eqb x y
+eqBytes-snoc [] [] x y e = and-true (eqb x y)
+eqBytes-snoc [] (b ∷ q) x y e = absurd (omega arith)
+eqBytes-snoc (a ∷ p) [] x y e = absurd (omega arith)
+eqBytes-snoc (a ∷ p) (b ∷ q) x y e = ap (λ (z : Bool). eqb a b && z) (eqBytes-snoc p q x y (omega arith)) ∙ and-again (eqb a b) (eqBytes p q) (eqb x y)
 
-  module _ (n : ℕ) (h : a + n ≤ length l) (i : b + n ≤ length l) where
-    pub same-turn : (k : ℕ) → k < n → partAt l a k ≡ partAt l b k → byteAt l (a + k) ≡ byteAt l (b + k) → partAt l a (k + 1) ≡ partAt l b (k + 1)
-    same-turn k p e q =
-        let long : (c : ℕ) → c + n ≤ length l → k < length (drop c l) = λ c d. rw length-drop (omega arith) in
-        rw (add-one, take-suc (drop a l) k 0 (long a h), take-suc (drop b l) k 0 (long b i), getD-drop a l k 0, getD-drop b l k 0, e, q)
+module _ (l : List ℕ) (a b n : ℕ) (h : a + n ≤ length l) (i : b + n ≤ length l) where
+  pub same-turn : (k : ℕ) {r : Bool} → r ≡ eqBytes (partAt l a k) (partAt l b k) → k < n → r && eqb (byteAt l (a + k)) (byteAt l (b + k)) ≡ eqBytes (partAt l a (k + 1)) (partAt l b (k + 1))
+  same-turn k e p =
+      let long : (c : ℕ) → c + n ≤ length l → k < length (drop c l) = λ c d. rw length-drop (omega arith) in
+      let same : length (partAt l a k) ≡ length (partAt l b k) = part-length l a k (omega arith) ∙ sym (part-length l b k (omega arith)) in
+      rw (add-one, take-suc (drop a l) k 0 (long a h), take-suc (drop b l) k 0 (long b i), getD-drop a l k 0, getD-drop b l k 0)
+      (ap (λ (z : Bool). z && eqb (byteAt l (a + k)) (byteAt l (b + k))) e ∙ sym (eqBytes-snoc (partAt l a k) (partAt l b k) (byteAt l (a + k)) (byteAt l (b + k)) same))
 
-    pub same-fell : (k : ℕ) → k < n → (byteAt l (a + k) ≡ byteAt l (b + k) → ⊥) → false ≡ sameAt l a b n
-    same-fell k p f = sym (T-false (sameAt l a b n) (λ t. f (sym (part-byte l a n k p) ∙ ap (λ (z : List ℕ). getD z k 0) (same-part l a b n t) ∙ part-byte l b n k p)))
+  pub same-end : (k : ℕ) {r : Bool} → r ≡ eqBytes (partAt l a k) (partAt l b k) → k ≤ n → n ≤ k → r ≡ sameAt l a b n
+  unfolding sameAt
+  same-end k e p q = let z : k ≡ n = omega arith in e ∙ ap (λ (x : ℕ). eqBytes (partAt l a x) (partAt l b x)) z
 
-    pub same-held : (k : ℕ) → partAt l a k ≡ partAt l b k → k ≤ n → n ≤ k → true ≡ sameAt l a b n
-    same-held k e p q =
-        let z : k ≡ n = omega arith in
-        sym (T-true (sameAt l a b n) (part-same l a b n (subst (λ (x : ℕ). partAt l a x ≡ partAt l b x) z e)))
+-- parts that differ in their first byte
+pub same-fell : (l : List ℕ) (a b n : ℕ) → 0 < n → (byteAt l a ≡ byteAt l b → ⊥) → false ≡ sameAt l a b n
+same-fell l a b n p f = sym (T-false (sameAt l a b n) (λ t. f (at a ∙ ap (λ (z : List ℕ). getD z 0 0) (same-part l a b n t) ∙ sym (at b))))
+  where
+    at : (c : ℕ) → byteAt l c ≡ getD (partAt l c n) 0 0
+    at c = ap (byteAt l) (sym (add-zero c)) ∙ sym (part-byte l c n 0 p)
 
 -- ---- the tokens of a package
 pub one-service : (c : Card) → 0 < layoutOf c .services
@@ -172,6 +174,9 @@ list-in c Waiting = omega arith
 pub row-in : (c : Card) (k : Kept) (r : ℕ) → r < layoutOf c .capacity → placeAt (layoutOf c) k r + rowSize k ≤ size (layoutOf c)
 row-in c Unmet r h = unmet-in c r h
 row-in c Waiting r h = waiting-in c r h
+
+pub row-some : (k : Kept) (w : ℕ) → w ≡ rowSize k → 0 < w
+row-some k w e = let h = row-low k in omega arith
 
 pub list-len : (c : Card) (k : Kept) (n a : ℕ) → n ≡ size (layoutOf c) → a ≡ listAt (layoutOf c) k → a < n
 list-len c k n a e p = let h = list-in c k in omega arith
@@ -226,6 +231,6 @@ pub head-of : (c : Card) (l h : List ℕ) → length l ≡ size (layoutOf c) →
     → eqb (getD l 0 0) (getD h 0 0) && eqb (getD l 1 0) (getD h 1 0) && eqb (getD l 2 0) (getD h 2 0) ≡ eqBytes (take 3 l) (layoutOf c .header)
 head-of c l h e p = head-is l h (head-len c 2 (length l) e (omega arith)) (ap length p ∙ layout-ok c .header-size) ∙ ap (eqBytes (take 3 l)) p
 
-pub ruleset places = (tokens-len, list-len, row-len, rest-len, unmet-row, waiting-row, geo)
+pub ruleset places = (tokens-len, list-len, row-len, rest-len, row-some, unmet-row, waiting-row, geo)
 
 pub ruleset tests = (and-fell, and-rest, and-held, or-held, or-rest, cond-held, cond-fell, not-held, not-fell, not-is, leb-held, leb-fell, ltb-held, ltb-fell, eqb-held, eqb-fell, eqb-is, fell, held, took, left)

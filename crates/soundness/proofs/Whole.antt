@@ -1,20 +1,19 @@
 -- An image is what its tables give exactly when the header is right, the places of AIDs are filled right, and the lists are.
-use Prim.Native.Nat.{ℕ, zero, suc, _+_, _*_, _-_, _^_, _≤_, _<_}
+use Prim.Native.Nat.{ℕ, _+_, _*_, _^_, _≤_, _<_}
 use native.Mathlib.Omega.{arith}
-use native.Mathlib.Nat.{zero-add}
-use mathlib.Core.Path.{_≡_, refl, sym, ap, _∙_, subst}
-use mathlib.Core.List.{List, [], _∷_, _++_, append-nil}
-use lib.ListN.{length, getD, take, drop, replicate, length-drop, drop-of-length-le}
+use mathlib.Core.Path.{_≡_, refl, sym, ap, _∙_}
+use mathlib.Core.List.{List, [], append-nil}
+use lib.ListN.{length, take, drop, length-drop, drop-of-length-le}
 use lib.Seq.{take-all}
 use Rattle.policy.specs.Lists.{flat, upto}
 use Rattle.policy.specs.Layout.{Layout, LayoutOk, aidSize, unmetSize, waitingSize, usedAt, aidsAt, tokensAt, providesAt, callsAt, grantsAt, needsAt, unmetAt, waitingAt, size}
-use Rattle.policy.specs.Tables.{Tables, readAid, writeAid, writeTok, readUnmet, writeUnmet, readWaiting, writeWaiting, readList, writeList, bitOf, readTable, writeBits, writeTable, decode, encode}
+use Rattle.policy.specs.Tables.{Tables, writeAid, writeTok, writeUnmet, writeWaiting, writeList, bitOf, readTable, writeBits, writeTable, decode, encode}
 use Rattle.policy.proofs.Bits.{length-bits, writeLine, length-line, length-lines}
 use Rattle.policy.proofs.Pieces.{length-table}
-use Rattle.geometry.specs.Geometry.{aidAt, tokAt, provAt, entryAt}
-use Rattle.soundness.specs.Check.{byteAt, partAt, rowAt}
-use Rattle.soundness.proofs.Parts.{part-length, Filled}
-use Rattle.soundness.proofs.Decoded.{piece-end, used-read, aid-read, tok-read, prov-read, table-read}
+use Rattle.geometry.specs.Geometry.{aidAt, tokAt, provAt}
+use Rattle.soundness.specs.Check.{partAt}
+use Rattle.soundness.proofs.Parts.{part-length}
+use Rattle.soundness.proofs.Decoded.{piece-end, used-read, tok-read, prov-read, table-read}
 use Rattle.soundness.proofs.Encoded.{Bytes, part-bytes, bits-back, tok-back, join, split, flat-part, part-flat}
 
 -- a layout whose rows of bits fill their bytes
@@ -65,9 +64,6 @@ module _ (L : Layout) (lf : Full L) (l : List ℕ) (bytes : Bytes l) (len : leng
       let b = piece-end w n j q in
       let e : at + (i * (n * w) + j * w) ≡ at + i * (n * w) + j * w = omega arith in
       ap (writeBits L m) (λ z k. table-read L l at i j k p q z) ∙ bits-part m (lf .services-full) (at + (i * (n * w) + j * w)) (omega arith) ∙ ap (λ (z : ℕ). partAt l z w) e))
-
-  aids-part : ((i : ℕ) → i < n → Filled (partAt l (aidAt L i) aidSize)) → flat (λ i. writeAid (t .aid i)) (upto n) ≡ partAt l (aidsAt L) (n * aidSize)
-  aids-part f = flat-part l _ aidSize n (aidsAt L) (λ i p. ap writeAid (aid-read L l i p) ∙ f i p)
 
   abbrev pub unmets : List ℕ
   unmets = writeList L writeUnmet unmetSize (t .unmet)

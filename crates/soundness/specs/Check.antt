@@ -1,6 +1,6 @@
 -- The check of an image of the right length, as code makes it: tests of its bytes, for the items of document 01, 'An image is sound when'.
 use Prim.Native.Nat.{ℕ, _+_, _*_, _-_}
-use mathlib.Core.Bool.{Bool, true, false, not, _&&_, _||_, cond}
+use mathlib.Core.Bool.{Bool, not, _&&_, _||_, cond}
 use mathlib.Core.List.{List}
 use lib.Dec.{eqb, leb, ltb}
 use lib.ListN.{getD, take, drop}
@@ -60,7 +60,7 @@ module _ (L : Layout) (l : List ℕ) where
   abbrev pub provRow : ℕ → ℕ
   provRow j = rowAt (provAt L j)
 
-  -- ---- packages and services, found by their bytes
+  -- ---- packages and services, found by their bytes; an unused package's place is zero, and so has no valid AID
   abbrev pub isAid : ℕ → ℕ → Bool
   isAid at n = sameAt l at (aidAt L n) aidSize
 
@@ -98,7 +98,7 @@ module _ (L : Layout) (l : List ℕ) where
   packagesOk = every packageOk (upto (L .packages))
 
   -- ---- caller i, callee j: 'every unused .. row and column is zero; diagonals are zero; call and grant bits name provided services;
-  -- needs are among call bits; the card is lawful'
+  -- needs are among call bits; the card is lawful'. Needs are among the calls, calls among the grants, and grants among the provided services, of which an unused callee has none
   abbrev pub grantOk : ℕ → ℕ → ℕ → Bool
   grantOk g i j = eqb g 0 || (not (eqb i j) && bit usedRow i && within g (provRow j))
 

@@ -1,6 +1,6 @@
 // Bytes of an image: zeros, the same bytes, and the place of an AID.
 ghost use mathlib.Core.Path.{_≡_};
-ghost use Prim.Native.Nat.{_+_, _≤_};
+ghost use Prim.Native.Nat.{_+_, _≤_, _<_};
 ghost use lib.ListN.{length};
 ghost use Rattle.policy.specs.Lists.{every};
 ghost use Rattle.soundness.specs.Check.{isZero, zerosAt, sameAt, aidOk};
@@ -25,17 +25,19 @@ pub fn zeros_at(img: &[u8], at: usize, n: usize) -> bool
     zeros(&img[at..end])
 }
 
-// The n bytes from a on are those from b on.
+// The n bytes from a on are those from b on. Most parts differ in their first byte already.
 pub fn same_at(img: &[u8], a: usize, b: usize, n: usize) -> bool
-    requires { ⌜ (a + n ≤ length (now img)) × (b + n ≤ length (now img)) ⌝ }
+    requires { ⌜ (0 < n) × (a + n ≤ length (now img)) × (b + n ≤ length (now img)) ⌝ }
     ensures { λ r. ⌜ r ≡ sameAt (now (img .entry)) a b n ⌝ }
 {
-    for k in 0..n {
-        if img[a + k] != img[b + k] {
-            return false;
-        }
+    if img[a] != img[b] {
+        return false;
     }
-    true
+    let mut same = true;
+    for k in 0..n {
+        same = same & (img[a + k] == img[b + k]);
+    }
+    same
 }
 
 // A valid AID stands at at, with zeros to the end of its place.

@@ -1,6 +1,5 @@
 // Packages: AIDs that are valid and differ, tokens that differ, and zeros where no package or service stands.
 ghost use mathlib.Core.Path.{_≡_};
-ghost use mathlib.Core.Bool.{_&&_};
 ghost use Prim.Native.Nat.{_+_, _≤_, _<_};
 ghost use lib.ListN.{length};
 ghost use Rattle.policy.specs.Layout.{size as sizeOf};

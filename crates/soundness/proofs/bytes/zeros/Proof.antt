@@ -1,12 +1,11 @@
 -- `bytes::zeros` meets its contract.
-use mathlib.Core.Path.{_≡_, refl}
+use mathlib.Core.Path.{_≡_}
 use Prim.Native.Nat.{_≤_, _-_}
-use native.Mathlib.Omega.{arith}
 use lib.ListN.{length, take}
 use borrow.Author.Needs.{needs}
 use Rattle.policy.specs.Lists.{every}
 use Rattle.soundness.specs.Check.{isZero}
-use Rattle.soundness.proofs.Tests.{each-start, each-turn, each-end}
+use Rattle.soundness.proofs.Tests.{each-turn, each-end}
 use Rattle.soundness.proofs.bytes.zeros.Statement.{statement}
 use Rattle.soundness.proofs.bytes.zeros.Tie as tie
 

@@ -1,5 +1,5 @@
 -- `lists::is_used` meets its contract.
-use Prim.Native.Nat.{_≤_, _<_, _*_, _+_}
+use Prim.Native.Nat.{_≤_, _<_}
 use native.Mathlib.Omega.{arith}
 use Rattle.geometry.specs.Geometry.{layoutOf}
 use Rattle.soundness.proofs.Tests.{places, tests}

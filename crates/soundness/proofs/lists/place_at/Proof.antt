@@ -1,5 +1,4 @@
 -- `lists::place_at` meets its contract.
-use mathlib.Core.Path.{_≡_, sym, ap, _∙_}
 use native.Mathlib.Omega.{arith}
 use Rattle.soundness.proofs.Tests.{places, list-low, place-low}
 use Rattle.soundness.proofs.lists.place_at.Statement.{statement}

@@ -1,6 +1,4 @@
 -- `lists::unmet_ok` meets its contract.
-use mathlib.Core.Path.{_≡_, sym, ap, _∙_}
-use native.Mathlib.Omega.{arith}
 use Rattle.soundness.specs.Check.{unmetOk}
 use Rattle.soundness.proofs.Tests.{places, tests, number-in}
 use Rattle.soundness.proofs.lists.unmet_ok.Statement.{statement}

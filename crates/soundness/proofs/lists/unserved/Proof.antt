@@ -1,5 +1,5 @@
 -- `lists::unserved` meets its contract.
-use mathlib.Core.Path.{_≡_, sym, ap, _∙_}
+use mathlib.Core.Path.{_≡_, sym, _∙_}
 use native.Mathlib.Omega.{arith}
 use Rattle.geometry.specs.Geometry.{layoutOf}
 use Rattle.soundness.proofs.Tests.{places, tests}

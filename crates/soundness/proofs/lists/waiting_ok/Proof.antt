@@ -1,6 +1,4 @@
 -- `lists::waiting_ok` meets its contract.
-use mathlib.Core.Path.{_≡_, sym, ap, _∙_}
-use native.Mathlib.Omega.{arith}
 use Rattle.soundness.specs.Check.{waitingOk}
 use Rattle.soundness.proofs.Tests.{places, tests}
 use Rattle.soundness.proofs.lists.waiting_ok.Statement.{statement}
