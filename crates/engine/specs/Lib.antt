@@ -1,2 +1,5 @@
 pub mod Asked
+pub mod Plans
+pub mod Removals
+pub mod Services
 pub mod Loads

@@ -2,8 +2,14 @@
 ghost use mathlib.Core.Path.{_≡_};
 ghost use Prim.Native.Nat.{_<_};
 
+pub mod calls;
 pub mod empty;
+pub mod grants;
 pub mod load;
+pub mod needs;
+pub mod plan;
+pub mod removals;
+pub mod services;
 
 // An answer of document 01 and the number that goes with it.
 pub struct Verdict {

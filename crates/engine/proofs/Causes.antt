@@ -1,0 +1,80 @@
+-- The cause that the code of kinds 2 and 4 finds is the short check's. Assumes nothing.
+use Prim.Native.Nat.{ℕ, _+_, _≤_, _<_}
+use native.Mathlib.Omega.{arith}
+use mathlib.Core.Path.{_≡_, refl, sym, ap, _∙_}
+use mathlib.Core.Bool.{Bool, true, false, not, _&&_}
+use lib.Dec.{eqb, leb, le→leb, leb→le}
+use lib.ListN.{length}
+use borrow.Author.Tests.{eq-eqb, ne-eqb}
+use Rattle.policy.specs.Lists.{upto}
+use Rattle.policy.specs.Layout.{Layout}
+use Rattle.policy.specs.Causes.{answer}
+use Rattle.policy.specs.Tables.{Tables, bit}
+use Rattle.policy.specs.Draft.{Look}
+use Rattle.policy.specs.ShortCheck.{count, ones, shortRemove}
+use Rattle.policy.specs.Judge.{lookCauses}
+use Rattle.policy.proofs.Sets.{T-true, T-false}
+use Rattle.engine.proofs.Leaves.{none-pairs}
+use Rattle.engine.proofs.Counts.{full, ones-same, ones-all}
+
+fits-not : (n most : ℕ) → most < n → leb n most ≡ false
+fits-not n most h = T-false (leb n most) (λ x. let l = leb→le n most x in absurd (omega arith))
+
+fits-yes : (n most : ℕ) → n ≤ most → leb n most ≡ true
+fits-yes n most h = T-true (leb n most) (le→leb n most h)
+
+-- a check that asks no rights
+module _ (L : Layout) where
+  abbrev found : Bool → Bool → Bool → ℕ
+  found n u w = answer (lookCauses L (record { granted = true; needed = n; unmetFits = u; waitingFits = w }))
+
+  module _ (n u w : Bool) where
+    at-9 : n ≡ false → 9 ≡ found n u w
+    at-9 e = ap (λ (z : Bool). found z u w) (sym e)
+
+    at-10 : n ≡ true → u ≡ false → 10 ≡ found n u w
+    at-10 e f = λ i. found (sym e i) (sym f i) w
+
+    at-11 : n ≡ true → u ≡ true → w ≡ false → 11 ≡ found n u w
+    at-11 e f g = λ i. found (sym e i) (sym f i) (sym g i)
+
+    at-0 : n ≡ true → u ≡ true → w ≡ true → 0 ≡ found n u w
+    at-0 e f g = λ i. found (sym e i) (sym f i) (sym g i)
+
+-- ---- kind 2: x counts the needs on package n, u and w the rows afterwards
+module _ (L : Layout) (t : Tables) (low : L .services ≤ 16) where
+  pub column-all : (f : ℕ → ℕ → Bool) → ones L t (λ i k. f i k && bit 65535 k) ≡ ones L t f
+  column-all f = ones-same L t (bit 65535) (λ k. true) (λ k h. full k (omega arith)) f ∙ ones-all L t f
+
+  module _ (n x most : ℕ) (cap : most ≡ L .capacity) (e : x ≡ ones L t (λ i k. t .needs i n k && bit 65535 k)) where
+    abbrev k : Look
+    k = shortRemove L t n
+
+    abbrev unmetRows : ℕ
+    unmetRows = count (λ u. not (eqb (u .caller) n)) (t .unmet) + ones L t (λ i k. t .calls i n k)
+
+    abbrev waitingRows : ℕ
+    waitingRows = count (λ w. not (eqb (w .callee) n)) (t .waiting) + ones L t (λ j k. t .grants j n k)
+
+    needed-is : eqb x 0 ≡ k .needed
+    needed-is = ap (λ (z : ℕ). eqb z 0) (e ∙ column-all (λ i k. t .needs i n k)) ∙ none-pairs (λ i k. t .needs i n k) (upto (L .services)) (upto (L .packages))
+
+    pub needed-cause : (x ≡ 0 → ⊥) → 9 ≡ answer (lookCauses L (shortRemove L t n))
+    needed-cause h = at-9 L (k .needed) (k .unmetFits) (k .waitingFits) (sym needed-is ∙ ne-eqb x 0 h)
+
+    module _ (z : x ≡ 0) (u : ℕ) (p : u ≡ unmetRows) where
+      not-needed : k .needed ≡ true
+      not-needed = sym needed-is ∙ eq-eqb x 0 z
+
+      pub unmet-cause : most < u → 10 ≡ answer (lookCauses L (shortRemove L t n))
+      unmet-cause h = at-10 L (k .needed) (k .unmetFits) (k .waitingFits) not-needed (fits-not unmetRows (L .capacity) (omega arith))
+
+      module _ (f : u ≤ most) (w : ℕ) (q : w ≡ waitingRows) where
+        unmet-fits : k .unmetFits ≡ true
+        unmet-fits = fits-yes unmetRows (L .capacity) (omega arith)
+
+        pub waiting-cause : most < w → 11 ≡ answer (lookCauses L (shortRemove L t n))
+        waiting-cause h = at-11 L (k .needed) (k .unmetFits) (k .waitingFits) not-needed unmet-fits (fits-not waitingRows (L .capacity) (omega arith))
+
+        pub no-cause : w ≤ most → 0 ≡ answer (lookCauses L (shortRemove L t n))
+        no-cause h = at-0 L (k .needed) (k .unmetFits) (k .waitingFits) not-needed unmet-fits (fits-yes waitingRows (L .capacity) (omega arith))

@@ -1,0 +1,122 @@
+-- Rows and counts gathered number by number: what a loop that appends or adds has done. Assumes nothing.
+use Prim.Native.Nat.{ℕ, zero, suc, _+_, _-_, _≤_, _<_}
+use native.Mathlib.Omega.{arith}
+use native.Mathlib.Nat.{add-zero, zero-add, add-suc, add-assoc}
+use native.Mathlib.Numerals.{add-one}
+use mathlib.Core.Path.{_≡_, refl, sym, ap, ap₂, _∙_, subst}
+use mathlib.Core.Bool.{Bool, true, false, not, _&&_, cond}
+use mathlib.Core.List.{List, [], _∷_, _++_, map, append-nil, append-assoc}
+use mathlib.Core.List.{List·Memᴰ as In, List·Memᴰ·head as here, List·Memᴰ·tail as there}
+use lib.Dec.{eqb, eqb·suc-zero}
+use lib.ListN.{length, length-append}
+use Rattle.policy.specs.Lists.{every, keep, flat, from, upto}
+use Rattle.policy.specs.ShortCheck.{count, sum}
+use Rattle.bits.proofs.Loops.{upto-split}
+use Rattle.engine.specs.Removals.{only}
+
+-- ---- lists
+module _ {A : Type 0} (h : ℕ → List A) where
+  flat-append : (l m : List ℕ) → flat h (l ++ m) ≡ flat h l ++ flat h m
+  flat-append [] m = refl
+  flat-append (x ∷ l) m = ap (λ (z : List A). h x ++ z) (flat-append l m) ∙ sym (append-assoc (h x) (flat h l) (flat h m))
+
+  -- one number more
+  pub flat-snoc : (i : ℕ) → flat h (upto (i + 1)) ≡ flat h (upto i) ++ h i
+  flat-snoc i = ap (flat h) (upto-split i 1) ∙ flat-append (upto i) (i ∷ []) ∙ ap (λ (z : List A). flat h (upto i) ++ z) (append-nil (h i))
+
+  length-snoc : (i : ℕ) → length (flat h (upto (i + 1))) ≡ length (flat h (upto i)) + length (h i)
+  length-snoc i = ap length (flat-snoc i) ∙ length-append (flat h (upto i)) (h i)
+
+  grows : (i d : ℕ) → length (flat h (upto i)) ≤ length (flat h (upto (i + d)))
+  grows i zero = rw (add-zero i) (omega arith)
+  grows i (suc d) =
+      let e = grows i d in
+      let s = length-snoc (i + d) in
+      let q : i + d + 1 ≡ i + suc d = omega arith in
+      let z = ap (λ (x : ℕ). length (flat h (upto x))) q in
+      omega arith
+
+  -- the rows of a number below n are among those of all
+  pub flat-room : (n i : ℕ) → i < n → length (flat h (upto i)) + length (h i) ≤ length (flat h (upto n))
+  flat-room n i l =
+      let g = grows (i + 1) (n - (i + 1)) in
+      let s = length-snoc i in
+      let q : i + 1 + (n - (i + 1)) ≡ n = omega arith in
+      let z = ap (λ (x : ℕ). length (flat h (upto x))) q in
+      omega arith
+
+  length-flat : (l : List ℕ) → length (flat h l) ≡ sum (λ i. length (h i)) l
+  length-flat [] = refl
+  length-flat (x ∷ l) = length-append (h x) (flat h l) ∙ ap (λ (n : ℕ). length (h x) + n) (length-flat l)
+
+pub flat-ext : {A : Type 0} (g h : ℕ → List A) (l : List ℕ) → ((x : ℕ) → In x l → g x ≡ h x) → flat g l ≡ flat h l
+flat-ext g h [] e = refl
+flat-ext {A} g h (x ∷ l) e = ap₂ (λ (a b : List A). a ++ b) (e x (here refl)) (flat-ext g h l (λ y m. e y (there m)))
+
+-- what is kept, row by row
+pub only-keep : {A : Type 0} (f : ℕ → Bool) (g : ℕ → A) (l : List ℕ) → flat (λ k. only (f k) (g k)) l ≡ map g (keep f l)
+only-keep f g [] = refl
+only-keep {A} f g (x ∷ l) = go (f x) (only-keep f g l)
+  where
+    go : (b : Bool) → flat (λ k. only (f k) (g k)) l ≡ map g (keep f l) → only b (g x) ++ flat (λ k. only (f k) (g k)) l ≡ map g (cond b (x ∷ keep f l) (keep f l))
+    go true e = ap (λ (z : List A). g x ∷ z) e
+    go false e = e
+
+length-only : {A : Type 0} (f : ℕ → Bool) (g : ℕ → A) (l : List ℕ) → length (flat (λ k. only (f k) (g k)) l) ≡ count f l
+length-only f g [] = refl
+length-only {A} f g (x ∷ l) = go (f x) (length-only f g l)
+  where
+    go : (b : Bool) → length (flat (λ k. only (f k) (g k)) l) ≡ count f l → length (only b (g x) ++ flat (λ k. only (f k) (g k)) l) ≡ length (cond b (x ∷ keep f l) (keep f l))
+    go true e = ap suc e
+    go false e = e
+
+-- ---- sums
+module _ (f : ℕ → ℕ) where
+  sum-append : (l m : List ℕ) → sum f (l ++ m) ≡ sum f l + sum f m
+  sum-append [] m = sym (zero-add (sum f m))
+  sum-append (x ∷ l) m = ap (λ (n : ℕ). f x + n) (sum-append l m) ∙ sym (add-assoc (f x) (sum f l) (sum f m))
+
+  pub sum-snoc : (i : ℕ) → sum f (upto (i + 1)) ≡ sum f (upto i) + f i
+  sum-snoc i = ap (sum f) (upto-split i 1) ∙ sum-append (upto i) (i ∷ []) ∙ ap (λ (n : ℕ). sum f (upto i) + n) (add-zero (f i))
+
+pub sum-ext : (f g : ℕ → ℕ) (l : List ℕ) → ((x : ℕ) → In x l → f x ≡ g x) → sum f l ≡ sum g l
+sum-ext f g [] e = refl
+sum-ext f g (x ∷ l) e = ap₂ (λ (a b : ℕ). a + b) (e x (here refl)) (sum-ext f g l (λ y m. e y (there m)))
+
+-- the rows of pairs of numbers are as many as the pairs that pass
+pub length-pairs : {A : Type 0} (f : ℕ → ℕ → Bool) (g : ℕ → ℕ → A) (l m : List ℕ)
+    → length (flat (λ i. flat (λ k. only (f i k) (g i k)) l) m) ≡ sum (λ i. count (f i) l) m
+length-pairs f g l m = length-flat (λ i. flat (λ k. only (f i k) (g i k)) l) m ∙ sum-ext (λ i. length (flat (λ k. only (f i k) (g i k)) l)) (λ i. count (f i) l) m (λ i _. length-only (f i) (g i) l)
+
+-- ---- none
+none-pass : {A : Type 0} (f : A → Bool) (l : List A) → eqb (count f l) 0 ≡ every (λ x. not (f x)) l
+none-pass f [] = refl
+none-pass f (x ∷ l) = go (f x) (none-pass f l)
+  where
+    go : (b : Bool) → eqb (count f l) 0 ≡ every (λ x. not (f x)) l → eqb (length (cond b (x ∷ keep f l) (keep f l))) 0 ≡ not b && every (λ x. not (f x)) l
+    go true e = eqb·suc-zero (length (keep f l))
+    go false e = e
+
+zero-sum : (a b : ℕ) → eqb (a + b) 0 ≡ eqb a 0 && eqb b 0
+zero-sum zero b = ap (λ (n : ℕ). eqb n 0) (zero-add b)
+zero-sum (suc a) b = let e : suc a + b ≡ suc (a + b) = omega arith in ap (λ (n : ℕ). eqb n 0) e ∙ eqb·suc-zero (a + b) ∙ ap (λ (z : Bool). z && eqb b 0) (sym (eqb·suc-zero a))
+
+none-sum : (f : ℕ → ℕ) (l : List ℕ) → eqb (sum f l) 0 ≡ every (λ i. eqb (f i) 0) l
+none-sum f [] = refl
+none-sum f (x ∷ l) = zero-sum (f x) (sum f l) ∙ ap (λ (b : Bool). eqb (f x) 0 && b) (none-sum f l)
+
+pub none-pairs : (f : ℕ → ℕ → Bool) (l m : List ℕ) → eqb (sum (λ i. count (f i) l) m) 0 ≡ every (λ i. every (λ k. not (f i k)) l) m
+none-pairs f l m = none-sum (λ i. count (f i) l) m ∙ (λ z. every (λ i. none-pass (f i) l z) m)
+
+pub none-count : (f : ℕ → Bool) (l : List ℕ) → eqb (count f l) 0 ≡ every (λ i. not (f i)) l
+none-count f l = none-pass f l
+
+-- those that do not pass, by those that do
+pub count-others : {A : Type 0} (f : A → Bool) (l : List A) → count (λ x. not (f x)) l + count f l ≡ length l
+count-others f [] = refl
+count-others f (x ∷ l) = go (f x) (count-others f l)
+  where
+    go : (b : Bool) → count (λ x. not (f x)) l + count f l ≡ length l
+        → length (cond (not b) (x ∷ keep (λ x. not (f x)) l) (keep (λ x. not (f x)) l)) + length (cond b (x ∷ keep f l) (keep f l)) ≡ suc (length l)
+    go true e = omega arith
+    go false e = omega arith

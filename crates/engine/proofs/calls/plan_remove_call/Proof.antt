@@ -1,0 +1,19 @@
+-- `engine::calls::plan_remove_call` meets its contract.
+use Rattle.engine.proofs.Seen.{plans}
+use Rattle.engine.proofs.calls.plan_remove_call.Statement.{statement}
+use Rattle.engine.proofs.calls.plan_remove_call.Tie as tie
+
+pub plan-remove-call-spec : {M : Type 1} → statement M
+plan-remove-call-spec =
+    tie.close
+    (tie.spec
+    (λ c κs. search plans)
+    (λ c κs. search plans)
+    (λ c. search plans)
+    (λ c κs. search plans)
+    (λ c κs. search plans)
+    (λ c. search plans)
+    (λ c. search plans)
+    (λ c κs. search plans)
+    (λ c. search plans)
+    (λ c. search plans))

@@ -1,0 +1,25 @@
+-- `engine::grants::plan_add_grant` meets its contract.
+use Rattle.engine.proofs.Seen.{plans}
+use Rattle.engine.proofs.grants.plan_add_grant.Statement.{statement}
+use Rattle.engine.proofs.grants.plan_add_grant.Tie as tie
+
+pub plan-add-grant-spec : {M : Type 1} → statement M
+plan-add-grant-spec =
+    tie.close
+    (tie.spec
+    (λ c κs. search plans)
+    (λ c κs. search plans)
+    (λ c. search plans)
+    (λ c κs. search plans)
+    (λ c κs. search plans)
+    (λ c. search plans)
+    (λ c κs. search plans)
+    (λ c κs. search plans)
+    (λ c. search plans)
+    (λ c. search plans)
+    (λ c κs. search plans)
+    (λ c. search plans)
+    (λ c κs. search plans)
+    (λ c κs. search plans)
+    (λ c. search plans)
+    (λ c. search plans))

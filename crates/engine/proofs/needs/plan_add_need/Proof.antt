@@ -1,0 +1,21 @@
+-- `engine::needs::plan_add_need` meets its contract.
+use Rattle.engine.proofs.Seen.{plans}
+use Rattle.engine.proofs.needs.plan_add_need.Statement.{statement}
+use Rattle.engine.proofs.needs.plan_add_need.Tie as tie
+
+pub plan-add-need-spec : {M : Type 1} → statement M
+plan-add-need-spec =
+    tie.close
+    (tie.spec
+    (λ c κs. search plans)
+    (λ c κs. search plans)
+    (λ c. search plans)
+    (λ c κs. search plans)
+    (λ c κs. search plans)
+    (λ c. search plans)
+    (λ c κs. search plans)
+    (λ c. search plans)
+    (λ c. search plans)
+    (λ c κs. search plans)
+    (λ c. search plans)
+    (λ c. search plans))

@@ -1,0 +1,17 @@
+-- `engine::needs::plan_remove_need` meets its contract.
+use Rattle.engine.proofs.Seen.{plans}
+use Rattle.engine.proofs.needs.plan_remove_need.Statement.{statement}
+use Rattle.engine.proofs.needs.plan_remove_need.Tie as tie
+
+pub plan-remove-need-spec : {M : Type 1} → statement M
+plan-remove-need-spec =
+    tie.close
+    (tie.spec
+    (λ c κs. search plans)
+    (λ c κs. search plans)
+    (λ c. search plans)
+    (λ c κs. search plans)
+    (λ c κs. search plans)
+    (λ c. search plans)
+    (λ c. search plans)
+    (λ c. search plans))

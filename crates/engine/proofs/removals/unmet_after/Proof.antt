@@ -1,0 +1,52 @@
+-- `engine::removals::unmet_after` meets its contract. Assumes nothing.
+use Prim.Native.Nat.{ℕ, _+_}
+use native.Mathlib.Omega.{arith}
+use mathlib.Core.Path.{ap₂, _∙_}
+use lib.Dec.{eqb}
+use borrow.Author.Needs.{needs}
+use Rattle.policy.specs.Tables.{decode}
+use Rattle.geometry.specs.Geometry.{layoutOf}
+use Rattle.geometry.proofs.Bounds.{limits}
+use Rattle.image.proofs.Listed.{unmet-low}
+use Rattle.engine.proofs.Counts.{own-le, rest-is}
+use Rattle.engine.proofs.Causes.{column-all}
+use Rattle.engine.proofs.removals.unmet_after.Statement.{statement}
+use Rattle.engine.proofs.removals.unmet_after.Tie as tie
+
+unmet-count-requires : tie.Need-unmet-count-requires
+unmet-count-requires c κs = search needs
+
+calling-requires : tie.Need-calling-requires
+calling-requires c κs = search needs
+
+mask-count-requires : tie.Need-mask-count-requires
+mask-count-requires c κs = search needs
+
+column-requires : tie.Need-column-requires
+column-requires c κs = search needs
+
+sub-rest : tie.Need-sub-rest
+sub-rest c =
+    let s = c .before .before .before .before .before in
+    let a = s .args in
+    let t = decode (layoutOf (a .c)) (a .img .now) in
+    own-le (λ u. eqb (u .caller) (a .n)) (t .unmet) (c .before .before .before .unmet-count .result) (c .before .before .calling .result) (c .before .mask-count .result)
+    (unmet-low (a .c) (a .img .now) (s .pre .0)) (c .before .before .before .unmet-count .ensures) (c .before .before .calling .ensures) (c .before .mask-count .ensures)
+
+add-total : tie.Need-add-total
+add-total c =
+    let s = c .before .before .before .before .before in
+    omega (arith, unmet-low (s .args .c) (s .args .img .now) (s .pre .0), c .before .before .before .unmet-count .ensures, c .column .ensures .1)
+
+returns : tie.Need-returns
+returns c =
+    let s = c .before .before .before .before .before in
+    let a = s .args in
+    let t = decode (layoutOf (a .c)) (a .img .now) in
+    ap₂ (λ (x y : ℕ). x + y)
+    (rest-is (λ u. eqb (u .caller) (a .n)) (t .unmet) (c .before .before .before .unmet-count .result) (c .before .before .calling .result) (c .before .mask-count .result)
+    (unmet-low (a .c) (a .img .now) (s .pre .0)) (c .before .before .before .unmet-count .ensures) (c .before .before .calling .ensures) (c .before .mask-count .ensures))
+    (c .column .ensures .0 ∙ column-all (layoutOf (a .c)) t (limits (a .c) .services-low) (λ i k. t .calls i (a .n) k))
+
+pub unmet-after-spec : {M : Type 1} → statement M
+unmet-after-spec = tie.close (tie.spec unmet-count-requires calling-requires mask-count-requires column-requires sub-rest add-total returns)

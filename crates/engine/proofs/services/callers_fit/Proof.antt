@@ -1,0 +1,87 @@
+-- `engine::services::callers_fit` meets its contract. Assumes nothing.
+use Prim.Native.Nat.{_+_}
+use native.Mathlib.Omega.{arith}
+use mathlib.Core.Path.{_∙_}
+use lib.Dec.{leb}
+use lib.ListN.{length}
+use denote.Ref.{now}
+use Rattle.policy.specs.Lists.{keep}
+use Rattle.policy.specs.Record.{aid}
+use Rattle.policy.specs.Tables.{decode}
+use Rattle.policy.specs.ShortCheck.{count, notInstalled}
+use Rattle.geometry.specs.Geometry.{layoutOf}
+use Rattle.record.specs.Meaning.{itemsIn}
+use Rattle.record.proofs.Loops.{Todo, todo-end}
+use Rattle.engine.proofs.Callers.{room-start, room-end, room-stop, room-next}
+use borrow.Author.Needs.{needs}
+use Rattle.engine.proofs.services.callers_fit.Statement.{statement}
+use Rattle.engine.proofs.services.callers_fit.Tie as tie
+
+abbrev Inv-loop : tie.InvT-loop
+Inv-loop img c rec most taken left₀ todo₀ left todo =
+    Todo aid rec todo (λ l. leb (length (keep (notInstalled (layoutOf c) (decode (layoutOf c) img)) l)) left)
+    (leb (length (decode (layoutOf c) img .waiting) + count (notInstalled (layoutOf c) (decode (layoutOf c) img)) (itemsIn aid rec todo₀)) (layoutOf c .capacity))
+
+abbrev μ-loop : tie.MeasureT-loop
+μ-loop img c rec most taken left₀ todo₀ left todo = todo .count
+
+capacity-requires : tie.Need-capacity-requires Inv-loop μ-loop
+capacity-requires c κs = search needs
+
+waiting-count-requires : tie.Need-waiting-count-requires Inv-loop μ-loop
+waiting-count-requires c κs = search needs
+
+sub-left : tie.Need-sub-left Inv-loop μ-loop
+sub-left c = omega (arith, c .waiting-count .ensures, c .before .capacity .ensures, c .before .before .before .before .pre .0 .room .waiting-fits)
+
+loop-holds : tie.Need-loop-holds Inv-loop μ-loop
+loop-holds c =
+    let s = c .before .before .before .before in record {
+      stands = s .pre .1;
+      same = room-start _ _ _ _ _ (c .waiting-count .ensures) (c .before .capacity .ensures) (s .pre .0 .room .waiting-fits);
+    }
+
+take-aid-requires : tie.Need-take-aid-requires Inv-loop μ-loop
+take-aid-requires c κs = (c .before .before .loop .inv .stands, c .if1 .taken)
+
+is-new-requires : tie.Need-is-new-requires Inv-loop μ-loop
+is-new-requires c κs = (c .before .before .before .before .before .before .before .before .before .pre .0, c .before .take-aid .ensures .fits)
+
+cast-new : tie.Need-cast-new Inv-loop μ-loop
+cast-new c = search needs
+
+returns : tie.Need-returns Inv-loop μ-loop
+returns c =
+    let d = c .before .before .before in
+    let l = d .before .before .before .loop in
+    room-stop _ (l .left) (d .take-aid .ensures .split) (c .before .is-new .ensures) (l .inv) (c .if2 .taken)
+
+loop-less : tie.Need-loop-less Inv-loop μ-loop
+loop-less c = omega (arith, c .before .before .before .before .take-aid .ensures .split .fewer)
+
+loop-again : tie.Need-loop-again Inv-loop μ-loop
+loop-again c =
+    let d = c .before .before .before .before in
+    let l = d .before .before .before .loop in
+    room-next _ (l .left) (d .take-aid .ensures .split) (c .before .before .is-new .ensures) (l .inv) (c .before .if2 .left)
+
+returns-2 : tie.Need-returns-2 Inv-loop μ-loop
+returns-2 c = let l = c .before .before .loop in room-end (l .left) ∙ todo-end (l .inv) (c .if1 .left)
+
+pub callers-fit-spec : {M : Type 1} → statement M
+callers-fit-spec =
+    tie.close
+    (tie.spec
+    Inv-loop
+    μ-loop
+    capacity-requires
+    waiting-count-requires
+    sub-left
+    loop-holds
+    take-aid-requires
+    is-new-requires
+    cast-new
+    returns
+    loop-less
+    loop-again
+    returns-2)

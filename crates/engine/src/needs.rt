@@ -1,0 +1,121 @@
+// Kinds 9 and 10: a need of a package, which is a call that must stay met.
+ghost use mathlib.Core.Path.{_≡_};
+ghost use Rattle.policy.specs.Record.{addNeed, removeNeed};
+ghost use Rattle.policy.specs.Tables.{decode};
+ghost use Rattle.policy.specs.Settled.{settled, Gives};
+ghost use Rattle.geometry.specs.Geometry.{layoutOf};
+ghost use Rattle.image.specs.Laid.{Laid};
+ghost use Rattle.engine.specs.Asked.{Asked, rowWith};
+ghost use Rattle.engine.specs.Plans.{callPlan, addNeedPlan, removeNeedPlan};
+use crate::Verdict;
+use crate::plan::Edit;
+use crate::plan::Plan;
+use geometry::Card;
+use geometry::Table;
+
+// What kind 9 comes to.
+fn plan_add_need(img: &[u8], c: Card, aid: &[u8], other: &[u8], interface: u8, method: u8) -> Plan
+    requires { ⌜ Laid (layoutOf c) (now img) ⌝ }
+    ensures { λ r. ⌜ r ≡ callPlan (layoutOf c) (decode (layoutOf c) (now (img .entry))) (addNeedPlan (layoutOf c) (decode (layoutOf c) (now (img .entry))))
+        (now (aid .entry)) (rowWith (now (other .entry)) interface method) ⌝ }
+{
+    let n = geometry::packages(c);
+    let i = image::read::find_package(img, c, aid);
+    if i >= n {
+        return Plan::Refuse { cause: 5 };
+    }
+    let p = image::read::find_server(img, c, other, interface, method);
+    let j = p.callee;
+    let k = p.service;
+    if j < n {
+        if !crate::plan::has(img, c, Table::Calls, i, j, k) {
+            return Plan::Refuse { cause: 6 };
+        }
+        if crate::plan::has(img, c, Table::Needs, i, j, k) {
+            return Plan::Refuse { cause: 6 };
+        }
+        return Plan::Accept {
+            owner: i,
+            edit: Edit::Set {
+                table: Table::Needs,
+                column: j,
+                service: k,
+            },
+        };
+    }
+    if crate::plan::unmet_mask(img, c, i, other, interface, method) == 0 {
+        return Plan::Refuse { cause: 6 };
+    }
+    Plan::Refuse { cause: 9 }
+}
+
+// What kind 10 comes to.
+fn plan_remove_need(
+    img: &[u8],
+    c: Card,
+    aid: &[u8],
+    other: &[u8],
+    interface: u8,
+    method: u8,
+) -> Plan
+    requires { ⌜ Laid (layoutOf c) (now img) ⌝ }
+    ensures { λ r. ⌜ r ≡ callPlan (layoutOf c) (decode (layoutOf c) (now (img .entry))) (removeNeedPlan (layoutOf c) (decode (layoutOf c) (now (img .entry))))
+        (now (aid .entry)) (rowWith (now (other .entry)) interface method) ⌝ }
+{
+    let n = geometry::packages(c);
+    let i = image::read::find_package(img, c, aid);
+    if i >= n {
+        return Plan::Refuse { cause: 5 };
+    }
+    let p = image::read::find_server(img, c, other, interface, method);
+    let j = p.callee;
+    let k = p.service;
+    if j < n {
+        if crate::plan::has(img, c, Table::Needs, i, j, k) {
+            return Plan::Accept {
+                owner: i,
+                edit: Edit::Clear {
+                    table: Table::Needs,
+                    column: j,
+                    service: k,
+                },
+            };
+        }
+        return Plan::Refuse { cause: 6 };
+    }
+    Plan::Refuse { cause: 6 }
+}
+
+// Kind 9: the package of `aid` needs the service of `other` with these tokens.
+pub fn add_need(
+    img: &mut [u8],
+    c: Card,
+    aid: &[u8],
+    other: &[u8],
+    interface: u8,
+    method: u8,
+) -> Verdict
+    requires { ⌜ Asked (layoutOf c) (now img) (now aid) (addNeed (rowWith (now other) interface method)) ⌝ }
+    ensures { λ r. ⌜ Gives (settled (layoutOf c) (now (img .entry)) (now (aid .entry)) (addNeed (rowWith (now (other .entry)) interface method)))
+        (r .number) (r .second) (now (img .exit)) ⌝ }
+{
+    let plan = plan_add_need(img, c, aid, other, interface, method);
+    crate::plan::perform(img, c, other, interface, method, plan)
+}
+
+// Kind 10: the package of `aid` no longer needs the service of `other` with these tokens.
+pub fn remove_need(
+    img: &mut [u8],
+    c: Card,
+    aid: &[u8],
+    other: &[u8],
+    interface: u8,
+    method: u8,
+) -> Verdict
+    requires { ⌜ Asked (layoutOf c) (now img) (now aid) (removeNeed (rowWith (now other) interface method)) ⌝ }
+    ensures { λ r. ⌜ Gives (settled (layoutOf c) (now (img .entry)) (now (aid .entry)) (removeNeed (rowWith (now (other .entry)) interface method)))
+        (r .number) (r .second) (now (img .exit)) ⌝ }
+{
+    let plan = plan_remove_need(img, c, aid, other, interface, method);
+    crate::plan::perform(img, c, other, interface, method, plan)
+}

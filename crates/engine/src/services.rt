@@ -1,0 +1,202 @@
+// Kind 3: a service with its grants. Unmet calls on it become bits; a grant waits where its caller is not installed.
+ghost use mathlib.Core.Path.{_≡_};
+ghost use mathlib.Core.Option.{none};
+ghost use Prim.Native.Nat.{_+_, _≤_, _<_};
+ghost use lib.Dec.{T, leb};
+ghost use lib.ListN.{length};
+ghost use Rattle.policy.specs.Lists.{every, exists};
+ghost use Rattle.policy.specs.Contract.{eqAid};
+ghost use Rattle.policy.specs.Record.{aid, addService};
+ghost use Rattle.policy.specs.Tables.{decode};
+ghost use Rattle.policy.specs.Lookup.{numberOf};
+ghost use Rattle.policy.specs.Sound.{sound};
+ghost use Rattle.policy.specs.Draft.{addGrantAt};
+ghost use Rattle.policy.specs.ShortCheck.{count, notInstalled, fits};
+ghost use Rattle.policy.specs.Settled.{settled, Gives};
+ghost use Rattle.geometry.specs.Geometry.{layoutOf};
+ghost use Rattle.image.specs.Laid.{Laid};
+ghost use Rattle.image.specs.Wrote.{Wrote};
+ghost use Rattle.image.specs.Read.{numberOr, tokens, unmetRow};
+ghost use Rattle.record.specs.Meaning.{AidFits, Stands, aidIn, itemsIn};
+ghost use Rattle.engine.specs.Asked.{Asked};
+ghost use Rattle.engine.specs.Services.{asks, rowGranted, addingPlan};
+use crate::Verdict;
+use geometry::Card;
+use geometry::Table;
+use record::Aid;
+use record::Items;
+
+// A refusal by its cause; or the numbers of the package and of its new service.
+pub enum Adding {
+    Refuse { cause: u8 },
+    Add { package: usize, service: usize },
+}
+
+// The number of the package with an AID of the record; the number of packages where there is none.
+fn find_caller(img: &[u8], c: Card, rec: &[u8], a: Aid) -> usize
+    requires laid { ⌜ Laid (layoutOf c) (now img) ⌝ }
+    requires fits { ⌜ AidFits (now rec) a ⌝ }
+    ensures { λ r. ⌜ r ≡ numberOr (layoutOf c .packages) (numberOf (layoutOf c) (decode (layoutOf c) (now (img .entry))) (aidIn (now (rec .entry)) a)) ⌝ }
+{
+    let at = a.at;
+    let end = at + a.len;
+    image::read::find_package(img, c, &rec[at..end])
+}
+
+// Whether no package has an AID of the record.
+fn is_new(img: &[u8], c: Card, rec: &[u8], a: Aid) -> bool
+    requires laid { ⌜ Laid (layoutOf c) (now img) ⌝ }
+    requires fits { ⌜ AidFits (now rec) a ⌝ }
+    ensures { λ r. ⌜ r ≡ notInstalled (layoutOf c) (decode (layoutOf c) (now (img .entry))) (aidIn (now (rec .entry)) a) ⌝ }
+{
+    let n = geometry::packages(c);
+    let i = find_caller(img, c, rec, a);
+    if i < n {
+        return false;
+    }
+    true
+}
+
+// Whether package n, a used one, has an AID of the record.
+fn is_caller(img: &[u8], c: Card, n: usize, rec: &[u8], a: Aid) -> bool
+    requires laid { ⌜ Laid (layoutOf c) (now img) ⌝ }
+    requires used { ⌜ (n < layoutOf c .packages) × T (decode (layoutOf c) (now img) .used n) ⌝ }
+    requires fits { ⌜ AidFits (now rec) a ⌝ }
+    ensures { λ r. ⌜ r ≡ eqAid (decode (layoutOf c) (now (img .entry)) .aid n) (aidIn (now (rec .entry)) a) ⌝ }
+{
+    let at = a.at;
+    let end = at + a.len;
+    image::read::is_package(img, c, n, &rec[at..end])
+}
+
+// Whether package n, a used one, is among the callers.
+fn is_among(img: &[u8], c: Card, n: usize, rec: &[u8], callers: Items) -> bool
+    requires laid { ⌜ Laid (layoutOf c) (now img) ⌝ }
+    requires used { ⌜ (n < layoutOf c .packages) × T (decode (layoutOf c) (now img) .used n) ⌝ }
+    requires stands { ⌜ Stands aid (now rec) callers ⌝ }
+    ensures { λ r. ⌜ r ≡ exists (eqAid (decode (layoutOf c) (now (img .entry)) .aid n)) (itemsIn aid (now (rec .entry)) callers) ⌝ }
+{
+    let mut todo = callers;
+    while 0 < todo.count {
+        let r = record::rows::take_aid(rec, todo);
+        let a = r.aid;
+        if is_caller(img, c, n, rec, a) {
+            return true;
+        }
+        todo = r.rest;
+    }
+    false
+}
+
+// Whether unmet call r, if it asks for the new service, is by one of the callers.
+fn row_granted(
+    img: &[u8],
+    c: Card,
+    r: usize,
+    own: &[u8],
+    interface: u8,
+    method: u8,
+    rec: &[u8],
+    callers: Items,
+) -> bool
+    requires is_sound { ⌜ T (sound (layoutOf c) (now img)) ⌝ }
+    requires inside { ⌜ r < length (decode (layoutOf c) (now img) .unmet) ⌝ }
+    requires stands { ⌜ Stands aid (now rec) callers ⌝ }
+    ensures { λ b. ⌜ b ≡ rowGranted (layoutOf c) (decode (layoutOf c) (now (img .entry))) (now (own .entry)) (tokens interface method)
+        (itemsIn aid (now (rec .entry)) callers) (unmetRow (decode (layoutOf c) (now (img .entry))) r) ⌝ }
+{
+    if !image::lists::asks_for(img, c, r, own, interface, method) {
+        return true;
+    }
+    let n = image::lists::unmet_caller(img, c, r);
+    is_among(img, c, n, rec, callers)
+}
+
+// Whether each unmet call on the new service is by one of the callers.
+fn all_granted(
+    img: &[u8],
+    c: Card,
+    own: &[u8],
+    interface: u8,
+    method: u8,
+    rec: &[u8],
+    callers: Items,
+) -> bool
+    requires is_sound { ⌜ T (sound (layoutOf c) (now img)) ⌝ }
+    requires stands { ⌜ Stands aid (now rec) callers ⌝ }
+    ensures { λ b. ⌜ b ≡ every (rowGranted (layoutOf c) (decode (layoutOf c) (now (img .entry))) (now (own .entry)) (tokens interface method)
+        (itemsIn aid (now (rec .entry)) callers)) (decode (layoutOf c) (now (img .entry)) .unmet) ⌝ }
+{
+    let n = image::lists::unmet_count(img, c);
+    for r in 0..n {
+        if !row_granted(img, c, r, own, interface, method, rec, callers) {
+            return false;
+        }
+    }
+    true
+}
+
+// Whether the callers that are not installed have room among the waiting grants.
+fn callers_fit(img: &[u8], c: Card, rec: &[u8], callers: Items) -> bool
+    requires laid { ⌜ Laid (layoutOf c) (now img) ⌝ }
+    requires stands { ⌜ Stands aid (now rec) callers ⌝ }
+    ensures { λ r. ⌜ r ≡ leb (length (decode (layoutOf c) (now (img .entry)) .waiting)
+        + count (notInstalled (layoutOf c) (decode (layoutOf c) (now (img .entry)))) (itemsIn aid (now (rec .entry)) callers)) (layoutOf c .capacity) ⌝ }
+{
+    let most = geometry::capacity(c);
+    let taken = image::lists::waiting_count(img, c);
+    let mut left = most - taken;
+    let mut todo = callers;
+    while 0 < todo.count {
+        let r = record::rows::take_aid(rec, todo);
+        let a = r.aid;
+        let new = is_new(img, c, rec, a) as usize;
+        if left < new {
+            return false;
+        }
+        left -= new;
+        todo = r.rest;
+    }
+    true
+}
+
+// What kind 3 comes to.
+fn plan_adding(
+    img: &[u8],
+    c: Card,
+    own: &[u8],
+    interface: u8,
+    method: u8,
+    rec: &[u8],
+    callers: Items,
+) -> Adding
+    requires is_sound { ⌜ T (sound (layoutOf c) (now img)) ⌝ }
+    requires stands { ⌜ Stands aid (now rec) callers ⌝ }
+    ensures { λ r. ⌜ r ≡ addingPlan (layoutOf c) (decode (layoutOf c) (now (img .entry))) (now (own .entry)) (tokens interface method)
+        (itemsIn aid (now (rec .entry)) callers) ⌝ }
+{
+    let n = geometry::packages(c);
+    let m = geometry::services(c);
+    let j = image::read::find_package(img, c, own);
+    if j >= n {
+        return Adding::Refuse { cause: 5 };
+    }
+    let had = image::read::find_service(img, c, j, interface, method);
+    if had < m {
+        return Adding::Refuse { cause: 6 };
+    }
+    let k = image::read::free_service(img, c, j);
+    if k >= m {
+        return Adding::Refuse { cause: 7 };
+    }
+    if !all_granted(img, c, own, interface, method, rec, callers) {
+        return Adding::Refuse { cause: 8 };
+    }
+    if !callers_fit(img, c, rec, callers) {
+        return Adding::Refuse { cause: 11 };
+    }
+    Adding::Add {
+        package: j,
+        service: k,
+    }
+}
