@@ -31,7 +31,11 @@ use Rattle.image.specs.Laid.{withUnmet, withWaiting}
 use Rattle.image.specs.Read.{maskOf}
 use Rattle.geometry.specs.declared.Table.the-variants.{Calls, Grants, Needs}
 use Rattle.engine.specs.Asked.{Asked}
-use Rattle.engine.specs.Plans.{unmetMask, waitingMask, done, callPlan, grantPlan, addCallPlan, removeCallPlan, addNeedPlan, removeNeedPlan, addGrantPlan, removeGrantPlan}
+use Rattle.engine.specs.Plans.{unmetMask, waitingMask, done, callAt, callPlan, grantAt, grantPlan, addCallPlan, removeCallPlan, addNeedPlan, removeNeedPlan, addGrantPlan, removeGrantPlan}
+use Rattle.engine.specs.declared.plan.CallSpot.the-variants as call
+use Rattle.engine.specs.declared.plan.GrantSpot.{GrantSpot}
+use Rattle.engine.specs.declared.plan.GrantSpot.the-variants as grant
+use Rattle.engine.specs.declared.plan.GrantSpot.the-variants.{Unprovided}
 use Rattle.engine.specs.declared.plan.Plan.{Plan}
 use Rattle.engine.specs.declared.plan.Plan.the-variants.{Refuse, Accept}
 use Rattle.engine.specs.declared.plan.Edit.the-variants.{Set, Clear, Uncall, AddUnmet, DropUnmet, AddWaiting, DropWaiting}
@@ -94,18 +98,19 @@ module _ (L : Layout) (img : List ℕ) (a : Aid) (r : Row) where
         go (suc m) n e f = settled-refused L img a c m e
 
     -- by the number of the package: cause 6, the short check, the draft and the plan
-    at-number : (six : Option ℕ → Bool) (k : Option ℕ → Look) (d : Option ℕ → Draft) (p : ℕ → Plan)
-        → tableCauses L t a c ≡ (5 when absent L t a ∷ 6 when six (numberOf L t a) ∷ []) → shortLook L t a c ≡ k (numberOf L t a) → draft L t a c ≡ d (numberOf L t a)
-        → ((i : ℕ) → outcome i (six (some i)) (k (some i)) (d (some i)) ≡ done L img r (p i))
-        → settled L img a c ≡ done L img r (orElse (numberOf L t a) (Refuse 5) p)
+    at-number : (six : Option ℕ → Bool) (k : Option ℕ → Look) (d : Option ℕ → Draft) (p : Option ℕ → Plan)
+        → tableCauses L t a c ≡ (5 when absent L t a ∷ 6 when six (numberOf L t a) ∷ []) → shortLook L t a c ≡ k (numberOf L t a)
+        → draft L t a c ≡ d (numberOf L t a) → p none ≡ Refuse 5
+        → ((i : ℕ) → outcome i (six (some i)) (k (some i)) (d (some i)) ≡ done L img r (p (some i)))
+        → settled L img a c ≡ done L img r (p (numberOf L t a))
     unfolding numberFor
-    at-number six k d p e f g h =
+    at-number six k d p e f g five h =
         settled-by ∙ (λ z. judged L img (numberFor L t a) (g z .tables) (firstOf (answer (e z)) (answer (lookCauses L (f z))))) ∙ go (numberOf L t a)
       where
         go : (o : Option ℕ)
             → judged L img (orElse o (orElse (freeNumber L t) 255 (λ n. n)) (λ n. n)) (d o .tables)
-            (firstOf (answer (5 when not (isSome o) ∷ 6 when six o ∷ [])) (answer (lookCauses L (k o)))) ≡ done L img r (orElse o (Refuse 5) p)
-        go none = refl
+            (firstOf (answer (5 when not (isSome o) ∷ 6 when six o ∷ [])) (answer (lookCauses L (k o)))) ≡ done L img r (p o)
+        go none = ap (done L img r) (sym five)
         go (some i) = h i
 
   -- ---- the rows of the lists
@@ -135,7 +140,7 @@ module _ (L : Layout) (img : List ℕ) (a : Aid) (r : Row) where
   grantedAt j s o = orElse s false (λ k. orElse o (hasWaiting (asked j k) (t .waiting)) (λ i. t .grants j i k))
 
   -- ---- kind 5
-  add-call-at : (i : ℕ) (o : Option Place) → outcome i (calledAt i o) (shortAddCall L t i o) (addCallAt L t i r o) ≡ done L img r (addCallPlan L t i r o)
+  add-call-at : (i : ℕ) (o : Option Place) → outcome i (calledAt i o) (shortAddCall L t i o) (addCallAt L t i r o) ≡ done L img r (addCallPlan L t r (callAt L t a r i o))
   add-call-at i none =
       go (hasUnmet (callRow i r) (t .unmet)) (ltb (length (t .unmet)) (L .capacity))
       ∙ ap (λ (z : Bool). done L img r (cond z (cond (ltb (length (t .unmet)) (L .capacity)) (Accept i AddUnmet) (Refuse 10)) (Refuse 6))) (sym (unmet-none i))
@@ -154,7 +159,7 @@ module _ (L : Layout) (img : List ℕ) (a : Aid) (r : Row) where
       go false false = refl
 
   -- ---- kind 6
-  remove-call-at : (i : ℕ) (o : Option Place) → outcome i (not (calledAt i o)) fine (removeCallAt L t i r o) ≡ done L img r (removeCallPlan L t i r o)
+  remove-call-at : (i : ℕ) (o : Option Place) → outcome i (not (calledAt i o)) fine (removeCallAt L t i r o) ≡ done L img r (removeCallPlan L t r (callAt L t a r i o))
   remove-call-at i none =
       go (hasUnmet (callRow i r) (t .unmet)) ∙ ap (λ (z : Bool). done L img r (cond z (Refuse 6) (Accept i (DropUnmet (unmetMask t i r))))) (sym (unmet-none i))
     where
@@ -168,7 +173,7 @@ module _ (L : Layout) (img : List ℕ) (a : Aid) (r : Row) where
       go false = refl
 
   -- ---- kind 9
-  add-need-at : (i : ℕ) (o : Option Place) → outcome i (not (calledAt i o) || neededAt i o) (shortAddNeed L t o) (addNeedAt L t i r o) ≡ done L img r (addNeedPlan L t i r o)
+  add-need-at : (i : ℕ) (o : Option Place) → outcome i (not (calledAt i o) || neededAt i o) (shortAddNeed L t o) (addNeedAt L t i r o) ≡ done L img r (addNeedPlan L t r (callAt L t a r i o))
   add-need-at i none = go (hasUnmet (callRow i r) (t .unmet)) ∙ ap (λ (z : Bool). done L img r (cond z (Refuse 6) (Refuse 9))) (sym (unmet-none i))
     where
       go : (b : Bool) → outcome i (not b || false) (shortAddNeed L t none) (addNeedAt L t i r none) ≡ done L img r (cond (not b) (Refuse 6) (Refuse 9))
@@ -183,7 +188,7 @@ module _ (L : Layout) (img : List ℕ) (a : Aid) (r : Row) where
       go false n = refl
 
   -- ---- kind 10
-  remove-need-at : (i : ℕ) (o : Option Place) → outcome i (not (neededAt i o)) fine (removeNeedAt L t i r o) ≡ done L img r (removeNeedPlan L t i r o)
+  remove-need-at : (i : ℕ) (o : Option Place) → outcome i (not (neededAt i o)) fine (removeNeedAt L t i r o) ≡ done L img r (removeNeedPlan L t r (callAt L t a r i o))
   remove-need-at i none = refl
   remove-need-at i (some p) = go (t .needs i (p .callee) (p .service))
     where
@@ -192,11 +197,11 @@ module _ (L : Layout) (img : List ℕ) (a : Aid) (r : Row) where
       go false = refl
 
   -- ---- kind 7: s is the service's number, and o the caller's
-  abbrev atGrant : ℕ → (ℕ → ℕ → Aid → Option ℕ → Plan) → Option ℕ → Option ℕ → Out
-  atGrant j f s o = done L img r (orElse s (Refuse 6) (λ k. f j k (r .aid) o))
+  abbrev grantOf : ℕ → Option ℕ → Option ℕ → GrantSpot
+  grantOf j s o = orElse s Unprovided (λ k. grantAt L t a r j k o)
 
   add-grant-at : (j : ℕ) (s o : Option ℕ)
-      → outcome j (not (isSome s) || grantedAt j s o) (shortAddGrant L t o) (orElse s (kept t) (λ k. addGrantAt L t j (r .aid) k o)) ≡ atGrant j (addGrantPlan L t) s o
+      → outcome j (not (isSome s) || grantedAt j s o) (shortAddGrant L t o) (orElse s (kept t) (λ k. addGrantAt L t j (r .aid) k o)) ≡ done L img r (addGrantPlan L t r (grantOf j s o))
   add-grant-at j none o = refl
   add-grant-at j (some k) none =
       go (hasWaiting (asked j k) (t .waiting)) (ltb (length (t .waiting)) (L .capacity))
@@ -215,7 +220,8 @@ module _ (L : Layout) (img : List ℕ) (a : Aid) (r : Row) where
 
   -- ---- kind 8
   remove-grant-at : (j : ℕ) (s o : Option ℕ)
-      → outcome j (not (grantedAt j s o)) (orElse s fine (λ k. shortRemoveGrant L t j k o)) (orElse s (kept t) (λ k. removeGrantAt L t j (r .aid) k o)) ≡ atGrant j (removeGrantPlan L t) s o
+      → outcome j (not (grantedAt j s o)) (orElse s fine (λ k. shortRemoveGrant L t j k o)) (orElse s (kept t) (λ k. removeGrantAt L t j (r .aid) k o))
+      ≡ done L img r (removeGrantPlan L t r (grantOf j s o))
   remove-grant-at j none o = refl
   remove-grant-at j (some k) none =
       go (hasWaiting (asked j k) (t .waiting)) ∙ ap (λ (z : Bool). done L img r (cond z (Refuse 6) (Accept j (DropWaiting (waitingMask t j k (r .aid)))))) (sym (waiting-none j k))
@@ -245,53 +251,54 @@ module _ (L : Layout) (img : List ℕ) (a : Aid) (r : Row) where
     granted : (j : ℕ) → hasRow r (contractAt L t j .grants) ≡ grantedAt j (serviceOf L t j (r .tok)) (numberOf L t (r .aid))
     granted j = has-grant-is L t (sound-formed L img ok) j r
 
-  pub add-call-planned : Asked L img a (addCall r) → settled L img a (addCall r) ≡ done L img r (callPlan L t (addCallPlan L t) a r)
+  pub add-call-planned : Asked L img a (addCall r) → settled L img a (addCall r) ≡ done L img r (callPlan L t (addCallPlan L t r) a r)
   unfolding draft shortLook
   add-call-planned ask =
       at-number (addCall r) ask (λ o. orElse o false (λ i. hasRow r (contractAt L t i .calls))) (λ o. orElse o fine (λ i. shortAddCall L t i (serverOf L t r)))
-      (λ o. orElse o (kept t) (λ i. addCallAt L t i r (serverOf L t r))) (λ i. addCallPlan L t i r (serverOf L t r)) refl refl refl
+      (λ o. orElse o (kept t) (λ i. addCallAt L t i r (serverOf L t r))) (λ o. addCallPlan L t r (orElse o call.Absent (λ i. callAt L t a r i (serverOf L t r)))) refl refl refl refl
       (λ i. ap (λ (b : Bool). outcome i b (shortAddCall L t i (serverOf L t r)) (addCallAt L t i r (serverOf L t r))) (called (ask .is-sound) i) ∙ add-call-at i (serverOf L t r))
 
-  pub remove-call-planned : Asked L img a (removeCall r) → settled L img a (removeCall r) ≡ done L img r (callPlan L t (removeCallPlan L t) a r)
+  pub remove-call-planned : Asked L img a (removeCall r) → settled L img a (removeCall r) ≡ done L img r (callPlan L t (removeCallPlan L t r) a r)
   unfolding draft shortLook
   remove-call-planned ask =
       at-number (removeCall r) ask (λ o. not (orElse o false (λ i. hasRow r (contractAt L t i .calls)))) (λ o. fine)
-      (λ o. orElse o (kept t) (λ i. removeCallAt L t i r (serverOf L t r))) (λ i. removeCallPlan L t i r (serverOf L t r)) refl refl refl
+      (λ o. orElse o (kept t) (λ i. removeCallAt L t i r (serverOf L t r))) (λ o. removeCallPlan L t r (orElse o call.Absent (λ i. callAt L t a r i (serverOf L t r)))) refl refl refl refl
       (λ i. ap (λ (b : Bool). outcome i (not b) fine (removeCallAt L t i r (serverOf L t r))) (called (ask .is-sound) i) ∙ remove-call-at i (serverOf L t r))
 
-  pub add-grant-planned : Asked L img a (addGrant r) → settled L img a (addGrant r) ≡ done L img r (grantPlan L t (addGrantPlan L t) a r)
+  pub add-grant-planned : Asked L img a (addGrant r) → settled L img a (addGrant r) ≡ done L img r (grantPlan L t (addGrantPlan L t r) a r)
   unfolding draft shortLook
   add-grant-planned ask =
       at-number (addGrant r) ask (λ o. not (orElse o false (λ j. hasTok (r .tok) (contractAt L t j .provides))) || orElse o false (λ j. hasRow r (contractAt L t j .grants)))
       (λ o. shortAddGrant L t (numberOf L t (r .aid)))
       (λ o. orElse o (kept t) (λ j. orElse (serviceOf L t j (r .tok)) (kept t) (λ k. addGrantAt L t j (r .aid) k (numberOf L t (r .aid)))))
-      (λ j. orElse (serviceOf L t j (r .tok)) (Refuse 6) (λ k. addGrantPlan L t j k (r .aid) (numberOf L t (r .aid)))) refl refl refl
+      (λ o. addGrantPlan L t r (orElse o grant.Absent (λ j. grantOf j (serviceOf L t j (r .tok)) (numberOf L t (r .aid))))) refl refl refl refl
       (λ j. (λ z. outcome j (not (provided (ask .is-sound) j z) || granted (ask .is-sound) j z) (shortAddGrant L t (numberOf L t (r .aid)))
       (orElse (serviceOf L t j (r .tok)) (kept t) (λ k. addGrantAt L t j (r .aid) k (numberOf L t (r .aid)))))
       ∙ add-grant-at j (serviceOf L t j (r .tok)) (numberOf L t (r .aid)))
 
-  pub remove-grant-planned : Asked L img a (removeGrant r) → settled L img a (removeGrant r) ≡ done L img r (grantPlan L t (removeGrantPlan L t) a r)
+  pub remove-grant-planned : Asked L img a (removeGrant r) → settled L img a (removeGrant r) ≡ done L img r (grantPlan L t (removeGrantPlan L t r) a r)
   unfolding draft shortLook
   remove-grant-planned ask =
       at-number (removeGrant r) ask (λ o. not (orElse o false (λ j. hasRow r (contractAt L t j .grants))))
       (λ o. orElse o fine (λ j. orElse (serviceOf L t j (r .tok)) fine (λ k. shortRemoveGrant L t j k (numberOf L t (r .aid)))))
       (λ o. orElse o (kept t) (λ j. orElse (serviceOf L t j (r .tok)) (kept t) (λ k. removeGrantAt L t j (r .aid) k (numberOf L t (r .aid)))))
-      (λ j. orElse (serviceOf L t j (r .tok)) (Refuse 6) (λ k. removeGrantPlan L t j k (r .aid) (numberOf L t (r .aid)))) refl refl refl
+      (λ o. removeGrantPlan L t r (orElse o grant.Absent (λ j. grantOf j (serviceOf L t j (r .tok)) (numberOf L t (r .aid))))) refl refl refl refl
       (λ j. ap (λ (b : Bool). outcome j (not b) (orElse (serviceOf L t j (r .tok)) fine (λ k. shortRemoveGrant L t j k (numberOf L t (r .aid))))
       (orElse (serviceOf L t j (r .tok)) (kept t) (λ k. removeGrantAt L t j (r .aid) k (numberOf L t (r .aid))))) (granted (ask .is-sound) j)
       ∙ remove-grant-at j (serviceOf L t j (r .tok)) (numberOf L t (r .aid)))
 
-  pub add-need-planned : Asked L img a (addNeed r) → settled L img a (addNeed r) ≡ done L img r (callPlan L t (addNeedPlan L t) a r)
+  pub add-need-planned : Asked L img a (addNeed r) → settled L img a (addNeed r) ≡ done L img r (callPlan L t (addNeedPlan L t r) a r)
   unfolding draft shortLook
   add-need-planned ask =
       at-number (addNeed r) ask (λ o. not (orElse o false (λ i. hasRow r (contractAt L t i .calls))) || orElse o false (λ i. hasRow r (contractAt L t i .needs)))
-      (λ o. shortAddNeed L t (serverOf L t r)) (λ o. orElse o (kept t) (λ i. addNeedAt L t i r (serverOf L t r))) (λ i. addNeedPlan L t i r (serverOf L t r)) refl refl refl
+      (λ o. shortAddNeed L t (serverOf L t r)) (λ o. orElse o (kept t) (λ i. addNeedAt L t i r (serverOf L t r)))
+      (λ o. addNeedPlan L t r (orElse o call.Absent (λ i. callAt L t a r i (serverOf L t r)))) refl refl refl refl
       (λ i. (λ z. outcome i (not (called (ask .is-sound) i z) || needed (ask .is-sound) i z) (shortAddNeed L t (serverOf L t r)) (addNeedAt L t i r (serverOf L t r)))
       ∙ add-need-at i (serverOf L t r))
 
-  pub remove-need-planned : Asked L img a (removeNeed r) → settled L img a (removeNeed r) ≡ done L img r (callPlan L t (removeNeedPlan L t) a r)
+  pub remove-need-planned : Asked L img a (removeNeed r) → settled L img a (removeNeed r) ≡ done L img r (callPlan L t (removeNeedPlan L t r) a r)
   unfolding draft shortLook
   remove-need-planned ask =
       at-number (removeNeed r) ask (λ o. not (orElse o false (λ i. hasRow r (contractAt L t i .needs)))) (λ o. fine)
-      (λ o. orElse o (kept t) (λ i. removeNeedAt L t i r (serverOf L t r))) (λ i. removeNeedPlan L t i r (serverOf L t r)) refl refl refl
+      (λ o. orElse o (kept t) (λ i. removeNeedAt L t i r (serverOf L t r))) (λ o. removeNeedPlan L t r (orElse o call.Absent (λ i. callAt L t a r i (serverOf L t r)))) refl refl refl refl
       (λ i. ap (λ (b : Bool). outcome i (not b) fine (removeNeedAt L t i r (serverOf L t r))) (needed (ask .is-sound) i) ∙ remove-need-at i (serverOf L t r))

@@ -1,7 +1,7 @@
--- What code has found of a record of kinds 5 to 10, as its plan: `search plans`. Assumes nothing.
+-- What code has found of a record of kinds 5 to 10: where its row stands, `search spots`, and its plan, `search plans`. Assumes nothing.
 use Prim.Native.Nat.{ℕ, _≤_, _<_}
 use native.Mathlib.Omega.{arith}
-use mathlib.Core.Path.{_≡_, refl, sym, ap, ap₂, _∙_}
+use mathlib.Core.Path.{_≡_, refl, sym, ap, ap₂, _∙_, subst}
 use mathlib.Core.Bool.{Bool, true, false, not, _&&_, cond}
 use mathlib.Core.Option.{Option, none, some}
 use lib.Dec.{eqb, ltb}
@@ -17,10 +17,16 @@ use Rattle.image.specs.declared.read.Place.{Place}
 use Rattle.image.specs.Read.{numberOr, placeOr, maskOf}
 use Rattle.image.proofs.Numbers.{package-none, package-some, service-none, service-some, server-none, server-some}
 use Rattle.image.proofs.Masks.{mask-and}
-use Rattle.engine.specs.Plans.{BitAt, unmetMask, waitingMask, callPlan, grantPlan}
+use Rattle.engine.specs.Plans.{BitAt, CallIn, GrantIn, CallFound, GrantFound, unmetMask, waitingMask, callAt, callSpot, grantAt, grantSpot, callPlan, grantPlan}
+use Rattle.engine.specs.declared.plan.CallSpot.{CallSpot}
+use Rattle.engine.specs.declared.plan.CallSpot.the-variants.{Unserved, Served}
+use Rattle.engine.specs.declared.plan.CallSpot.the-variants as call
+use Rattle.engine.specs.declared.plan.GrantSpot.{GrantSpot}
+use Rattle.engine.specs.declared.plan.GrantSpot.the-variants.{Unprovided, Away, Installed}
+use Rattle.engine.specs.declared.plan.GrantSpot.the-variants as grant
 use Rattle.engine.specs.declared.plan.Edit.the-variants.{DropUnmet, DropWaiting}
 use Rattle.engine.specs.declared.plan.Plan.{Plan}
-use Rattle.engine.specs.declared.plan.Plan.the-variants.{Refuse, Accept}
+use Rattle.engine.specs.declared.plan.Plan.the-variants.{Accept}
 
 -- ---- a test that came out so: z is what stands there
 module _ {A : Type 0} (x y z : A) where
@@ -64,56 +70,76 @@ unmet-dropped i m k e = ap (λ (z : ℕ). Accept i (DropUnmet z)) e
 pub waiting-dropped : (j m k : ℕ) → m ≡ k → Accept j (DropWaiting m) ≡ Accept j (DropWaiting k)
 waiting-dropped j m k e = ap (λ (z : ℕ). Accept j (DropWaiting z)) e
 
--- ---- a row of package i
+-- ---- where a call or need stands: i is the number of its package, p the place of its service
 module _ (L : Layout) (t : Tables) (a : Aid) (r : Row) (n i : ℕ) (en : n ≡ L .packages) (ei : i ≡ numberOr (L .packages) (numberOf L t a)) where
-  pub no-owner : (f : ℕ → Row → Option Found → Plan) → n ≤ i → Refuse 5 ≡ callPlan L t f a r
-  no-owner f h = sym (ap (λ (o : Option ℕ). orElse o (Refuse 5) (λ i. f i r (serverOf L t r))) (package-none L t a i ei (omega arith)))
+  by-caller : (o : Option ℕ) → numberOf L t a ≡ o → orElse o call.Absent (λ i. callAt L t a r i (serverOf L t r)) ≡ callSpot L t a r
+  by-caller o e = sym (ap (λ (o : Option ℕ). orElse o call.Absent (λ i. callAt L t a r i (serverOf L t r))) e)
+
+  pub no-caller : n ≤ i → CallFound L t a r call.Absent
+  no-caller h = record { spot = by-caller none (package-none L t a i ei (omega arith)); inside = tt }
 
   module _ (h : i < n) (p : Place) (ep : p ≡ placeOr L (serverOf L t r)) where
-    at-owner : (f : ℕ → Row → Option Found → Plan) (o : Option Found) → serverOf L t r ≡ o → {x : Plan} → x ≡ f i r o → x ≡ callPlan L t f a r
-    at-owner f o e q =
-        q ∙ ap (f i r) (sym e) ∙ sym (ap (λ (o : Option ℕ). orElse o (Refuse 5) (λ i. f i r (serverOf L t r))) (package-some L t a i ei (omega arith)))
+    by-server : (o : Option Found) → serverOf L t r ≡ o → callAt L t a r i o ≡ callSpot L t a r
+    by-server o e = ap (callAt L t a r i) (sym e) ∙ by-caller (some i) (package-some L t a i ei (omega arith))
 
-    pub unserved : (f : ℕ → Row → Option Found → Plan) → n ≤ p .callee → {x : Plan} → x ≡ f i r none → x ≡ callPlan L t f a r
-    unserved f l = at-owner f none (server-none L t r p ep (omega arith))
+    pub unserved : n ≤ p .callee → CallFound L t a r (Unserved i)
+    unserved l = record { spot = by-server none (server-none L t r p ep (omega arith)); inside = omega arith }
 
-    pub served : (f : ℕ → Row → Option Found → Plan) → p .callee < n → {x : Plan} → x ≡ f i r (some (record { callee = p .callee; service = p .service })) → x ≡ callPlan L t f a r
-    served f l = at-owner f (some (record { callee = p .callee; service = p .service })) (server-some L t r p ep (omega arith) .0)
+    pub served : p .callee < n → CallFound L t a r (Served i (p .callee) (p .service))
+    served l =
+        let q = server-some L t r p ep (omega arith) in
+        record { spot = by-server (some (record { callee = p .callee; service = p .service })) (q .0); inside = (omega arith, omega arith, q .1) }
 
-    -- its place in the tables, by caller and by callee
-    pub calls-in : p .callee < n → BitAt L i (p .callee) (p .service)
-    calls-in l = (omega arith, omega arith, server-some L t r p ep (omega arith) .1)
-
-    pub grants-in : p .callee < n → BitAt L (p .callee) i (p .service)
-    grants-in l = (omega arith, omega arith, server-some L t r p ep (omega arith) .1)
-
--- ---- a grant of service k of package j to the caller with number i
+-- ---- where a grant stands: j is the number of its package, k that of its service, i that of its caller
 module _ (L : Layout) (t : Tables) (a : Aid) (r : Row) (n j : ℕ) (en : n ≡ L .packages) (ej : j ≡ numberOr (L .packages) (numberOf L t a)) where
-  abbrev withService : (ℕ → ℕ → Aid → Option ℕ → Plan) → ℕ → Option ℕ → Plan
-  withService f j s = orElse s (Refuse 6) (λ k. f j k (r .aid) (numberOf L t (r .aid)))
+  abbrev withService : ℕ → Option ℕ → GrantSpot
+  withService j s = orElse s Unprovided (λ k. grantAt L t a r j k (numberOf L t (r .aid)))
 
-  by-owner : (f : ℕ → ℕ → Aid → Option ℕ → Plan) (o : Option ℕ) → numberOf L t a ≡ o → orElse o (Refuse 5) (λ j. withService f j (serviceOf L t j (r .tok))) ≡ grantPlan L t f a r
-  by-owner f o e = sym (ap (λ (o : Option ℕ). orElse o (Refuse 5) (λ j. withService f j (serviceOf L t j (r .tok)))) e)
+  by-callee : (o : Option ℕ) → numberOf L t a ≡ o → orElse o grant.Absent (λ j. withService j (serviceOf L t j (r .tok))) ≡ grantSpot L t a r
+  by-callee o e = sym (ap (λ (o : Option ℕ). orElse o grant.Absent (λ j. withService j (serviceOf L t j (r .tok)))) e)
 
-  pub no-granter : (f : ℕ → ℕ → Aid → Option ℕ → Plan) → n ≤ j → Refuse 5 ≡ grantPlan L t f a r
-  no-granter f h = by-owner f none (package-none L t a j ej (omega arith))
+  pub no-callee : n ≤ j → GrantFound L t a r grant.Absent
+  no-callee h = record { spot = by-callee none (package-none L t a j ej (omega arith)); inside = tt }
 
   module _ (h : j < n) (m k : ℕ) (em : m ≡ L .services) (ek : k ≡ numberOr (L .services) (serviceOf L t j (r .tok))) where
-    by-service : (f : ℕ → ℕ → Aid → Option ℕ → Plan) (s : Option ℕ) → serviceOf L t j (r .tok) ≡ s → withService f j s ≡ grantPlan L t f a r
-    by-service f s e = ap (withService f j) (sym e) ∙ by-owner f (some j) (package-some L t a j ej (omega arith))
+    by-service : (s : Option ℕ) → serviceOf L t j (r .tok) ≡ s → withService j s ≡ grantSpot L t a r
+    by-service s e = ap (withService j) (sym e) ∙ by-callee (some j) (package-some L t a j ej (omega arith))
 
-    pub no-service : (f : ℕ → ℕ → Aid → Option ℕ → Plan) → m ≤ k → Refuse 6 ≡ grantPlan L t f a r
-    no-service f l = by-service f none (service-none L t j (r .tok) k ek (omega arith))
+    pub no-service : m ≤ k → GrantFound L t a r Unprovided
+    no-service l = record { spot = by-service none (service-none L t j (r .tok) k ek (omega arith)); inside = tt }
 
     module _ (l : k < m) (i : ℕ) (ei : i ≡ numberOr (L .packages) (numberOf L t (r .aid))) where
-      by-caller : (f : ℕ → ℕ → Aid → Option ℕ → Plan) (o : Option ℕ) → numberOf L t (r .aid) ≡ o → (x : Plan) → x ≡ f j k (r .aid) o → x ≡ grantPlan L t f a r
-      by-caller f o e x q = q ∙ ap (f j k (r .aid)) (sym e) ∙ by-service f (some k) (service-some L t j (r .tok) k ek (omega arith))
+      by-number : (o : Option ℕ) → numberOf L t (r .aid) ≡ o → grantAt L t a r j k o ≡ grantSpot L t a r
+      by-number o e = ap (grantAt L t a r j k) (sym e) ∙ by-service (some k) (service-some L t j (r .tok) k ek (omega arith))
 
-      pub away : (f : ℕ → ℕ → Aid → Option ℕ → Plan) → n ≤ i → (x : Plan) → x ≡ f j k (r .aid) none → x ≡ grantPlan L t f a r
-      away f g = by-caller f none (package-none L t (r .aid) i ei (omega arith))
+      pub away : n ≤ i → GrantFound L t a r (Away j k)
+      away g = record { spot = by-number none (package-none L t (r .aid) i ei (omega arith)); inside = (omega arith, omega arith) }
 
-      pub installed : (f : ℕ → ℕ → Aid → Option ℕ → Plan) → i < n → (x : Plan) → x ≡ f j k (r .aid) (some i) → x ≡ grantPlan L t f a r
-      installed f g = by-caller f (some i) (package-some L t (r .aid) i ei (omega arith))
+      pub installed : i < n → GrantFound L t a r (Installed j i k)
+      installed g = record { spot = by-number (some i) (package-some L t (r .aid) i ei (omega arith)); inside = (omega arith, omega arith, omega arith) }
+
+-- ---- a spot that was found, s, is s′
+module _ (L : Layout) (t : Tables) (a : Aid) (r : Row) (s : CallSpot) (h : CallFound L t a r s) where
+  pub at-call : (f : CallSpot → Plan) (s′ : CallSpot) → s ≡ s′ → (x : Plan) → x ≡ f s′ → x ≡ callPlan L t f a r
+  at-call f s′ e x q = q ∙ ap f (sym e ∙ h .spot)
+
+  pub call-in : (i j k : ℕ) → s ≡ Served i j k → BitAt L i j k
+  call-in i j k e = subst (CallIn L) e (h .inside)
+
+  pub call-granted : (i j k : ℕ) → s ≡ Served i j k → BitAt L j i k
+  call-granted i j k e = let b = call-in i j k e in (b .1, b .0, b .2)
+
+module _ (L : Layout) (t : Tables) (a : Aid) (r : Row) (s : GrantSpot) (h : GrantFound L t a r s) where
+  pub at-grant : (f : GrantSpot → Plan) (s′ : GrantSpot) → s ≡ s′ → (x : Plan) → x ≡ f s′ → x ≡ grantPlan L t f a r
+  at-grant f s′ e x q = q ∙ ap f (sym e ∙ h .spot)
+
+  pub grant-in : (j i k : ℕ) → s ≡ Installed j i k → BitAt L j i k
+  grant-in j i k e = subst (GrantIn L) e (h .inside)
+
+  pub grant-called : (j i k : ℕ) → s ≡ Installed j i k → BitAt L i j k
+  grant-called j i k e = let b = grant-in j i k e in (b .1, b .0, b .2)
+
+pub ruleset spots = (no-caller, unserved, served, no-callee, no-service, away, installed, unmet-marked, waiting-marked, needs)
 
 pub ruleset plans = (
   when-true,
@@ -124,18 +150,13 @@ pub ruleset plans = (
   when-zero,
   when-room,
   when-full,
-  unmet-marked,
-  waiting-marked,
   unmet-dropped,
   waiting-dropped,
-  no-owner,
-  unserved,
-  served,
-  calls-in,
-  grants-in,
-  no-granter,
-  no-service,
-  away,
-  installed,
+  at-call,
+  call-in,
+  call-granted,
+  at-grant,
+  grant-in,
+  grant-called,
   needs,
 )

@@ -1,8 +1,7 @@
 -- What the code of a kind is asked: a proper record that was read, on a sound image.
 use Prim.Native.Nat.{ℕ}
-use mathlib.Core.Bool.{cond}
 use mathlib.Core.List.{List}
-use lib.Dec.{T, eqb}
+use lib.Dec.{T}
 use Rattle.policy.specs.Contract.{Aid, Row, validAid}
 use Rattle.policy.specs.Layout.{Layout}
 use Rattle.policy.specs.Record.{Change, proper}
@@ -18,7 +17,3 @@ pub record Asked (L : Layout) (img : List ℕ) (a : Aid) (c : Change) : Type 0 w
 -- a row of AID a with the tokens x and y
 abbrev pub rowWith : Aid → ℕ → ℕ → Row
 rowWith a x y = record { aid = a; tok = record { itf = x; mth = y } }
-
--- the second number of an answer: the package number on acceptance, else 255
-abbrev pub secondOf : ℕ → ℕ → ℕ
-secondOf number n = cond (eqb number 0) n 255

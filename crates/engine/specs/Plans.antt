@@ -1,5 +1,6 @@
--- Kinds 5 to 10 by what is found in the tables: a plan, and the outcome that it comes to.
+-- Kinds 5 to 10 by what is found in the tables: where the record's row stands, a plan, and the outcome that it comes to.
 use Prim.Native.Nat.{ℕ, _≤_, _<_}
+use mathlib.Core.Path.{_≡_}
 use mathlib.Core.Bool.{Bool, true, false, _&&_, cond}
 use mathlib.Core.List.{List, [], _∷_, _++_}
 use mathlib.Core.Option.{Option, none, some}
@@ -18,6 +19,12 @@ use Rattle.geometry.specs.declared.Table.{Table}
 use Rattle.geometry.specs.declared.Table.the-variants.{Calls, Grants, Needs}
 use Rattle.image.specs.Laid.{tableOf, withTable, withUnmet, withWaiting}
 use Rattle.image.specs.Read.{maskOf}
+use Rattle.engine.specs.declared.plan.CallSpot.{CallSpot}
+use Rattle.engine.specs.declared.plan.CallSpot.the-variants.{Unserved, Served}
+use Rattle.engine.specs.declared.plan.CallSpot.the-variants as call
+use Rattle.engine.specs.declared.plan.GrantSpot.{GrantSpot}
+use Rattle.engine.specs.declared.plan.GrantSpot.the-variants.{Unprovided, Away, Installed}
+use Rattle.engine.specs.declared.plan.GrantSpot.the-variants as grant
 use Rattle.engine.specs.declared.plan.Plan.{Plan}
 use Rattle.engine.specs.declared.plan.Plan.the-variants.{Refuse, Accept}
 use Rattle.engine.specs.declared.plan.Edit.{Edit}
@@ -36,41 +43,88 @@ module _ (t : Tables) where
   abbrev pub withBit : Table → ℕ → ℕ → ℕ → Bool → Tables
   withBit tb x y z v = withTable tb (put3 x y z v (tableOf tb t)) t
 
-module _ (L : Layout) (t : Tables) where
-  -- ---- kinds 5, 6, 9 and 10: a row r of package i, by where its service stands
-  abbrev pub addCallPlan : ℕ → Row → Option Place → Plan
-  addCallPlan i r none = cond (eqb (unmetMask t i r) 0) (cond (ltb (length (t .unmet)) (L .capacity)) (Accept i AddUnmet) (Refuse 10)) (Refuse 6)
-  addCallPlan i r (some p) =
-      cond (t .calls i (p .callee) (p .service)) (Refuse 6) (cond (t .grants (p .callee) i (p .service)) (Accept i (Set Calls (p .callee) (p .service))) (Refuse 8))
+-- ---- where the row of a record with first AID a stands
+module _ (L : Layout) (t : Tables) (a : Aid) (r : Row) where
+  -- a call or need: by the number of its package, and the place of its service
+  abbrev pub callAt : ℕ → Option Place → CallSpot
+  callAt i none = Unserved i
+  callAt i (some p) = Served i (p .callee) (p .service)
 
-  abbrev pub removeCallPlan : ℕ → Row → Option Place → Plan
-  removeCallPlan i r none = cond (eqb (unmetMask t i r) 0) (Refuse 6) (Accept i (DropUnmet (unmetMask t i r)))
-  removeCallPlan i r (some p) = cond (t .calls i (p .callee) (p .service)) (Accept i (Uncall (p .callee) (p .service))) (Refuse 6)
+  abbrev pub callSpot : CallSpot
+  callSpot = orElse (numberOf L t a) call.Absent (λ i. callAt i (serverOf L t r))
 
-  abbrev pub addNeedPlan : ℕ → Row → Option Place → Plan
-  addNeedPlan i r none = cond (eqb (unmetMask t i r) 0) (Refuse 6) (Refuse 9)
-  addNeedPlan i r (some p) =
-      cond (t .calls i (p .callee) (p .service)) (cond (t .needs i (p .callee) (p .service)) (Refuse 6) (Accept i (Set Needs (p .callee) (p .service)))) (Refuse 6)
+  -- a grant: by the number of its package, that of its service, and that of its caller
+  abbrev pub grantAt : ℕ → ℕ → Option ℕ → GrantSpot
+  grantAt j k none = Away j k
+  grantAt j k (some i) = Installed j i k
 
-  abbrev pub removeNeedPlan : ℕ → Row → Option Place → Plan
-  removeNeedPlan i r none = Refuse 6
-  removeNeedPlan i r (some p) = cond (t .needs i (p .callee) (p .service)) (Accept i (Clear Needs (p .callee) (p .service))) (Refuse 6)
+  abbrev pub grantSpot : GrantSpot
+  grantSpot = orElse (numberOf L t a) grant.Absent (λ j. orElse (serviceOf L t j (r .tok)) Unprovided (λ k. grantAt j k (numberOf L t (r .aid))))
 
-  -- ---- kinds 7 and 8: a grant of service k of package j to the AID a, by a's number
-  abbrev pub addGrantPlan : ℕ → ℕ → Aid → Option ℕ → Plan
-  addGrantPlan j k a none = cond (eqb (waitingMask t j k a) 0) (cond (ltb (length (t .waiting)) (L .capacity)) (Accept j (AddWaiting k)) (Refuse 11)) (Refuse 6)
-  addGrantPlan j k a (some i) = cond (t .grants j i k) (Refuse 6) (Accept j (Set Grants i k))
+-- bit z of entry x, y is there
+abbrev pub BitAt : Layout → ℕ → ℕ → ℕ → Type 0
+BitAt L x y z = (x < L .packages) × (y < L .packages) × (z < L .services)
 
-  abbrev pub removeGrantPlan : ℕ → ℕ → Aid → Option ℕ → Plan
-  removeGrantPlan j k a none = cond (eqb (waitingMask t j k a) 0) (Refuse 6) (Accept j (DropWaiting (waitingMask t j k a)))
-  removeGrantPlan j k a (some i) = cond (t .grants j i k) (cond (t .calls i j k) (Refuse 8) (Accept j (Clear Grants i k))) (Refuse 6)
+abbrev pub CallIn : Layout → CallSpot → Type 0
+CallIn L call.Absent = Unit {0}
+CallIn L (Unserved i) = i < L .packages
+CallIn L (Served i j k) = BitAt L i j k
 
-  -- ---- the record of such a row, with first AID a
-  abbrev pub callPlan : (ℕ → Row → Option Place → Plan) → Aid → Row → Plan
-  callPlan f a r = orElse (numberOf L t a) (Refuse 5) (λ i. f i r (serverOf L t r))
+abbrev pub GrantIn : Layout → GrantSpot → Type 0
+GrantIn L grant.Absent = Unit {0}
+GrantIn L Unprovided = Unit {0}
+GrantIn L (Away j k) = (j < L .packages) × (k < L .services)
+GrantIn L (Installed j i k) = BitAt L j i k
 
-  abbrev pub grantPlan : (ℕ → ℕ → Aid → Option ℕ → Plan) → Aid → Row → Plan
-  grantPlan f a r = orElse (numberOf L t a) (Refuse 5) (λ j. orElse (serviceOf L t j (r .tok)) (Refuse 6) (λ k. f j k (r .aid) (numberOf L t (r .aid))))
+-- s is where the row stands, and its numbers are in range
+pub record CallFound (L : Layout) (t : Tables) (a : Aid) (r : Row) (s : CallSpot) : Type 0 where
+  pub spot : s ≡ callSpot L t a r
+  pub inside : CallIn L s
+
+pub record GrantFound (L : Layout) (t : Tables) (a : Aid) (r : Row) (s : GrantSpot) : Type 0 where
+  pub spot : s ≡ grantSpot L t a r
+  pub inside : GrantIn L s
+
+-- ---- what the record comes to
+module _ (L : Layout) (t : Tables) (r : Row) where
+  abbrev pub addCallPlan : CallSpot → Plan
+  addCallPlan call.Absent = Refuse 5
+  addCallPlan (Unserved i) = cond (eqb (unmetMask t i r) 0) (cond (ltb (length (t .unmet)) (L .capacity)) (Accept i AddUnmet) (Refuse 10)) (Refuse 6)
+  addCallPlan (Served i j k) = cond (t .calls i j k) (Refuse 6) (cond (t .grants j i k) (Accept i (Set Calls j k)) (Refuse 8))
+
+  abbrev pub removeCallPlan : CallSpot → Plan
+  removeCallPlan call.Absent = Refuse 5
+  removeCallPlan (Unserved i) = cond (eqb (unmetMask t i r) 0) (Refuse 6) (Accept i (DropUnmet (unmetMask t i r)))
+  removeCallPlan (Served i j k) = cond (t .calls i j k) (Accept i (Uncall j k)) (Refuse 6)
+
+  abbrev pub addGrantPlan : GrantSpot → Plan
+  addGrantPlan grant.Absent = Refuse 5
+  addGrantPlan Unprovided = Refuse 6
+  addGrantPlan (Away j k) = cond (eqb (waitingMask t j k (r .aid)) 0) (cond (ltb (length (t .waiting)) (L .capacity)) (Accept j (AddWaiting k)) (Refuse 11)) (Refuse 6)
+  addGrantPlan (Installed j i k) = cond (t .grants j i k) (Refuse 6) (Accept j (Set Grants i k))
+
+  abbrev pub removeGrantPlan : GrantSpot → Plan
+  removeGrantPlan grant.Absent = Refuse 5
+  removeGrantPlan Unprovided = Refuse 6
+  removeGrantPlan (Away j k) = cond (eqb (waitingMask t j k (r .aid)) 0) (Refuse 6) (Accept j (DropWaiting (waitingMask t j k (r .aid))))
+  removeGrantPlan (Installed j i k) = cond (t .grants j i k) (cond (t .calls i j k) (Refuse 8) (Accept j (Clear Grants i k))) (Refuse 6)
+
+  abbrev pub addNeedPlan : CallSpot → Plan
+  addNeedPlan call.Absent = Refuse 5
+  addNeedPlan (Unserved i) = cond (eqb (unmetMask t i r) 0) (Refuse 6) (Refuse 9)
+  addNeedPlan (Served i j k) = cond (t .calls i j k) (cond (t .needs i j k) (Refuse 6) (Accept i (Set Needs j k))) (Refuse 6)
+
+  abbrev pub removeNeedPlan : CallSpot → Plan
+  removeNeedPlan call.Absent = Refuse 5
+  removeNeedPlan (Unserved i) = Refuse 6
+  removeNeedPlan (Served i j k) = cond (t .needs i j k) (Accept i (Clear Needs j k)) (Refuse 6)
+
+-- the plan by where the row stands
+abbrev pub callPlan : Layout → Tables → (CallSpot → Plan) → Aid → Row → Plan
+callPlan L t f a r = f (callSpot L t a r)
+
+abbrev pub grantPlan : Layout → Tables → (GrantSpot → Plan) → Aid → Row → Plan
+grantPlan L t f a r = f (grantSpot L t a r)
 
 -- ---- the row r of package n: the tables after a change, and the outcome of a plan
 abbrev pub edited : Tables → Row → ℕ → Edit → Tables
@@ -87,9 +141,6 @@ done L img r (Refuse n) = refusal n 255 img
 done L img r (Accept n e) = record { answered = 0; second = n; bytes = encode L (edited (decode L img) r n e) }
 
 -- what carrying it out needs: numbers in range, and room in a list that grows
-abbrev pub BitAt : Layout → ℕ → ℕ → ℕ → Type 0
-BitAt L x y z = (x < L .packages) × (y < L .packages) × (z < L .services)
-
 module _ (L : Layout) (t : Tables) (r : Row) where
   abbrev pub Fits : ℕ → Edit → Type 0
   Fits n (Set tb y z) = BitAt L n y z

@@ -8,6 +8,7 @@ ghost use Rattle.image.specs.Laid.{Laid};
 ghost use Rattle.engine.specs.Asked.{Asked, rowWith};
 ghost use Rattle.engine.specs.Plans.{callPlan, addCallPlan, removeCallPlan};
 use crate::Verdict;
+use crate::plan::CallSpot;
 use crate::plan::Edit;
 use crate::plan::Plan;
 use geometry::Card;
@@ -16,43 +17,31 @@ use geometry::Table;
 // What kind 5 comes to.
 fn plan_add_call(img: &[u8], c: Card, aid: &[u8], other: &[u8], interface: u8, method: u8) -> Plan
     requires { ⌜ Laid (layoutOf c) (now img) ⌝ }
-    ensures { λ r. ⌜ r ≡ callPlan (layoutOf c) (decode (layoutOf c) (now (img .entry))) (addCallPlan (layoutOf c) (decode (layoutOf c) (now (img .entry))))
+    ensures { λ r. ⌜ r ≡ callPlan (layoutOf c) (decode (layoutOf c) (now (img .entry)))
+        (addCallPlan (layoutOf c) (decode (layoutOf c) (now (img .entry))) (rowWith (now (other .entry)) interface method))
         (now (aid .entry)) (rowWith (now (other .entry)) interface method) ⌝ }
 {
-    let n = geometry::packages(c);
-    let i = image::read::find_package(img, c, aid);
-    if i >= n {
-        return Plan::Refuse { cause: 5 };
-    }
-    let p = image::read::find_server(img, c, other, interface, method);
-    let j = p.callee;
-    let k = p.service;
-    if j < n {
-        if crate::plan::has(img, c, Table::Calls, i, j, k) {
-            return Plan::Refuse { cause: 6 };
+    match crate::plan::seek_call(img, c, aid, other, interface, method) {
+        CallSpot::Absent => Plan::Refuse(5),
+        CallSpot::Unserved(i) => {
+            if crate::plan::unmet_mask(img, c, i, other, interface, method) != 0 {
+                return Plan::Refuse(6);
+            }
+            if image::lists::unmet_count(img, c) < geometry::capacity(c) {
+                return Plan::Accept(i, Edit::AddUnmet);
+            }
+            Plan::Refuse(10)
         }
-        if crate::plan::has(img, c, Table::Grants, j, i, k) {
-            return Plan::Accept {
-                owner: i,
-                edit: Edit::Set {
-                    table: Table::Calls,
-                    column: j,
-                    service: k,
-                },
-            };
+        CallSpot::Served(i, j, k) => {
+            if crate::plan::has(img, c, Table::Calls, i, j, k) {
+                return Plan::Refuse(6);
+            }
+            if crate::plan::has(img, c, Table::Grants, j, i, k) {
+                return Plan::Accept(i, Edit::Set(Table::Calls, j, k));
+            }
+            Plan::Refuse(8)
         }
-        return Plan::Refuse { cause: 8 };
     }
-    if crate::plan::unmet_mask(img, c, i, other, interface, method) != 0 {
-        return Plan::Refuse { cause: 6 };
-    }
-    if image::lists::unmet_count(img, c) < geometry::capacity(c) {
-        return Plan::Accept {
-            owner: i,
-            edit: Edit::AddUnmet,
-        };
-    }
-    Plan::Refuse { cause: 10 }
 }
 
 // What kind 6 comes to.
@@ -65,36 +54,25 @@ fn plan_remove_call(
     method: u8,
 ) -> Plan
     requires { ⌜ Laid (layoutOf c) (now img) ⌝ }
-    ensures { λ r. ⌜ r ≡ callPlan (layoutOf c) (decode (layoutOf c) (now (img .entry))) (removeCallPlan (layoutOf c) (decode (layoutOf c) (now (img .entry))))
+    ensures { λ r. ⌜ r ≡ callPlan (layoutOf c) (decode (layoutOf c) (now (img .entry)))
+        (removeCallPlan (layoutOf c) (decode (layoutOf c) (now (img .entry))) (rowWith (now (other .entry)) interface method))
         (now (aid .entry)) (rowWith (now (other .entry)) interface method) ⌝ }
 {
-    let n = geometry::packages(c);
-    let i = image::read::find_package(img, c, aid);
-    if i >= n {
-        return Plan::Refuse { cause: 5 };
-    }
-    let p = image::read::find_server(img, c, other, interface, method);
-    let j = p.callee;
-    let k = p.service;
-    if j < n {
-        if crate::plan::has(img, c, Table::Calls, i, j, k) {
-            return Plan::Accept {
-                owner: i,
-                edit: Edit::Uncall {
-                    callee: j,
-                    service: k,
-                },
-            };
+    match crate::plan::seek_call(img, c, aid, other, interface, method) {
+        CallSpot::Absent => Plan::Refuse(5),
+        CallSpot::Unserved(i) => {
+            let mask = crate::plan::unmet_mask(img, c, i, other, interface, method);
+            if mask == 0 {
+                return Plan::Refuse(6);
+            }
+            Plan::Accept(i, Edit::DropUnmet(mask))
         }
-        return Plan::Refuse { cause: 6 };
-    }
-    let mask = crate::plan::unmet_mask(img, c, i, other, interface, method);
-    if mask == 0 {
-        return Plan::Refuse { cause: 6 };
-    }
-    Plan::Accept {
-        owner: i,
-        edit: Edit::DropUnmet { mask },
+        CallSpot::Served(i, j, k) => {
+            if crate::plan::has(img, c, Table::Calls, i, j, k) {
+                return Plan::Accept(i, Edit::Uncall(j, k));
+            }
+            Plan::Refuse(6)
+        }
     }
 }
 

@@ -9,6 +9,7 @@ ghost use Rattle.engine.specs.Asked.{Asked, rowWith};
 ghost use Rattle.engine.specs.Plans.{grantPlan, addGrantPlan, removeGrantPlan};
 use crate::Verdict;
 use crate::plan::Edit;
+use crate::plan::GrantSpot;
 use crate::plan::Plan;
 use geometry::Card;
 use geometry::Table;
@@ -16,42 +17,29 @@ use geometry::Table;
 // What kind 7 comes to.
 fn plan_add_grant(img: &[u8], c: Card, aid: &[u8], other: &[u8], interface: u8, method: u8) -> Plan
     requires { ⌜ Laid (layoutOf c) (now img) ⌝ }
-    ensures { λ r. ⌜ r ≡ grantPlan (layoutOf c) (decode (layoutOf c) (now (img .entry))) (addGrantPlan (layoutOf c) (decode (layoutOf c) (now (img .entry))))
+    ensures { λ r. ⌜ r ≡ grantPlan (layoutOf c) (decode (layoutOf c) (now (img .entry)))
+        (addGrantPlan (layoutOf c) (decode (layoutOf c) (now (img .entry))) (rowWith (now (other .entry)) interface method))
         (now (aid .entry)) (rowWith (now (other .entry)) interface method) ⌝ }
 {
-    let n = geometry::packages(c);
-    let j = image::read::find_package(img, c, aid);
-    if j >= n {
-        return Plan::Refuse { cause: 5 };
-    }
-    let k = image::read::find_service(img, c, j, interface, method);
-    if k >= geometry::services(c) {
-        return Plan::Refuse { cause: 6 };
-    }
-    let i = image::read::find_package(img, c, other);
-    if i < n {
-        if crate::plan::has(img, c, Table::Grants, j, i, k) {
-            return Plan::Refuse { cause: 6 };
+    match crate::plan::seek_grant(img, c, aid, other, interface, method) {
+        GrantSpot::Absent => Plan::Refuse(5),
+        GrantSpot::Unprovided => Plan::Refuse(6),
+        GrantSpot::Away(j, k) => {
+            if crate::plan::waiting_mask(img, c, j, k, other) != 0 {
+                return Plan::Refuse(6);
+            }
+            if image::lists::waiting_count(img, c) < geometry::capacity(c) {
+                return Plan::Accept(j, Edit::AddWaiting(k));
+            }
+            Plan::Refuse(11)
         }
-        return Plan::Accept {
-            owner: j,
-            edit: Edit::Set {
-                table: Table::Grants,
-                column: i,
-                service: k,
-            },
-        };
+        GrantSpot::Installed(j, i, k) => {
+            if crate::plan::has(img, c, Table::Grants, j, i, k) {
+                return Plan::Refuse(6);
+            }
+            Plan::Accept(j, Edit::Set(Table::Grants, i, k))
+        }
     }
-    if crate::plan::waiting_mask(img, c, j, k, other) != 0 {
-        return Plan::Refuse { cause: 6 };
-    }
-    if image::lists::waiting_count(img, c) < geometry::capacity(c) {
-        return Plan::Accept {
-            owner: j,
-            edit: Edit::AddWaiting { service: k },
-        };
-    }
-    Plan::Refuse { cause: 11 }
 }
 
 // What kind 8 comes to.
@@ -64,42 +52,29 @@ fn plan_remove_grant(
     method: u8,
 ) -> Plan
     requires { ⌜ Laid (layoutOf c) (now img) ⌝ }
-    ensures { λ r. ⌜ r ≡ grantPlan (layoutOf c) (decode (layoutOf c) (now (img .entry))) (removeGrantPlan (layoutOf c) (decode (layoutOf c) (now (img .entry))))
+    ensures { λ r. ⌜ r ≡ grantPlan (layoutOf c) (decode (layoutOf c) (now (img .entry)))
+        (removeGrantPlan (layoutOf c) (decode (layoutOf c) (now (img .entry))) (rowWith (now (other .entry)) interface method))
         (now (aid .entry)) (rowWith (now (other .entry)) interface method) ⌝ }
 {
-    let n = geometry::packages(c);
-    let j = image::read::find_package(img, c, aid);
-    if j >= n {
-        return Plan::Refuse { cause: 5 };
-    }
-    let k = image::read::find_service(img, c, j, interface, method);
-    if k >= geometry::services(c) {
-        return Plan::Refuse { cause: 6 };
-    }
-    let i = image::read::find_package(img, c, other);
-    if i < n {
-        if !crate::plan::has(img, c, Table::Grants, j, i, k) {
-            return Plan::Refuse { cause: 6 };
+    match crate::plan::seek_grant(img, c, aid, other, interface, method) {
+        GrantSpot::Absent => Plan::Refuse(5),
+        GrantSpot::Unprovided => Plan::Refuse(6),
+        GrantSpot::Away(j, k) => {
+            let mask = crate::plan::waiting_mask(img, c, j, k, other);
+            if mask == 0 {
+                return Plan::Refuse(6);
+            }
+            Plan::Accept(j, Edit::DropWaiting(mask))
         }
-        if crate::plan::has(img, c, Table::Calls, i, j, k) {
-            return Plan::Refuse { cause: 8 };
+        GrantSpot::Installed(j, i, k) => {
+            if !crate::plan::has(img, c, Table::Grants, j, i, k) {
+                return Plan::Refuse(6);
+            }
+            if crate::plan::has(img, c, Table::Calls, i, j, k) {
+                return Plan::Refuse(8);
+            }
+            Plan::Accept(j, Edit::Clear(Table::Grants, i, k))
         }
-        return Plan::Accept {
-            owner: j,
-            edit: Edit::Clear {
-                table: Table::Grants,
-                column: i,
-                service: k,
-            },
-        };
-    }
-    let mask = crate::plan::waiting_mask(img, c, j, k, other);
-    if mask == 0 {
-        return Plan::Refuse { cause: 6 };
-    }
-    Plan::Accept {
-        owner: j,
-        edit: Edit::DropWaiting { mask },
     }
 }
 

@@ -8,6 +8,7 @@ ghost use Rattle.image.specs.Laid.{Laid};
 ghost use Rattle.engine.specs.Asked.{Asked, rowWith};
 ghost use Rattle.engine.specs.Plans.{callPlan, addNeedPlan, removeNeedPlan};
 use crate::Verdict;
+use crate::plan::CallSpot;
 use crate::plan::Edit;
 use crate::plan::Plan;
 use geometry::Card;
@@ -16,37 +17,28 @@ use geometry::Table;
 // What kind 9 comes to.
 fn plan_add_need(img: &[u8], c: Card, aid: &[u8], other: &[u8], interface: u8, method: u8) -> Plan
     requires { ⌜ Laid (layoutOf c) (now img) ⌝ }
-    ensures { λ r. ⌜ r ≡ callPlan (layoutOf c) (decode (layoutOf c) (now (img .entry))) (addNeedPlan (layoutOf c) (decode (layoutOf c) (now (img .entry))))
+    ensures { λ r. ⌜ r ≡ callPlan (layoutOf c) (decode (layoutOf c) (now (img .entry)))
+        (addNeedPlan (layoutOf c) (decode (layoutOf c) (now (img .entry))) (rowWith (now (other .entry)) interface method))
         (now (aid .entry)) (rowWith (now (other .entry)) interface method) ⌝ }
 {
-    let n = geometry::packages(c);
-    let i = image::read::find_package(img, c, aid);
-    if i >= n {
-        return Plan::Refuse { cause: 5 };
-    }
-    let p = image::read::find_server(img, c, other, interface, method);
-    let j = p.callee;
-    let k = p.service;
-    if j < n {
-        if !crate::plan::has(img, c, Table::Calls, i, j, k) {
-            return Plan::Refuse { cause: 6 };
+    match crate::plan::seek_call(img, c, aid, other, interface, method) {
+        CallSpot::Absent => Plan::Refuse(5),
+        CallSpot::Unserved(i) => {
+            if crate::plan::unmet_mask(img, c, i, other, interface, method) == 0 {
+                return Plan::Refuse(6);
+            }
+            Plan::Refuse(9)
         }
-        if crate::plan::has(img, c, Table::Needs, i, j, k) {
-            return Plan::Refuse { cause: 6 };
+        CallSpot::Served(i, j, k) => {
+            if !crate::plan::has(img, c, Table::Calls, i, j, k) {
+                return Plan::Refuse(6);
+            }
+            if crate::plan::has(img, c, Table::Needs, i, j, k) {
+                return Plan::Refuse(6);
+            }
+            Plan::Accept(i, Edit::Set(Table::Needs, j, k))
         }
-        return Plan::Accept {
-            owner: i,
-            edit: Edit::Set {
-                table: Table::Needs,
-                column: j,
-                service: k,
-            },
-        };
     }
-    if crate::plan::unmet_mask(img, c, i, other, interface, method) == 0 {
-        return Plan::Refuse { cause: 6 };
-    }
-    Plan::Refuse { cause: 9 }
 }
 
 // What kind 10 comes to.
@@ -59,31 +51,20 @@ fn plan_remove_need(
     method: u8,
 ) -> Plan
     requires { ⌜ Laid (layoutOf c) (now img) ⌝ }
-    ensures { λ r. ⌜ r ≡ callPlan (layoutOf c) (decode (layoutOf c) (now (img .entry))) (removeNeedPlan (layoutOf c) (decode (layoutOf c) (now (img .entry))))
+    ensures { λ r. ⌜ r ≡ callPlan (layoutOf c) (decode (layoutOf c) (now (img .entry)))
+        (removeNeedPlan (layoutOf c) (decode (layoutOf c) (now (img .entry))) (rowWith (now (other .entry)) interface method))
         (now (aid .entry)) (rowWith (now (other .entry)) interface method) ⌝ }
 {
-    let n = geometry::packages(c);
-    let i = image::read::find_package(img, c, aid);
-    if i >= n {
-        return Plan::Refuse { cause: 5 };
-    }
-    let p = image::read::find_server(img, c, other, interface, method);
-    let j = p.callee;
-    let k = p.service;
-    if j < n {
-        if crate::plan::has(img, c, Table::Needs, i, j, k) {
-            return Plan::Accept {
-                owner: i,
-                edit: Edit::Clear {
-                    table: Table::Needs,
-                    column: j,
-                    service: k,
-                },
-            };
+    match crate::plan::seek_call(img, c, aid, other, interface, method) {
+        CallSpot::Absent => Plan::Refuse(5),
+        CallSpot::Unserved(_) => Plan::Refuse(6),
+        CallSpot::Served(i, j, k) => {
+            if crate::plan::has(img, c, Table::Needs, i, j, k) {
+                return Plan::Accept(i, Edit::Clear(Table::Needs, j, k));
+            }
+            Plan::Refuse(6)
         }
-        return Plan::Refuse { cause: 6 };
     }
-    Plan::Refuse { cause: 6 }
 }
 
 // Kind 9: the package of `aid` needs the service of `other` with these tokens.

@@ -6,44 +6,43 @@ ghost use Rattle.geometry.specs.Geometry.{layoutOf};
 ghost use Rattle.image.specs.Laid.{Laid, tableOf};
 ghost use Rattle.image.specs.Wrote.{Wrote};
 ghost use Rattle.engine.specs.Asked.{rowWith};
-ghost use Rattle.engine.specs.Plans.{unmetMask, waitingMask, BitAt, edited, Fits, Inside, done};
+ghost use Rattle.engine.specs.Plans.{CallFound, GrantFound, unmetMask, waitingMask, BitAt, edited, Fits, Inside, done};
 use crate::Verdict;
 use geometry::Card;
 use geometry::Table;
 
-// One change of the tables, for the package with number `owner`: a bit of its row in a table, or a row of a list.
-// Uncall clears a call and the need on it.
-pub enum Edit {
-    Set {
-        table: Table,
-        column: usize,
-        service: usize,
-    },
-    Clear {
-        table: Table,
-        column: usize,
-        service: usize,
-    },
-    Uncall {
-        callee: usize,
-        service: usize,
-    },
-    AddUnmet,
-    DropUnmet {
-        mask: u32,
-    },
-    AddWaiting {
-        service: usize,
-    },
-    DropWaiting {
-        mask: u32,
-    },
+// Where a call or need stands: package number `caller`; then callee and service number where its service is on the card.
+pub enum CallSpot {
+    Absent,
+    Unserved(usize),
+    Served(usize, usize, usize),
 }
 
-// A refusal by its cause, or an acceptance.
+// Where a grant stands: package and service number; the number of the caller between them where it is installed.
+pub enum GrantSpot {
+    Absent,
+    Unprovided,
+    Away(usize, usize),
+    Installed(usize, usize, usize),
+}
+
+// One change of the tables, for the package of the record: a bit of its row in a table, by column and service; or a row of a list.
+pub enum Edit {
+    Set(Table, usize, usize),
+    Clear(Table, usize, usize),
+    // a call and the need on it, by callee and service
+    Uncall(usize, usize),
+    AddUnmet,
+    DropUnmet(u32),
+    // by service
+    AddWaiting(usize),
+    DropWaiting(u32),
+}
+
+// A refusal by its cause, or an acceptance: the package number and the change.
 pub enum Plan {
-    Refuse { cause: u8 },
-    Accept { owner: usize, edit: Edit },
+    Refuse(u8),
+    Accept(usize, Edit),
 }
 
 // Bit k of a table's entry in row i, column j.
@@ -54,6 +53,60 @@ pub fn has(img: &[u8], c: Card, tb: Table, i: usize, j: usize, k: usize) -> bool
 {
     let row = image::read::entry(img, c, tb, i, j);
     bits::has_bit(row, k)
+}
+
+// Where the call or need of the package `aid` on the service of `other` with these tokens stands.
+pub fn seek_call(
+    img: &[u8],
+    c: Card,
+    aid: &[u8],
+    other: &[u8],
+    interface: u8,
+    method: u8,
+) -> CallSpot
+    requires { ⌜ Laid (layoutOf c) (now img) ⌝ }
+    ensures { λ s. ⌜ CallFound (layoutOf c) (decode (layoutOf c) (now (img .entry))) (now (aid .entry)) (rowWith (now (other .entry)) interface method) s ⌝ }
+{
+    let n = geometry::packages(c);
+    let i = image::read::find_package(img, c, aid);
+    if i >= n {
+        return CallSpot::Absent;
+    }
+    let p = image::read::find_server(img, c, other, interface, method);
+    let j = p.callee;
+    let k = p.service;
+    if j < n {
+        return CallSpot::Served(i, j, k);
+    }
+    CallSpot::Unserved(i)
+}
+
+// Where the grant of the package `aid` of its service with these tokens to `other` stands.
+pub fn seek_grant(
+    img: &[u8],
+    c: Card,
+    aid: &[u8],
+    other: &[u8],
+    interface: u8,
+    method: u8,
+) -> GrantSpot
+    requires { ⌜ Laid (layoutOf c) (now img) ⌝ }
+    ensures { λ s. ⌜ GrantFound (layoutOf c) (decode (layoutOf c) (now (img .entry))) (now (aid .entry)) (rowWith (now (other .entry)) interface method) s ⌝ }
+{
+    let n = geometry::packages(c);
+    let j = image::read::find_package(img, c, aid);
+    if j >= n {
+        return GrantSpot::Absent;
+    }
+    let k = image::read::find_service(img, c, j, interface, method);
+    if k >= geometry::services(c) {
+        return GrantSpot::Unprovided;
+    }
+    let i = image::read::find_package(img, c, other);
+    if i < n {
+        return GrantSpot::Installed(j, i, k);
+    }
+    GrantSpot::Away(j, k)
 }
 
 // Which unmet calls are the row of package number i with the AID `other` and these tokens.
@@ -83,24 +136,30 @@ fn apply(img: &mut [u8], c: Card, owner: usize, other: &[u8], interface: u8, met
     ensures { λ _. ⌜ Wrote (layoutOf c) (now (img .exit)) (edited (decode (layoutOf c) (now (img .entry))) (rowWith (now (other .entry)) interface method) owner edit) ⌝ }
 {
     match edit {
-        Edit::Set {
+        Edit::Set(table, column, service) => image::write::set_bit(
+            img,
+            c,
             table,
+            owner,
             column,
             service,
-        } => image::write::set_bit(img, c, table, owner, column, service),
-        Edit::Clear {
+        ),
+        Edit::Clear(table, column, service) => image::write::clear_bit(
+            img,
+            c,
             table,
+            owner,
             column,
             service,
-        } => image::write::clear_bit(img, c, table, owner, column, service),
-        Edit::Uncall { callee, service } => {
+        ),
+        Edit::Uncall(callee, service) => {
             image::write::clear_bit(img, c, Table::Needs, owner, callee, service);
             image::write::clear_bit(img, c, Table::Calls, owner, callee, service);
         }
         Edit::AddUnmet => image::write::append_unmet(img, c, other, interface, method, owner),
-        Edit::DropUnmet { mask } => image::write::drop_unmet(img, c, mask),
-        Edit::AddWaiting { service } => image::write::append_waiting(img, c, other, owner, service),
-        Edit::DropWaiting { mask } => image::write::drop_waiting(img, c, mask),
+        Edit::DropUnmet(mask) => image::write::drop_unmet(img, c, mask),
+        Edit::AddWaiting(service) => image::write::append_waiting(img, c, other, owner, service),
+        Edit::DropWaiting(mask) => image::write::drop_waiting(img, c, mask),
     }
 }
 
@@ -118,8 +177,8 @@ pub fn perform(
     ensures { λ r. ⌜ Gives (done (layoutOf c) (now (img .entry)) (rowWith (now (other .entry)) interface method) plan) (r .number) (r .second) (now (img .exit)) ⌝ }
 {
     match plan {
-        Plan::Refuse { cause } => crate::refused(cause),
-        Plan::Accept { owner, edit } => {
+        Plan::Refuse(cause) => crate::refused(cause),
+        Plan::Accept(owner, edit) => {
             apply(img, c, owner, other, interface, method, edit);
             crate::accepted(owner)
         }

@@ -8,12 +8,13 @@ plan-remove-call-spec =
     tie.close
     (tie.spec
     (λ c κs. search plans)
-    (λ c κs. search plans)
-    (λ c. search plans)
-    (λ c κs. search plans)
-    (λ c κs. search plans)
     (λ c. search plans)
     (λ c. search plans)
     (λ c κs. search plans)
+    (λ c. search plans)
+    (λ c. search plans)
+    (λ c κs. search plans)
+    (λ c. search plans)
+    (λ c. search plans)
     (λ c. search plans)
     (λ c. search plans))

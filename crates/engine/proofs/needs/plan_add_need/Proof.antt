@@ -8,14 +8,15 @@ plan-add-need-spec =
     tie.close
     (tie.spec
     (λ c κs. search plans)
-    (λ c κs. search plans)
     (λ c. search plans)
-    (λ c κs. search plans)
-    (λ c κs. search plans)
     (λ c. search plans)
     (λ c κs. search plans)
     (λ c. search plans)
     (λ c. search plans)
     (λ c κs. search plans)
+    (λ c. search plans)
+    (λ c κs. search plans)
+    (λ c. search plans)
+    (λ c. search plans)
     (λ c. search plans)
     (λ c. search plans))

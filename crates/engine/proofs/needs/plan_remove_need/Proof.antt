@@ -8,10 +8,11 @@ plan-remove-need-spec =
     tie.close
     (tie.spec
     (λ c κs. search plans)
-    (λ c κs. search plans)
+    (λ c. search plans)
+    (λ c. search plans)
     (λ c. search plans)
     (λ c κs. search plans)
-    (λ c κs. search plans)
+    (λ c. search plans)
     (λ c. search plans)
     (λ c. search plans)
     (λ c. search plans))

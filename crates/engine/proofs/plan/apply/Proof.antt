@@ -27,7 +27,11 @@ apply-spec =
     (λ c κs. (c .before .before .before .before .before .before .pre .0, rw (c .before .before .edit2 .given .1) at (c .before .before .before .before .before .before .pre .1)))
     (λ c. search needs)
     (λ c κs. (c .before .before .before .before .before .before .pre .0, rw (c .before .before .edit3 .given .1) at (c .before .before .before .before .before .before .pre .1)))
-    (λ c κs. (c .before .before .before .clear-bit2 .ensures .laid, rw (c .before .before .before .before .before .before .edit3 .given .1) at (c .before .before .before .before .before .before .before .before .before .before .pre .1)))
+    (λ c κs. (
+      c .before .before .before .clear-bit2 .ensures .laid,
+      rw (c .before .before .before .before .before .before .edit3 .given .1)
+          at (c .before .before .before .before .before .before .before .before .before .before .pre .1),
+    ))
     (λ c. search needs)
     (λ c κs. (c .before .before .before .before .before .pre .0, rw (c .before .enum-told .given .1) at (c .before .before .before .before .before .pre .1)))
     (λ c. search needs)

@@ -1,0 +1,15 @@
+-- `engine::plan::seek_call` meets its contract.
+use Rattle.engine.proofs.Seen.{spots}
+use Rattle.engine.proofs.plan.seek_call.Statement.{statement}
+use Rattle.engine.proofs.plan.seek_call.Tie as tie
+
+pub seek-call-spec : {M : Type 1} → statement M
+seek-call-spec =
+    tie.close
+    (tie.spec
+    (λ c κs. search spots)
+    (λ c κs. search spots)
+    (λ c. search spots)
+    (λ c κs. search spots)
+    (λ c. search spots)
+    (λ c. search spots))
