@@ -1,0 +1,94 @@
+//! The byte engine: judges records on an image of 1,094 bytes, in place, by the placing rules.
+//! It shares no code with `machine`. Every entry gives the answer and the second number.
+
+mod layout;
+mod lists;
+mod package;
+mod read_out;
+mod record;
+mod sound;
+mod update;
+
+use layout::{Image, HEADER, USED};
+use record::Change;
+
+const REFUSED: u32 = 255;
+
+/// 0 with the count of used package numbers, or 1.
+pub fn check(image: &[u8]) -> (u32, u32) {
+    match <&Image>::try_from(image) {
+        Ok(card) if sound::sound(card) => (0, card[USED].count_ones()),
+        _ => (1, REFUSED),
+    }
+}
+
+/// Writes the empty image into a buffer of a card's size.
+pub fn empty(image: &mut [u8]) -> (u32, u32) {
+    match <&mut Image>::try_from(image) {
+        Ok(card) => {
+            card.fill(0);
+            card[..3].copy_from_slice(&HEADER);
+            (0, 0)
+        }
+        Err(_) => (1, REFUSED),
+    }
+}
+
+/// Judges a record: 0 with the package number and the image changed, or the cause with 255 and
+/// nothing changed.
+pub fn judge(image: &mut [u8], record: &[u8]) -> (u32, u32) {
+    match <&mut Image>::try_from(image) {
+        Ok(card) if sound::sound(card) => match judge_sound(card, record) {
+            Ok(number) => (0, number as u32),
+            Err(cause) => (cause, REFUSED),
+        },
+        _ => (1, REFUSED),
+    }
+}
+
+fn judge_sound(image: &mut Image, bytes: &[u8]) -> Result<usize, u32> {
+    let record = record::read(bytes).ok_or(2u32)?;
+    if record::contradicts(&record) {
+        return Err(3);
+    }
+    if let Change::Load(load) = &record.change {
+        return package::load(image, record.aid, load);
+    }
+    let number = layout::package(image, record.aid).ok_or(5u32)?;
+    match record.change {
+        Change::Load(_) => {}
+        Change::Remove => package::remove(image, number)?,
+        Change::AddService(tokens, callers) => update::add_service(image, number, tokens, callers)?,
+        Change::RemoveService(tokens) => update::remove_service(image, number, tokens)?,
+        Change::AddCall(row) => update::add_call(image, number, row)?,
+        Change::RemoveCall(row) => update::remove_call(image, number, row)?,
+        Change::AddGrant(row) => update::add_grant(image, number, row)?,
+        Change::RemoveGrant(row) => update::remove_grant(image, number, row)?,
+        Change::AddNeed(row) => update::add_need(image, number, row)?,
+        Change::RemoveNeed(row) => update::remove_need(image, number, row)?,
+    }
+    Ok(number)
+}
+
+/// Writes a package's contract as a record of kind 1: 0 with its length, or 1, 5 or 12 with 0.
+pub fn read_out(image: &[u8], number: u32, out: &mut [u8]) -> (u32, u32) {
+    let Ok(card) = <&Image>::try_from(image) else { return (1, 0) };
+    if !sound::sound(card) {
+        return (1, 0);
+    }
+    if number >= 8 || !layout::used(card, number as usize) {
+        return (5, 0);
+    }
+    match read_out::read_out(card, number as usize, out) {
+        Ok(length) => (0, length as u32),
+        Err(cause) => (cause, 0),
+    }
+}
+
+/// The part of the record that is its first AID's bytes; an empty part of a malformed record.
+pub fn aid(record: &[u8]) -> &[u8] {
+    match record::read(record) {
+        Some(read) => &read.aid[1..],
+        None => &record[..0],
+    }
+}

@@ -1,0 +1,140 @@
+//! Where things are in an image of 1,094 bytes.
+
+pub const SIZE: usize = 1094;
+pub const HEADER: [u8; 3] = [0x04, 0x46, 0x01];
+pub const USED: usize = 3;
+pub const AIDS: usize = 4;
+pub const TOKENS: usize = 140;
+pub const PROVIDES: usize = 268;
+pub const CALLS: usize = 276;
+pub const GRANTS: usize = 340;
+pub const NEEDS: usize = 404;
+pub const UNMET: usize = 468;
+pub const WAITING: usize = 789;
+
+/// The length byte, the AID's bytes and zero fill.
+pub const AID: usize = 17;
+/// Callee AID, tokens, caller number.
+pub const UNMET_ROW: usize = 20;
+/// Caller AID, callee number, service number.
+pub const WAITING_ROW: usize = 19;
+pub const MOST_ROWS: usize = 16;
+
+pub type Image = [u8; SIZE];
+pub type UnmetRow = [u8; UNMET_ROW];
+pub type WaitingRow = [u8; WAITING_ROW];
+
+pub fn used(image: &Image, package: usize) -> bool {
+    image[USED] >> package & 1 == 1
+}
+
+/// The numbers of the packages on the card, upwards.
+pub fn packages(image: &Image) -> impl Iterator<Item = usize> {
+    bits(image[USED])
+}
+
+/// The numbers of the bits set, upwards.
+pub fn bits(byte: u8) -> impl Iterator<Item = usize> {
+    (0..8).filter(move |n| byte >> n & 1 == 1)
+}
+
+pub fn aid(image: &Image, package: usize) -> &[u8; AID] {
+    image[AIDS + AID * package..].first_chunk().unwrap()
+}
+
+/// The AID without its fill: the length byte and the bytes, as records write it.
+pub fn written(aid: &[u8]) -> &[u8] {
+    &aid[..1 + usize::from(aid[0])]
+}
+
+/// Whether an AID of the tables is this one, which is given as records write it. Of one length,
+/// AIDs mostly differ in the last byte.
+pub fn is_aid(stored: &[u8], written: &[u8]) -> bool {
+    let last = written.len() - 1;
+    stored[0] == written[0] && stored[last] == written[last] && stored[..last] == written[..last]
+}
+
+pub fn tokens_at(package: usize, service: usize) -> usize {
+    TOKENS + 16 * package + 2 * service
+}
+
+pub fn tokens(image: &Image, package: usize, service: usize) -> [u8; 2] {
+    let at = tokens_at(package, service);
+    [image[at], image[at + 1]]
+}
+
+pub fn provides(image: &Image, package: usize) -> u8 {
+    image[PROVIDES + package]
+}
+
+/// The place of a bit byte in calls, grants or needs.
+pub fn cell(table: usize, row: usize, column: usize) -> usize {
+    table + 8 * row + column
+}
+
+pub fn calls(image: &Image, caller: usize, callee: usize) -> u8 {
+    image[cell(CALLS, caller, callee)]
+}
+
+pub fn grants(image: &Image, callee: usize, caller: usize) -> u8 {
+    image[cell(GRANTS, callee, caller)]
+}
+
+pub fn needs(image: &Image, caller: usize, callee: usize) -> u8 {
+    image[cell(NEEDS, caller, callee)]
+}
+
+/// The number of the package with this AID.
+pub fn package(image: &Image, written: &[u8]) -> Option<usize> {
+    packages(image).find(|&n| is_aid(aid(image, n), written))
+}
+
+/// The number of the package's service with these tokens.
+pub fn service(image: &Image, package: usize, wanted: [u8; 2]) -> Option<usize> {
+    bits(provides(image, package)).find(|&n| tokens(image, package, n) == wanted)
+}
+
+/// The package and service numbers of a service that is provided on the card.
+pub fn provided(image: &Image, callee: &[u8], tokens: [u8; 2]) -> Option<(usize, usize)> {
+    let package = package(image, callee)?;
+    Some((package, service(image, package, tokens)?))
+}
+
+/// The number of the package with this AID, which is given as tables hold it.
+pub fn package_held(image: &Image, held: &[u8; AID]) -> Option<usize> {
+    packages(image).find(|&n| aid(image, n) == held)
+}
+
+/// The rows that the list of unmet calls holds.
+pub fn unmet(image: &Image) -> &[UnmetRow] {
+    &image[UNMET + 1..WAITING].as_chunks().0[..usize::from(image[UNMET])]
+}
+
+/// The rows that the list of waiting grants holds.
+pub fn waiting(image: &Image) -> &[WaitingRow] {
+    &image[WAITING + 1..].as_chunks().0[..usize::from(image[WAITING])]
+}
+
+pub fn unmet_callee(row: &UnmetRow) -> &[u8; AID] {
+    row.first_chunk().unwrap()
+}
+
+pub fn unmet_tokens(row: &UnmetRow) -> [u8; 2] {
+    [row[AID], row[AID + 1]]
+}
+
+pub fn unmet_caller(row: &UnmetRow) -> usize {
+    usize::from(row[AID + 2])
+}
+
+pub fn waiting_caller(row: &WaitingRow) -> &[u8; AID] {
+    row.first_chunk().unwrap()
+}
+
+pub fn waiting_callee(row: &WaitingRow) -> usize {
+    usize::from(row[AID])
+}
+
+pub fn waiting_service(row: &WaitingRow) -> usize {
+    usize::from(row[AID + 1])
+}

@@ -1,0 +1,189 @@
+//! A record as the byte engine reads it: parts of the record's own bytes, nothing copied.
+//! An AID is kept as it is written, with its length byte.
+
+#[derive(Clone, Copy)]
+pub struct Record<'a> {
+    pub aid: &'a [u8],
+    pub change: Change<'a>,
+}
+
+#[derive(Clone, Copy)]
+pub enum Change<'a> {
+    Load(Load<'a>),
+    Remove,
+    AddService([u8; 2], Aids<'a>),
+    RemoveService([u8; 2]),
+    AddCall(Row<'a>),
+    RemoveCall(Row<'a>),
+    AddGrant(Row<'a>),
+    RemoveGrant(Row<'a>),
+    AddNeed(Row<'a>),
+    RemoveNeed(Row<'a>),
+}
+
+#[derive(Clone, Copy)]
+pub struct Load<'a> {
+    pub provides: &'a [[u8; 2]],
+    pub calls: Rows<'a>,
+    pub grants: Rows<'a>,
+    pub needs: Rows<'a>,
+}
+
+#[derive(Clone, Copy)]
+pub struct Row<'a> {
+    pub aid: &'a [u8],
+    pub tokens: [u8; 2],
+}
+
+impl PartialEq for Row<'_> {
+    /// The tokens and the AID's last byte first: they tell most rows apart.
+    fn eq(&self, other: &Row) -> bool {
+        self.tokens == other.tokens && self.aid.last() == other.aid.last() && self.aid == other.aid
+    }
+}
+
+/// The rows of a list that has been read, one after another.
+#[derive(Clone, Copy)]
+pub struct Rows<'a>(&'a [u8]);
+
+impl<'a> Iterator for Rows<'a> {
+    type Item = Row<'a>;
+
+    fn next(&mut self) -> Option<Row<'a>> {
+        let (row, rest) = read_row(self.0)?;
+        self.0 = rest;
+        Some(row)
+    }
+}
+
+/// The AIDs of a list that has been read, one after another.
+#[derive(Clone, Copy)]
+pub struct Aids<'a>(&'a [u8]);
+
+impl<'a> Iterator for Aids<'a> {
+    type Item = &'a [u8];
+
+    fn next(&mut self) -> Option<&'a [u8]> {
+        let (aid, rest) = read_aid(self.0)?;
+        self.0 = rest;
+        Some(aid)
+    }
+}
+
+/// Reads a record; `None` is cause 2.
+pub fn read(record: &[u8]) -> Option<Record<'_>> {
+    let (&[high, low, version, kind], rest) = record.split_first_chunk()?;
+    if usize::from(u16::from_be_bytes([high, low])) != record.len() || version != 1 {
+        return None;
+    }
+    let (aid, rest) = read_aid(rest)?;
+    let (change, rest) = match kind {
+        1 => read_load(rest)?,
+        2 => (Change::Remove, rest),
+        3 => read_service(rest)?,
+        4 => {
+            let (&tokens, rest) = rest.split_first_chunk()?;
+            (Change::RemoveService(tokens), rest)
+        }
+        5..=10 => {
+            let (row, rest) = read_row(rest)?;
+            let change = match kind {
+                5 => Change::AddCall(row),
+                6 => Change::RemoveCall(row),
+                7 => Change::AddGrant(row),
+                8 => Change::RemoveGrant(row),
+                9 => Change::AddNeed(row),
+                _ => Change::RemoveNeed(row),
+            };
+            (change, rest)
+        }
+        _ => return None,
+    };
+    rest.is_empty().then_some(Record { aid, change })
+}
+
+fn read_load(rest: &[u8]) -> Option<(Change<'_>, &[u8])> {
+    let (&count, rest) = rest.split_first()?;
+    if count > 8 {
+        return None;
+    }
+    let (provides, rest) = rest.split_at_checked(2 * usize::from(count))?;
+    let (calls, rest) = read_rows(rest)?;
+    let (grants, rest) = read_rows(rest)?;
+    let (needs, rest) = read_rows(rest)?;
+    Some((Change::Load(Load { provides: provides.as_chunks().0, calls, grants, needs }), rest))
+}
+
+fn read_rows(rest: &[u8]) -> Option<(Rows<'_>, &[u8])> {
+    let (rows, rest) = read_list(rest, 72, |rest| Some(read_row(rest)?.1))?;
+    Some((Rows(rows), rest))
+}
+
+fn read_service(rest: &[u8]) -> Option<(Change<'_>, &[u8])> {
+    let (&tokens, rest) = rest.split_first_chunk()?;
+    let (callers, rest) = read_list(rest, 32, |rest| Some(read_aid(rest)?.1))?;
+    Some((Change::AddService(tokens, Aids(callers)), rest))
+}
+
+/// A count and that many rows: the rows' bytes, and what comes after them.
+fn read_list(rest: &[u8], most: u8, after_row: fn(&[u8]) -> Option<&[u8]>) -> Option<(&[u8], &[u8])> {
+    let (&count, rows) = rest.split_first()?;
+    if count > most {
+        return None;
+    }
+    let mut rest = rows;
+    for _ in 0..count {
+        rest = after_row(rest)?;
+    }
+    Some((&rows[..rows.len() - rest.len()], rest))
+}
+
+fn read_row(rest: &[u8]) -> Option<(Row<'_>, &[u8])> {
+    let (aid, rest) = read_aid(rest)?;
+    let (&tokens, rest) = rest.split_first_chunk()?;
+    Some((Row { aid, tokens }, rest))
+}
+
+fn read_aid(rest: &[u8]) -> Option<(&[u8], &[u8])> {
+    let length = *rest.first()?;
+    if !(5..=16).contains(&length) {
+        return None;
+    }
+    rest.split_at_checked(1 + usize::from(length))
+}
+
+/// Cause 3.
+pub fn contradicts(record: &Record) -> bool {
+    match record.change {
+        Change::Load(load) => load_contradicts(record.aid, &load),
+        Change::AddService(_, callers) => repeats(callers) || callers.into_iter().any(|caller| caller == record.aid),
+        Change::Remove | Change::RemoveService(_) => false,
+        Change::AddCall(row)
+        | Change::RemoveCall(row)
+        | Change::AddGrant(row)
+        | Change::RemoveGrant(row)
+        | Change::AddNeed(row)
+        | Change::RemoveNeed(row) => row.aid == record.aid,
+    }
+}
+
+fn load_contradicts(own: &[u8], load: &Load) -> bool {
+    let Load { provides, mut calls, mut grants, mut needs } = *load;
+    repeats(provides.iter())
+        || repeats(calls)
+        || repeats(grants)
+        || repeats(needs)
+        || calls.any(|row| row.aid == own)
+        || grants.any(|row| row.aid == own || !provides.contains(&row.tokens))
+        || needs.any(|row| !load.calls.into_iter().any(|call| call == row))
+}
+
+fn repeats<T: PartialEq, L: Iterator<Item = T> + Clone>(list: L) -> bool {
+    let mut rest = list;
+    while let Some(row) = rest.next() {
+        if rest.clone().any(|later| later == row) {
+            return true;
+        }
+    }
+    false
+}

@@ -1,0 +1,110 @@
+//! The five entries of a card engine, so that engines can be compared and timed alike.
+
+use crate::bytes;
+use std::fmt;
+
+/// The bytes of an image.
+pub const IMAGE: usize = 1094;
+/// The bytes of the longest record.
+pub const LONGEST_RECORD: usize = 4145;
+
+/// What an entry gives: the answer (0, or the cause of a refusal) and the second number.
+#[derive(Clone, Copy, PartialEq, Eq)]
+pub struct Verdict {
+    pub answer: u32,
+    pub second: u32,
+}
+
+impl fmt::Debug for Verdict {
+    fn fmt(&self, f: &mut fmt::Formatter) -> fmt::Result {
+        write!(f, "{} with {}", self.answer, self.second)
+    }
+}
+
+impl Verdict {
+    pub const fn new(answer: u32, second: u32) -> Verdict {
+        Verdict { answer, second }
+    }
+}
+
+pub trait Card {
+    fn name(&self) -> &'static str;
+    fn check(&self, image: &[u8]) -> Verdict;
+    fn empty(&self, image: &mut [u8]) -> Verdict;
+    fn judge(&self, image: &mut [u8], record: &[u8]) -> Verdict;
+    fn read_out(&self, image: &[u8], number: u32, out: &mut [u8]) -> Verdict;
+    fn aid<'a>(&self, record: &'a [u8]) -> &'a [u8];
+}
+
+/// The byte engine of this project.
+pub struct Bytes;
+
+impl Card for Bytes {
+    fn name(&self) -> &'static str {
+        "bytes"
+    }
+
+    fn check(&self, image: &[u8]) -> Verdict {
+        verdict(bytes::check(image))
+    }
+
+    fn empty(&self, image: &mut [u8]) -> Verdict {
+        verdict(bytes::empty(image))
+    }
+
+    fn judge(&self, image: &mut [u8], record: &[u8]) -> Verdict {
+        verdict(bytes::judge(image, record))
+    }
+
+    fn read_out(&self, image: &[u8], number: u32, out: &mut [u8]) -> Verdict {
+        verdict(bytes::read_out(image, number, out))
+    }
+
+    fn aid<'a>(&self, record: &'a [u8]) -> &'a [u8] {
+        bytes::aid(record)
+    }
+}
+
+fn verdict((answer, second): (u32, u32)) -> Verdict {
+    Verdict { answer, second }
+}
+
+/// The proved engine, out of its archive.
+#[cfg(feature = "engine")]
+pub struct Engine;
+
+#[cfg(feature = "engine")]
+impl Card for Engine {
+    fn name(&self) -> &'static str {
+        "engine"
+    }
+
+    fn check(&self, image: &[u8]) -> Verdict {
+        crate::engine::check(image)
+    }
+
+    fn empty(&self, image: &mut [u8]) -> Verdict {
+        crate::engine::empty(image)
+    }
+
+    fn judge(&self, image: &mut [u8], record: &[u8]) -> Verdict {
+        crate::engine::judge(image, record)
+    }
+
+    fn read_out(&self, image: &[u8], number: u32, out: &mut [u8]) -> Verdict {
+        crate::engine::read_out(image, number, out)
+    }
+
+    fn aid<'a>(&self, record: &'a [u8]) -> &'a [u8] {
+        crate::engine::aid(record)
+    }
+}
+
+/// Every engine that is linked. The byte engine comes first; the others are held to it.
+pub fn linked() -> Vec<&'static dyn Card> {
+    vec![
+        &Bytes,
+        #[cfg(feature = "engine")]
+        &Engine,
+    ]
+}

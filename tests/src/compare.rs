@@ -1,0 +1,307 @@
+//! What is compared after each record: the plain machine, the byte engine, and every other engine.
+
+use crate::card::{Card, Verdict, IMAGE, LONGEST_RECORD};
+use crate::damage;
+use crate::hex::to_hex;
+use crate::machine::record::{self, Lists};
+use crate::machine::{Change, Contract, Machine};
+use crate::pairs::{possible, Kind, Pairs};
+use crate::random::Random;
+use crate::tables;
+use std::collections::BTreeSet;
+use std::hint::black_box;
+
+/// A difference in words.
+type Difference = String;
+
+macro_rules! expect {
+    ($holds:expr, $($words:tt)*) => {
+        if !$holds {
+            return Err(format!($($words)*));
+        }
+    };
+}
+
+/// What a buffer holds before an engine gets it.
+const FILL: [u8; LONGEST_RECORD] = [0xA5; LONGEST_RECORD];
+
+/// What a run has seen.
+#[derive(Default)]
+pub struct Tally {
+    pub records: u64,
+    pub pairs: Pairs,
+    pub contracts_read: u64,
+    pub damaged_sound: u64,
+    pub damaged_unsound: u64,
+    /// Records after which the card had 15 and 16 unmet calls, and 15 and 16 waiting grants.
+    pub unmet: [u64; 2],
+    pub waiting: [u64; 2],
+    /// Records after which 8 packages were installed, and after which one had 8 services.
+    pub eight_packages: u64,
+    pub eight_services: u64,
+}
+
+/// One card in every engine, and the machine beside them.
+pub struct Compare<'a> {
+    cards: &'a [&'a dyn Card],
+    pub machine: Machine,
+    /// The image, the same in every engine.
+    pub image: Vec<u8>,
+    seed: u64,
+}
+
+impl<'a> Compare<'a> {
+    pub fn new(cards: &'a [&'a dyn Card], seed: u64) -> Result<Compare<'a>, Difference> {
+        let mut image = vec![0; IMAGE];
+        image[..3].copy_from_slice(&[0x04, 0x46, 0x01]);
+        for card in cards {
+            let mut written = vec![0xA5; IMAGE];
+            let verdict = card.empty(&mut written);
+            expect!(verdict == Verdict::new(0, 0), "{}: writing the empty image gives {verdict:?}", card.name());
+            expect!(written == image, "{}: the empty image is {}", card.name(), to_hex(&written));
+        }
+        Ok(Compare { cards, machine: Machine::default(), image, seed })
+    }
+
+    /// Judges a record everywhere and compares all that the paper determines.
+    pub fn step(&mut self, bytes: &[u8], tally: &mut Tally) -> Result<Verdict, Difference> {
+        let verdict = judge_alike(self.cards, &mut self.machine, &mut self.image, bytes, &mut tally.pairs)?;
+        let mut random = Random::of_bytes(self.seed, &[&self.image, bytes].concat());
+        let before = self.image.clone();
+        self.check_alike()?;
+        self.read_out_alike(&mut random, tally)?;
+        self.aid_alike(bytes)?;
+        expect!(*black_box(&self.image) == before, "an image that was lent to be read is changed");
+        for n in 0..4 {
+            self.damaged_alike(n % 2 == 0, bytes, &mut random, tally)?;
+        }
+        self.count(tally);
+        Ok(verdict)
+    }
+
+    /// The image is sound for every engine, with as many packages as there are contracts.
+    fn check_alike(&self) -> Result<(), Difference> {
+        let expected = Verdict::new(0, self.machine.contracts.len() as u32);
+        for card in self.cards {
+            let verdict = card.check(&self.image);
+            expect!(verdict == expected, "{}: checking the image gives {verdict:?}", card.name());
+        }
+        Ok(())
+    }
+
+    /// Every number reads out as the contract that the machine holds, alike in every engine.
+    fn read_out_alike(&self, random: &mut Random, tally: &mut Tally) -> Result<(), Difference> {
+        for number in 0..8 {
+            let used = self.image[3] >> number & 1 == 1;
+            let first = self.read_out_one(self.cards[0], number, LONGEST_RECORD)?;
+            for card in &self.cards[1..] {
+                let other = self.read_out_one(*card, number, LONGEST_RECORD)?;
+                expect!(other == first, "{}: package {number} reads out as {}", card.name(), to_hex(&other));
+            }
+            tally.contracts_read += u64::from(used);
+            expect!(used != first.is_empty(), "package {number} reads out as {}", to_hex(&first));
+        }
+        let number = random.below(8) as u32;
+        let whole = self.read_out_one(self.cards[0], number, LONGEST_RECORD)?;
+        let unused = [8, 9, 255, 256 + number, 65_536 + number, u32::MAX][random.below(6)];
+        for card in self.cards {
+            let exact = self.read_out_one(*card, number, whole.len())?;
+            expect!(exact == whole, "{}: package {number} reads out into {} bytes", card.name(), whole.len());
+            self.read_out_one(*card, unused, LONGEST_RECORD)?;
+            if !whole.is_empty() {
+                let shorter = random.below(whole.len());
+                for size in [whole.len() - 1, shorter] {
+                    let mut buffer = FILL[..size].to_vec();
+                    let verdict = card.read_out(&self.image, number, &mut buffer);
+                    let refused = verdict == Verdict::new(12, 0) && buffer == FILL[..size];
+                    expect!(refused, "{}: reading {number} out into {size} bytes gives {verdict:?}", card.name());
+                }
+            }
+        }
+        Ok(())
+    }
+
+    /// The record that a number reads out as, into a buffer that is long enough; empty when the
+    /// number is not used.
+    fn read_out_one(&self, card: &dyn Card, number: u32, size: usize) -> Result<Vec<u8>, Difference> {
+        let mut buffer = FILL[..size].to_vec();
+        let verdict = card.read_out(&self.image, number, &mut buffer);
+        let place = || format!("{}: reading {number} out gives {verdict:?}", card.name());
+        let Some(aid) = tables::aid_at(&self.image, number) else {
+            expect!(verdict == Verdict::new(5, 0) && buffer == FILL[..size], "{}, not 5", place());
+            return Ok(Vec::new());
+        };
+        let length = verdict.second as usize;
+        expect!(verdict.answer == 0 && length <= size, "{}", place());
+        expect!(buffer[length..] == FILL[length..size], "{} and writes past the record", place());
+        buffer.truncate(length);
+        let Some(read) = record::read(&buffer) else {
+            return Err(format!("{} and a malformed record {}", place(), to_hex(&buffer)));
+        };
+        let Change::Load(lists) = &read.change else {
+            return Err(format!("{} and another kind of record {}", place(), to_hex(&buffer)));
+        };
+        let same = self.machine.contracts.get(&aid).is_some_and(|contract| lists_are(lists, contract));
+        expect!(same && read.aid == aid, "{} and another contract {}", place(), to_hex(&buffer));
+        Ok(buffer)
+    }
+
+    /// The first AID's part of the record is where the machine reads it, or empty.
+    fn aid_alike(&self, bytes: &[u8]) -> Result<(), Difference> {
+        let read = record::read(bytes);
+        for card in self.cards {
+            let part = card.aid(bytes);
+            let same = match &read {
+                Some(read) => part == read.aid.bytes() && std::ptr::eq(part.as_ptr(), &bytes[5]),
+                None => part.is_empty(),
+            };
+            expect!(same, "{}: the AID's part of the record is {}", card.name(), to_hex(part));
+        }
+        Ok(())
+    }
+
+    /// Engines agree on a damaged image, with the tests' own reader and with the machine.
+    fn damaged_alike(&self, one: bool, bytes: &[u8], random: &mut Random, tally: &mut Tally) -> Result<(), Difference> {
+        let mut image = self.image.clone();
+        match one {
+            true => damage::one_byte(&mut image, random),
+            false => damage::two_bytes(&mut image, random),
+        }
+        let damaged = |difference| {
+            let places = (0..IMAGE).filter(|at| image[*at] != self.image[*at]);
+            let places: Vec<String> = places.map(|at| format!("byte {at} = {:02X}", image[at])).collect();
+            format!("on the image with {}: {difference}", places.join(" and "))
+        };
+        match tables::contracts(&image) {
+            Some(machine) => {
+                tally.damaged_sound += 1;
+                let mut damaged_card = Compare { cards: self.cards, machine, image: image.clone(), seed: self.seed };
+                let Compare { machine, image, .. } = &mut damaged_card;
+                judge_alike(self.cards, machine, image, bytes, &mut tally.pairs).map_err(damaged)?;
+                damaged_card.check_alike().map_err(damaged)
+            }
+            None => {
+                tally.damaged_unsound += 1;
+                tally.pairs.count(Kind::of(bytes), 1);
+                self.cards.iter().try_for_each(|card| unsound(*card, &image, bytes)).map_err(damaged)
+            }
+        }
+    }
+
+    fn count(&self, tally: &mut Tally) {
+        tally.records += 1;
+        let (unmet, waiting) = (self.machine.unmet().count(), self.machine.waiting().count());
+        for (n, count) in [15, 16].into_iter().enumerate() {
+            tally.unmet[n] += u64::from(unmet == count);
+            tally.waiting[n] += u64::from(waiting == count);
+        }
+        let contracts = &self.machine.contracts;
+        tally.eight_packages += u64::from(contracts.len() == 8);
+        tally.eight_services += u64::from(contracts.values().any(|contract| contract.provides.len() == 8));
+    }
+}
+
+/// Judges a record on a sound image. Answers are equal, other engines give what the first gives to
+/// the byte, a refusal changes nothing, and the tables stand for the machine's contracts.
+fn judge_alike(
+    cards: &[&dyn Card],
+    machine: &mut Machine,
+    image: &mut Vec<u8>,
+    bytes: &[u8],
+    pairs: &mut Pairs,
+) -> Result<Verdict, Difference> {
+    let before = image.clone();
+    let answer = machine.judge(bytes);
+    let kind = Kind::of(bytes);
+    pairs.count(kind, answer);
+    expect!(possible(kind, answer), "the paper has no answer {answer} to kind {kind}");
+    let mut first = None;
+    for card in cards {
+        let (mut own, lent) = (before.clone(), bytes.to_vec());
+        let verdict = card.judge(&mut own, &lent);
+        let place = || format!("{}: judging gives {verdict:?}", card.name());
+        expect!(*black_box(&lent) == *bytes, "{} and changes the record", place());
+        expect!(verdict.answer == answer, "{}, the machine {answer}", place());
+        match &first {
+            None => {
+                *image = own;
+                first = Some(verdict);
+            }
+            Some(first) => {
+                expect!(verdict == *first, "{}, {} {first:?}", place(), cards[0].name());
+                let at = (0..IMAGE).find(|at| own[*at] != image[*at]);
+                expect!(at.is_none(), "{} and another byte {} than {}", place(), at.unwrap_or(0), cards[0].name());
+            }
+        }
+    }
+    let verdict = first.ok_or("no engine")?;
+    if answer == 0 {
+        let named = record::read(bytes).map(|record| record.aid);
+        let numbered = if kind == Kind::Known(2) { &before } else { &*image };
+        expect!(tables::aid_at(numbered, verdict.second) == named, "{verdict:?} has not the package's number");
+    } else {
+        expect!(verdict.second == 255, "{verdict:?} is a refusal without 255");
+        expect!(*image == before, "{verdict:?} is a refusal that changes the image");
+    }
+    let stands_for = tables::contracts(image);
+    expect!(stands_for.is_some(), "the image is not sound after {verdict:?}");
+    expect!(stands_for.as_ref() == Some(machine), "the image stands for other contracts after {verdict:?}");
+    Ok(verdict)
+}
+
+/// Whether the lists have the rows of the contract, each once.
+fn lists_are(lists: &Lists, contract: &Contract) -> bool {
+    fn same<T: Ord + Copy>(list: &[T], set: &BTreeSet<T>) -> bool {
+        let mut sorted = list.to_vec();
+        sorted.sort();
+        sorted.iter().eq(set)
+    }
+    same(&lists.provides, &contract.provides)
+        && same(&lists.calls, &contract.calls)
+        && same(&lists.grants, &contract.grants)
+        && same(&lists.needs, &contract.needs)
+}
+
+/// An image that is not sound is refused by every entry and left as it was.
+fn unsound(card: &dyn Card, image: &[u8], bytes: &[u8]) -> Result<(), Difference> {
+    let name = card.name();
+    let checked = card.check(image);
+    expect!(checked == Verdict::new(1, 255), "{name}: checking the unsound image gives {checked:?}");
+    let mut own = image.to_vec();
+    let judged = card.judge(&mut own, bytes);
+    expect!(judged == Verdict::new(1, 255) && own == image, "{name}: judging on the unsound image gives {judged:?}");
+    let mut buffer = [0xA5; 64];
+    let read = card.read_out(image, 0, &mut buffer);
+    expect!(read == Verdict::new(1, 0) && buffer == [0xA5; 64], "{name}: reading the unsound image out gives {read:?}");
+    Ok(())
+}
+
+/// Images, buffers and records of lengths that no card and no record has.
+pub fn lengths_alike(cards: &[&dyn Card]) -> Result<(), Difference> {
+    let removal = [0, 10, 1, 2, 5, 0xF0, 0, 0, 0, 1];
+    for card in cards {
+        let name = card.name();
+        for length in [0, 1, 3, 4, IMAGE - 1, IMAGE + 1, 2 * IMAGE, 65_536 + IMAGE] {
+            let mut image = vec![0; length];
+            let header = [0x04, 0x46, 0x01];
+            image[..length.min(3)].copy_from_slice(&header[..length.min(3)]);
+            unsound(*card, &image, &removal).map_err(|difference| format!("{length} bytes: {difference}"))?;
+            let mut buffer = vec![0xA5; length];
+            let written = card.empty(&mut buffer);
+            let left = buffer == vec![0xA5; length];
+            expect!(written == Verdict::new(1, 255) && left, "{name}: empty image into {length} bytes: {written:?}");
+        }
+        let mut image = vec![0; IMAGE];
+        card.empty(&mut image);
+        for length in [removal.len(), 65_536 + removal.len()] {
+            let mut record = vec![0; length];
+            record[..removal.len()].copy_from_slice(&removal);
+            let expected = if length == removal.len() { 5 } else { 2 };
+            let judged = card.judge(&mut image, &record);
+            expect!(judged == Verdict::new(expected, 255), "{name}: a record of {length} bytes: {judged:?}");
+            let part = card.aid(&record).len();
+            expect!(part == if expected == 5 { 5 } else { 0 }, "{name}: the AID of {length} bytes has {part}");
+        }
+    }
+    Ok(())
+}

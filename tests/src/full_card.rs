@@ -1,0 +1,135 @@
+//! A nearly full card to time records on: 8 packages, each naming services of the others, and
+//! 15 rows in each list. AIDs have 16 bytes and differ at the end.
+
+use crate::card::{Bytes, Card, IMAGE};
+use crate::write::{add_service, load, remove, remove_service, update, Row, Tokens};
+
+/// The package that kinds 1 and 2 load and remove.
+const LAST: u8 = 7;
+/// Called by every package that is granted it, and needed.
+const NEEDED: Tokens = (0, 0);
+const CALLED: Tokens = (0, 2);
+/// Called by package 1 alone, and needed by none.
+const LONELY: Tokens = (0, 6);
+/// Not provided by package 0, but called by package 1.
+const WISHED: Tokens = (9, 9);
+
+/// A record that the card accepts, and the image to judge it on.
+pub struct Timed {
+    pub kind: u8,
+    pub name: &'static str,
+    /// The operations that the report's Table 8 counts for it.
+    pub operations: u32,
+    pub image: Vec<u8>,
+    pub record: Vec<u8>,
+}
+
+/// One record of each kind. A load is judged on the card without its last package; each other
+/// record on the whole card. Kinds 5 to 8 change a list's end or its first row.
+pub fn timed() -> Vec<Timed> {
+    let before = card_without_last();
+    let mut full = before.clone();
+    assert_eq!(Bytes.judge(&mut full, &load_last()).answer, 0);
+    let (own, next) = (package(0), package(1));
+    let callers: Vec<Vec<u8>> = (1..8).map(package).chain([stranger(99)]).collect();
+    let on_full = |kind, name, operations, record| Timed { kind, name, operations, image: full.clone(), record };
+    vec![
+        Timed { kind: 1, name: "load", operations: 7032, image: before, record: load_last() },
+        on_full(2, "remove", 9554, remove(&package(LAST))),
+        on_full(3, "add service", 117, add_service(&own, WISHED, &callers)),
+        on_full(4, "remove service", 508, remove_service(&own, LONELY)),
+        on_full(5, "add call", 76, update(5, &own, &stranger(98), NEEDED)),
+        on_full(6, "remove call", 70, update(6, &own, &stranger(0), NEEDED)),
+        on_full(7, "add grant", 61, update(7, &own, &stranger(99), NEEDED)),
+        on_full(8, "remove grant", 66, update(8, &own, &stranger(10), NEEDED)),
+        on_full(9, "add need", 23, update(9, &own, &next, CALLED)),
+        on_full(10, "remove need", 4, update(10, &own, &next, NEEDED)),
+    ]
+}
+
+fn package(number: u8) -> Vec<u8> {
+    [vec![0xF0; 15], vec![number]].concat()
+}
+
+/// An AID that is not installed.
+fn stranger(number: u8) -> Vec<u8> {
+    [vec![0xEE; 15], vec![number]].concat()
+}
+
+/// Seven services each, tokens 0, 0 to 0, 6.
+fn services() -> Vec<Tokens> {
+    (0..7).map(|method| (0, method)).collect()
+}
+
+/// The card with packages 0 to 6. Each grants six services to each other, calls four and needs two;
+/// it calls a service of the last package, which is unmet, and grants that package one of its own,
+/// which waits. Eight more rows in each list stay when the last package comes.
+fn card_without_last() -> Vec<u8> {
+    let each = || 0..LAST;
+    let pairs = || each().flat_map(move |own| each().filter(move |other| *other != own).map(move |other| (own, other)));
+    let mut records: Vec<Vec<u8>> = each().map(|own| load(&package(own), &services(), &[], &[], &[])).collect();
+    for (kind, methods) in [(7, 6), (5, 4), (9, 2)] {
+        for (own, other) in pairs() {
+            records.extend((0..methods).map(|method| update(kind, &package(own), &package(other), (0, method))));
+        }
+    }
+    records.push(update(7, &package(0), &package(1), LONELY));
+    records.push(update(5, &package(1), &package(0), LONELY));
+
+    records.extend(each().map(|own| update(5, &package(own), &stranger(own), NEEDED)));
+    records.extend(each().map(|own| update(5, &package(own), &package(LAST), NEEDED)));
+    records.push(update(5, &package(1), &package(0), WISHED));
+
+    records.extend(each().map(|own| update(7, &package(own), &stranger(10 + own), NEEDED)));
+    records.extend(each().map(|own| update(7, &package(own), &package(LAST), NEEDED)));
+    records.push(update(7, &package(0), &stranger(10), LONELY));
+
+    let mut image = vec![0; IMAGE];
+    Bytes.empty(&mut image);
+    for record in records {
+        assert_eq!(Bytes.judge(&mut image, &record).answer, 0);
+    }
+    image
+}
+
+/// The last package: a call met and one unmet, a grant used and one waiting, for each other one.
+fn load_last() -> Vec<u8> {
+    let rows = |strangers: u8| -> Vec<Row> {
+        let others = (0..LAST).map(|other| (package(other), NEEDED));
+        others.chain((0..LAST).map(|n| (stranger(strangers + n), NEEDED))).collect()
+    };
+    let (calls, grants) = (rows(20), rows(30));
+    load(&package(LAST), &services(), &calls, &grants, &calls[..usize::from(LAST)])
+}
+
+#[cfg(test)]
+mod tests {
+    use super::*;
+    use crate::card::linked;
+    use crate::tables;
+
+    #[test]
+    fn the_card_is_nearly_full() {
+        for timed in timed() {
+            let image = &timed.image;
+            let packages = if timed.kind == 1 { 7 } else { 8 };
+            assert_eq!((image[3].count_ones(), image[468], image[789]), (packages, 15, 15));
+            let card = tables::contracts(image).expect("a sound image");
+            for (aid, contract) in &card.contracts {
+                let others = card.contracts.keys().filter(|other| *other != aid);
+                let names = |other| contract.calls.iter().chain(&contract.grants).any(|row| row.other == other);
+                assert!(others.copied().all(names), "{aid:?} names every other package");
+            }
+        }
+    }
+
+    #[test]
+    fn every_record_is_accepted() {
+        for (timed, kind) in timed().into_iter().zip(1..) {
+            assert_eq!((timed.kind, timed.record[3]), (kind, kind));
+            for card in linked() {
+                assert_eq!(card.judge(&mut timed.image.clone(), &timed.record).answer, 0, "{}", timed.name);
+            }
+        }
+    }
+}

@@ -1,0 +1,146 @@
+//! Random histories. A history has few AIDs and tokens, so that packages name each other; most
+//! records fit the contracts held, some name things at random, and some are spoiled.
+
+mod fit;
+mod loose;
+mod spoil;
+
+use crate::machine::{Aid, Machine, Tokens};
+use crate::random::Random;
+use crate::write;
+
+/// Where a history is driven to.
+#[derive(Clone, Copy, PartialEq, Eq)]
+enum Drive {
+    /// Nowhere: rows of every sort.
+    Mixed,
+    /// Lists at 15, 16 and past them.
+    Lists,
+    /// Eight packages, with few rows each.
+    Packages,
+    /// Eight services in a package.
+    Services,
+}
+
+/// The source of one history's records.
+pub struct Source {
+    random: Random,
+    drive: Drive,
+    aids: Vec<Aid>,
+    tokens: Vec<Tokens>,
+}
+
+impl Source {
+    /// The history with this ordinal of the run with this seed.
+    pub fn new(seed: u64, ordinal: u64) -> Source {
+        let mut random = Random::new(seed.wrapping_mul(0x1000_0000_01B3).wrapping_add(ordinal));
+        let drives = [Drive::Mixed, Drive::Lists, Drive::Packages, Drive::Services];
+        let drive = drives[random.below(drives.len())];
+        let (aids, tokens) = (few_aids(&mut random), few_tokens(&mut random));
+        Source { random, drive, aids, tokens }
+    }
+
+    /// How many records the history has.
+    pub fn length(&mut self) -> usize {
+        self.random.between(20, 300)
+    }
+
+    /// The next record, aimed at the contracts held.
+    pub fn record(&mut self, held: &Machine) -> Vec<u8> {
+        match self.random.below(100) {
+            0..=1 => spoil::noise(&mut self.random),
+            2..=9 => {
+                let good = self.good_record(held);
+                spoil::spoiled(good, &mut self.random)
+            }
+            10 => self.long_record(),
+            _ => self.good_record(held),
+        }
+    }
+
+    fn good_record(&mut self, held: &Machine) -> Vec<u8> {
+        let kind = self.kind(held.contracts.len());
+        match self.random.percent(85) {
+            true => self.fit(kind, held).unwrap_or_else(|| self.loose(kind)),
+            false => self.loose(kind),
+        }
+    }
+
+    /// Loads first; then every kind, more of what the history is driven to.
+    fn kind(&mut self, packages: usize) -> u8 {
+        let wanted = if self.drive == Drive::Packages { 7 } else { 3 };
+        if packages < wanted && self.random.percent(60) {
+            return 1;
+        }
+        let weights: [usize; 10] = match self.drive {
+            Drive::Mixed => [15, 7, 10, 8, 14, 8, 14, 8, 9, 7],
+            Drive::Lists => [12, 6, 8, 8, 24, 4, 24, 4, 6, 4],
+            Drive::Packages => [20, 5, 8, 6, 16, 8, 16, 8, 8, 5],
+            Drive::Services => [12, 4, 34, 4, 12, 6, 12, 6, 6, 4],
+        };
+        let mut left = self.random.below(weights.iter().sum());
+        for (kind, weight) in (1..).zip(weights) {
+            if left < weight {
+                return kind;
+            }
+            left -= weight;
+        }
+        unreachable!("the weights sum to more than is left")
+    }
+
+    fn aid(&mut self) -> Aid {
+        self.aids[self.random.below(self.aids.len())]
+    }
+
+    fn tokens(&mut self) -> Tokens {
+        self.tokens[self.random.below(self.tokens.len())]
+    }
+
+    /// Any AID, as its bytes.
+    fn bytes(&mut self) -> Vec<u8> {
+        self.aid().bytes().to_vec()
+    }
+
+    /// Any row.
+    fn row(&mut self) -> write::Row {
+        (self.bytes(), pair(self.tokens()))
+    }
+}
+
+fn pair(tokens: Tokens) -> write::Tokens {
+    (tokens.interface, tokens.method)
+}
+
+/// Eleven AIDs of 5 to 16 bytes: three more than a card has packages. Some begin alike, and some
+/// differ only in zeros at the end, which a table's fill must not blur.
+fn few_aids(random: &mut Random) -> Vec<Aid> {
+    let mut aids: Vec<Aid> = Vec::new();
+    while aids.len() < 11 {
+        let mut aid = match random.pick(&aids) {
+            Some(like) if random.percent(50) => like.bytes().to_vec(),
+            _ => vec![0xF0, 0, 0, 0, random.byte()],
+        };
+        let length = if random.percent(30) { [5, 16][random.below(2)] } else { random.between(5, 16) };
+        aid.resize(length, 0);
+        if random.percent(40) {
+            aid[length - 1] = random.byte();
+        }
+        let aid = Aid::new(&aid);
+        if !aids.contains(&aid) {
+            aids.push(aid);
+        }
+    }
+    aids
+}
+
+/// Ten token pairs: two more than a package has services.
+fn few_tokens(random: &mut Random) -> Vec<Tokens> {
+    let mut tokens = vec![Tokens { interface: 0, method: 0 }, Tokens { interface: 255, method: 255 }];
+    while tokens.len() < 10 {
+        let any = Tokens { interface: random.below(3) as u8, method: random.below(5) as u8 };
+        if !tokens.contains(&any) {
+            tokens.push(any);
+        }
+    }
+    tokens
+}

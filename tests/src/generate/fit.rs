@@ -1,0 +1,197 @@
+//! Records that fit the contracts held: most are accepted, or fail on one of the causes 7 to 11.
+
+use super::{pair, Drive, Source};
+use crate::machine::{Aid, Contract, Machine, Row, Tokens};
+use crate::write;
+
+impl Source {
+    /// `None` when the contracts held leave nothing that fits.
+    pub(super) fn fit(&mut self, kind: u8, held: &Machine) -> Option<Vec<u8>> {
+        match kind {
+            1 => self.fit_load(held),
+            2 => Some(write::remove(self.installed(held, |_| true)?.0.bytes())),
+            3 => self.fit_new_service(held),
+            4 => {
+                let (own, contract) = self.installed(held, |contract| !contract.provides.is_empty())?;
+                let services: Vec<Tokens> = contract.provides.iter().copied().collect();
+                Some(write::remove_service(own.bytes(), pair(*self.random.pick(&services)?)))
+            }
+            5 => self.fit_new_call(held),
+            6 => self.fit_old_row(6, held, |contract| contract.calls.iter().collect()),
+            7 => self.fit_new_grant(held),
+            8 => self.fit_old_row(8, held, |contract| contract.grants.iter().collect()),
+            9 => {
+                let met = self.random.percent(80);
+                self.fit_old_row(9, held, |contract| {
+                    contract.calls.difference(&contract.needs).filter(|call| held.met(call) == met).collect()
+                })
+            }
+            10 => self.fit_old_row(10, held, |contract| contract.needs.iter().collect()),
+            _ => None,
+        }
+    }
+
+    /// A package that is installed and suits.
+    fn installed<'m>(&mut self, held: &'m Machine, suits: impl Fn(&Contract) -> bool) -> Option<(Aid, &'m Contract)> {
+        let suiting: Vec<_> = held.contracts.iter().filter(|(_, contract)| suits(contract)).collect();
+        self.random.pick(&suiting).map(|(aid, contract)| (**aid, *contract))
+    }
+
+    /// Kinds 6 and 8 to 10 on one of some rows that a contract has.
+    fn fit_old_row(&mut self, kind: u8, held: &Machine, rows: impl Fn(&Contract) -> Vec<&Row>) -> Option<Vec<u8>> {
+        let (own, contract) = self.installed(held, |contract| !rows(contract).is_empty())?;
+        let rows = rows(contract);
+        let row = self.random.pick(&rows)?;
+        Some(write::update(kind, own.bytes(), row.other.bytes(), pair(row.tokens)))
+    }
+
+    fn fit_load(&mut self, held: &Machine) -> Option<Vec<u8>> {
+        let absent = self.not_installed(held);
+        let own = *self.random.pick(&absent)?;
+        let most = if self.random.percent(20) { 8 } else { 3 };
+        let mut services = self.tokens.clone();
+        self.random.shuffle(&mut services);
+        services.truncate(self.random.between(0, most));
+
+        let fits = |call: &Row| call.other == own && services.contains(&call.tokens);
+        let met_now: Vec<(&Aid, &Row)> = held.unmet().filter(|(_, call)| fits(call)).collect();
+        let unmet = held.unmet().count() - met_now.len();
+        let calls = self.load_calls(own, held, unmet);
+        let needs = self.some(&calls, |call| if held.met(call) { 20 } else { 1 });
+        let mut grants: Vec<Row> = Vec::new();
+        for (caller, call) in met_now {
+            if self.random.percent(97) {
+                grants.push(Row { other: *caller, tokens: call.tokens });
+            }
+        }
+        let waiting = held.waiting().filter(|(_, grant)| grant.other != own).count();
+        grants.extend(self.load_grants(own, &services, held, waiting));
+        grants.sort();
+        grants.dedup();
+        self.random.shuffle(&mut grants);
+
+        let services: Vec<_> = services.into_iter().map(pair).collect();
+        Some(write::load(own.bytes(), &services, &written(&calls), &written(&grants), &written(&needs)))
+    }
+
+    /// Calls on what is granted to the package, seldom on what is not, and some unmet ones.
+    fn load_calls(&mut self, own: Aid, held: &Machine, unmet: usize) -> Vec<Row> {
+        let on_card = services_of(held, own);
+        let mut calls = self.some(&on_card, |call| if held.granted(own, call) { 60 } else { 1 });
+        let mut absent = self.absent_services(held, own);
+        self.random.shuffle(&mut absent);
+        absent.truncate(self.rows_more(unmet).min(72 - calls.len()));
+        calls.extend(absent);
+        self.random.shuffle(&mut calls);
+        calls
+    }
+
+    /// Grants to packages on the card, and some that wait.
+    fn load_grants(&mut self, own: Aid, services: &[Tokens], held: &Machine, waiting: usize) -> Vec<Row> {
+        let (mut here, mut absent) = (Vec::new(), Vec::new());
+        for other in self.aids.iter().filter(|other| **other != own) {
+            let rows = services.iter().map(|tokens| Row { other: *other, tokens: *tokens });
+            match held.contracts.contains_key(other) {
+                true => here.extend(rows),
+                false => absent.extend(rows),
+            }
+        }
+        let mut grants = self.some(&here, |_| 40);
+        self.random.shuffle(&mut absent);
+        absent.truncate(self.rows_more(waiting).min(16));
+        grants.extend(absent);
+        grants
+    }
+
+    /// How many rows to add to a list that has `now`: a few, or up to 15, 16 or 17 of them.
+    fn rows_more(&mut self, now: usize) -> usize {
+        let to_the_limit = match self.drive {
+            Drive::Lists => 40,
+            Drive::Mixed => 10,
+            Drive::Packages | Drive::Services => 3,
+        };
+        match self.random.percent(to_the_limit) {
+            true => self.random.between(15, 17).saturating_sub(now),
+            false => self.random.between(0, 3).min(17usize.saturating_sub(now)),
+        }
+    }
+
+    fn fit_new_service(&mut self, held: &Machine) -> Option<Vec<u8>> {
+        let (own, contract) = self.installed(held, |_| true)?;
+        let new: Vec<Tokens> =
+            self.tokens.iter().filter(|tokens| !contract.provides.contains(tokens)).copied().collect();
+        let tokens = *self.random.pick(&new)?;
+        let called = Row { other: own, tokens };
+        let mut callers: Vec<Aid> = Vec::new();
+        for (caller, call) in held.unmet() {
+            if *call == called && self.random.percent(80) {
+                callers.push(*caller);
+            }
+        }
+        for _ in 0..self.random.between(0, 4) {
+            let other = self.aid();
+            if other != own && !callers.contains(&other) {
+                callers.push(other);
+            }
+        }
+        self.random.shuffle(&mut callers);
+        let callers: Vec<_> = callers.iter().map(|caller| caller.bytes().to_vec()).collect();
+        Some(write::add_service(own.bytes(), pair(tokens), &callers))
+    }
+
+    /// A call that is granted, one that is not, or an unmet one.
+    fn fit_new_call(&mut self, held: &Machine) -> Option<Vec<u8>> {
+        let (own, contract) = self.installed(held, |_| true)?;
+        let new = |row: &Row| !contract.calls.contains(row);
+        let unmet = self.random.percent(if self.drive == Drive::Lists { 75 } else { 40 });
+        let rows: Vec<Row> = if unmet {
+            self.absent_services(held, own).into_iter().filter(new).collect()
+        } else {
+            let granted = self.random.percent(85);
+            services_of(held, own).into_iter().filter(|row| new(row) && held.granted(own, row) == granted).collect()
+        };
+        let row = self.random.pick(&rows)?;
+        Some(write::update(5, own.bytes(), row.other.bytes(), pair(row.tokens)))
+    }
+
+    /// A grant to a package on the card, or one that waits.
+    fn fit_new_grant(&mut self, held: &Machine) -> Option<Vec<u8>> {
+        let (own, contract) = self.installed(held, |contract| !contract.provides.is_empty())?;
+        let waits = self.random.percent(if self.drive == Drive::Lists { 70 } else { 30 });
+        let mut rows = Vec::new();
+        for other in self.aids.iter().filter(|other| **other != own && held.contracts.contains_key(*other) != waits) {
+            rows.extend(contract.provides.iter().map(|tokens| Row { other: *other, tokens: *tokens }));
+        }
+        rows.retain(|row| !contract.grants.contains(row));
+        let row = self.random.pick(&rows)?;
+        Some(write::update(7, own.bytes(), row.other.bytes(), pair(row.tokens)))
+    }
+
+    fn not_installed(&self, held: &Machine) -> Vec<Aid> {
+        self.aids.iter().filter(|aid| !held.contracts.contains_key(*aid)).copied().collect()
+    }
+
+    /// Services of others that nobody on the card provides.
+    fn absent_services(&self, held: &Machine, own: Aid) -> Vec<Row> {
+        let others = self.aids.iter().filter(|other| **other != own);
+        let rows = others.flat_map(|other| self.tokens.iter().map(|tokens| Row { other: *other, tokens: *tokens }));
+        rows.filter(|row| !held.met(row)).collect()
+    }
+
+    /// Each of the rows with its chance in a hundred.
+    fn some(&mut self, rows: &[Row], chance: impl Fn(&Row) -> usize) -> Vec<Row> {
+        rows.iter().filter(|row| self.random.percent(chance(row))).copied().collect()
+    }
+}
+
+/// The services that packages other than `own` provide on the card.
+fn services_of(held: &Machine, own: Aid) -> Vec<Row> {
+    let others = held.contracts.iter().filter(|(aid, _)| **aid != own);
+    others
+        .flat_map(|(aid, contract)| contract.provides.iter().map(|tokens| Row { other: *aid, tokens: *tokens }))
+        .collect()
+}
+
+fn written(rows: &[Row]) -> Vec<write::Row> {
+    rows.iter().map(|row| (row.other.bytes().to_vec(), pair(row.tokens))).collect()
+}

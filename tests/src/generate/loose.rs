@@ -1,0 +1,59 @@
+//! Well formed records that name things at random, whatever the card holds.
+
+use super::{pair, Source};
+use crate::write;
+
+impl Source {
+    pub(super) fn loose(&mut self, kind: u8) -> Vec<u8> {
+        let own = &self.bytes();
+        match kind {
+            1 => {
+                let provides: Vec<_> = (0..self.random.between(0, 3)).map(|_| pair(self.tokens())).collect();
+                let calls = self.few_rows();
+                let grants = match provides.first() {
+                    Some(service) if self.random.percent(70) => vec![(self.bytes(), *service)],
+                    _ => self.few_rows(),
+                };
+                let needs = match calls.first() {
+                    Some(call) if self.random.percent(70) => vec![call.clone()],
+                    _ => self.few_rows(),
+                };
+                write::load(own, &provides, &calls, &grants, &needs)
+            }
+            2 => write::remove(own),
+            3 => {
+                let callers: Vec<_> = (0..self.random.between(0, 3)).map(|_| self.bytes()).collect();
+                write::add_service(own, pair(self.tokens()), &callers)
+            }
+            4 => write::remove_service(own, pair(self.tokens())),
+            _ => write::update(kind, own, &self.bytes(), pair(self.tokens())),
+        }
+    }
+
+    fn few_rows(&mut self) -> Vec<write::Row> {
+        (0..self.random.between(0, 2)).map(|_| self.row()).collect()
+    }
+
+    /// A record with lists as long as they may be, or one row longer.
+    pub(super) fn long_record(&mut self) -> Vec<u8> {
+        let own = self.bytes();
+        let mut aid = vec![0xEE; self.random.between(5, 16)];
+        let mut next = |n: usize| {
+            aid[0] = n as u8;
+            aid.clone()
+        };
+        let [services, callers, calls, grants, needs] = [8, 32, 72, 72, 72].map(|most| match self.random.below(8) {
+            0 => most + 1,
+            1..=3 => self.random.below(most),
+            _ => most,
+        });
+        if self.random.percent(30) {
+            let callers: Vec<_> = (0..callers).map(&mut next).collect();
+            return write::add_service(&own, pair(self.tokens()), &callers);
+        }
+        let mut provides: Vec<_> = self.tokens.iter().copied().map(pair).collect();
+        provides.truncate(services);
+        let rows: Vec<_> = (0..73).map(|n| (next(n), provides.first().copied().unwrap_or((0, 0)))).collect();
+        write::load(&own, &provides, &rows[..calls], &rows[..grants], &rows[..needs])
+    }
+}

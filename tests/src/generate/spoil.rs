@@ -1,0 +1,71 @@
+//! Damaged, truncated and random records.
+
+use crate::random::Random;
+use crate::write::set_length;
+
+/// Random bytes, half of them behind a right length, version and kind.
+pub fn noise(random: &mut Random) -> Vec<u8> {
+    let mut record: Vec<u8> = (0..random.below(48)).map(|_| random.byte()).collect();
+    if record.len() >= 4 && random.percent(50) {
+        record[2] = 1;
+        record[3] = random.between(1, 10) as u8;
+        set_length(&mut record);
+    }
+    record
+}
+
+/// A record with something about it changed.
+pub fn spoiled(mut record: Vec<u8>, random: &mut Random) -> Vec<u8> {
+    match random.below(9) {
+        0..=2 => {
+            let at = random.below(record.len());
+            record[at] = changed(record[at], random);
+        }
+        // The first four bytes, the first AID's length and what follows it.
+        3 => {
+            let at = random.below(record.len().min(6));
+            record[at] = changed(record[at], random);
+        }
+        4 | 5 => {
+            record.truncate(random.below(record.len()));
+            right_length(&mut record, random);
+        }
+        6 => {
+            record.extend((0..random.between(1, 20)).map(|_| if random.percent(50) { 0 } else { random.byte() }));
+            right_length(&mut record, random);
+        }
+        7 => {
+            let at = random.below(record.len());
+            record.remove(at);
+            right_length(&mut record, random);
+        }
+        _ => wrong_aid(&mut record, random),
+    }
+    record
+}
+
+/// An AID too short or too long, in a record that is right otherwise: the first one, or the one
+/// that follows it in kinds 5 to 10.
+fn wrong_aid(record: &mut Vec<u8>, random: &mut Random) {
+    let second = 5 + usize::from(record[4]);
+    let at = if record[3] >= 5 && random.percent(50) { second } else { 4 };
+    let (end, length) = (at + 1 + usize::from(record[at]), [0, 4, 17][random.below(3)]);
+    let aid = [vec![length], vec![0xF0; length.into()]].concat();
+    record.splice(at..end, aid);
+    set_length(record);
+}
+
+fn changed(byte: u8, random: &mut Random) -> u8 {
+    match random.below(3) {
+        0 => byte.wrapping_add(1),
+        1 => byte.wrapping_sub(1),
+        _ => random.byte(),
+    }
+}
+
+/// Mostly the length field is put right, so that what comes after it is looked at.
+fn right_length(record: &mut [u8], random: &mut Random) {
+    if record.len() >= 2 && random.percent(75) {
+        set_length(record);
+    }
+}

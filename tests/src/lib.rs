@@ -1,0 +1,30 @@
+//! A second engine, written from the paper alone, and what compares it with the proved engine.
+
+// The second engine, twice: `machine` and `bytes` share no code.
+pub mod bytes;
+pub mod machine;
+
+// The proved engine, and what makes engines alike for the comparison.
+pub mod card;
+#[cfg(feature = "engine")]
+pub mod engine;
+
+// The comparison.
+pub mod compare;
+pub mod damage;
+pub mod faults;
+pub mod generate;
+pub mod pairs;
+pub mod run;
+pub mod shrink;
+pub mod tables;
+
+// The cases of the paper and of the report.
+pub mod cases;
+
+// What is timed.
+pub mod full_card;
+
+pub mod hex;
+pub mod random;
+pub mod write;

@@ -1,0 +1,169 @@
+//! The plain machine: fed the records' bytes, it holds contracts in full AIDs and tokens and gives
+//! the answers 0 and 2 to 11. It shares no code with `bytes`.
+
+pub mod contract;
+pub mod record;
+
+pub use contract::{Aid, Contract, Row, Tokens};
+pub use record::{Change, Record};
+
+use std::collections::BTreeMap;
+
+const MOST_PACKAGES: usize = 8;
+const MOST_SERVICES: usize = 8;
+const MOST_UNMET: usize = 16;
+const MOST_WAITING: usize = 16;
+
+/// The contracts held, each under its AID; at first none.
+#[derive(Clone, Debug, Default, PartialEq, Eq)]
+pub struct Machine {
+    pub contracts: BTreeMap<Aid, Contract>,
+}
+
+impl Machine {
+    /// Judges a record and keeps its change if it is accepted. The answer is the first cause that
+    /// applies, or 0.
+    pub fn judge(&mut self, bytes: &[u8]) -> u32 {
+        let Some(record) = record::read(bytes) else { return 2 };
+        if record::contradicts(&record) {
+            return 3;
+        }
+        if let Some(cause) = self.cause_before(&record) {
+            return cause;
+        }
+        let after = self.changed(&record);
+        if let Some(cause) = after.cause_after() {
+            return cause;
+        }
+        *self = after;
+        0
+    }
+
+    /// Causes 4 to 7: the record against the contracts held.
+    fn cause_before(&self, record: &Record) -> Option<u32> {
+        let held = self.contracts.get(&record.aid);
+        if let Change::Load(_) = record.change {
+            return match held {
+                Some(_) => Some(4),
+                None if self.contracts.len() == MOST_PACKAGES => Some(7),
+                None => None,
+            };
+        }
+        let Some(contract) = held else { return Some(5) };
+        let pointless = match &record.change {
+            Change::Load(_) | Change::Remove => false,
+            Change::AddService(tokens, _) => contract.provides.contains(tokens),
+            Change::RemoveService(tokens) => !contract.provides.contains(tokens),
+            Change::AddCall(row) => contract.calls.contains(row),
+            Change::RemoveCall(row) => !contract.calls.contains(row),
+            Change::AddGrant(row) => contract.grants.contains(row) || !contract.provides.contains(&row.tokens),
+            Change::RemoveGrant(row) => !contract.grants.contains(row),
+            Change::AddNeed(row) => contract.needs.contains(row) || !contract.calls.contains(row),
+            Change::RemoveNeed(row) => !contract.needs.contains(row),
+        };
+        let full = matches!(record.change, Change::AddService(..)) && contract.provides.len() == MOST_SERVICES;
+        match (pointless, full) {
+            (true, _) => Some(6),
+            (false, true) => Some(7),
+            (false, false) => None,
+        }
+    }
+
+    /// The contracts after the record's change. No other contract than the named one changes.
+    fn changed(&self, record: &Record) -> Machine {
+        let mut after = self.clone();
+        match &record.change {
+            Change::Load(lists) => {
+                after.contracts.insert(record.aid, lists.contract());
+            }
+            Change::Remove => {
+                after.contracts.remove(&record.aid);
+            }
+            update => {
+                if let Some(contract) = after.contracts.get_mut(&record.aid) {
+                    change_contract(contract, update);
+                }
+            }
+        }
+        after
+    }
+
+    /// Causes 8 to 11: the contracts as they would be.
+    fn cause_after(&self) -> Option<u32> {
+        if self.calls().any(|(caller, call)| self.met(call) && !self.granted(*caller, call)) {
+            Some(8)
+        } else if self.contracts.values().flat_map(|contract| &contract.needs).any(|need| !self.met(need)) {
+            Some(9)
+        } else if self.unmet().count() > MOST_UNMET {
+            Some(10)
+        } else if self.waiting().count() > MOST_WAITING {
+            Some(11)
+        } else {
+            None
+        }
+    }
+
+    /// Every call on the card, after its caller.
+    fn calls(&self) -> impl Iterator<Item = (&Aid, &Row)> {
+        self.contracts.iter().flat_map(|(aid, contract)| contract.calls.iter().map(move |call| (aid, call)))
+    }
+
+    /// Whether the service that this row of calls or needs names is provided on the card.
+    pub fn met(&self, call: &Row) -> bool {
+        self.contracts.get(&call.other).is_some_and(|provider| provider.provides.contains(&call.tokens))
+    }
+
+    /// Whether the provider of this call grants it to the caller.
+    pub fn granted(&self, caller: Aid, call: &Row) -> bool {
+        self.contracts.get(&call.other).is_some_and(|provider| provider.grants_to(caller, call.tokens))
+    }
+
+    /// The calls whose service is not provided on the card, each after its caller.
+    pub fn unmet(&self) -> impl Iterator<Item = (&Aid, &Row)> {
+        self.calls().filter(|(_, call)| !self.met(call))
+    }
+
+    /// The grants whose caller is not installed, each after its provider.
+    pub fn waiting(&self) -> impl Iterator<Item = (&Aid, &Row)> {
+        self.contracts
+            .iter()
+            .flat_map(|(aid, contract)| contract.grants.iter().map(move |grant| (aid, grant)))
+            .filter(|(_, grant)| !self.contracts.contains_key(&grant.other))
+    }
+}
+
+/// Kinds 3 to 10 on the contract that they name.
+fn change_contract(contract: &mut Contract, change: &Change) {
+    match change {
+        Change::Load(_) | Change::Remove => {}
+        Change::AddService(tokens, callers) => {
+            contract.provides.insert(*tokens);
+            for caller in callers {
+                contract.grants.insert(Row { other: *caller, tokens: *tokens });
+            }
+        }
+        Change::RemoveService(tokens) => {
+            contract.provides.remove(tokens);
+            contract.grants.retain(|grant| grant.tokens != *tokens);
+        }
+        Change::AddCall(row) => {
+            contract.calls.insert(*row);
+        }
+        Change::RemoveCall(row) => {
+            contract.calls.remove(row);
+            contract.needs.remove(row);
+        }
+        Change::AddGrant(row) => {
+            contract.grants.insert(*row);
+        }
+        Change::RemoveGrant(row) => {
+            contract.grants.remove(row);
+        }
+        Change::AddNeed(row) => {
+            contract.needs.insert(*row);
+        }
+        Change::RemoveNeed(row) => {
+            contract.needs.remove(row);
+        }
+    }
+}

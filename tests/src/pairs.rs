@@ -1,0 +1,140 @@
+//! The pairs (kind, answer) that the paper makes possible, and a count of those seen.
+
+use std::collections::BTreeMap;
+use std::fmt;
+
+/// The fourth byte of a record, as far as the paper knows it.
+#[derive(Clone, Copy, Debug, PartialEq, Eq, PartialOrd, Ord)]
+pub enum Kind {
+    Known(u8),
+    /// 0, or above 10.
+    Unknown,
+    /// The record has fewer than four bytes.
+    Missing,
+}
+
+impl Kind {
+    pub fn of(record: &[u8]) -> Kind {
+        match record.get(3) {
+            Some(&kind @ 1..=10) => Kind::Known(kind),
+            Some(_) => Kind::Unknown,
+            None => Kind::Missing,
+        }
+    }
+}
+
+impl fmt::Display for Kind {
+    fn fmt(&self, f: &mut fmt::Formatter) -> fmt::Result {
+        match self {
+            Kind::Known(kind) => write!(f, "{kind}"),
+            Kind::Unknown => write!(f, "unknown"),
+            Kind::Missing => write!(f, "none"),
+        }
+    }
+}
+
+/// Each kind with the answers that judging a record of it can give.
+///
+/// For every kind: 1 on an image that is not sound, 2 for a record that cannot be read. 12 is for
+/// reading out alone. 3 needs a second AID or a list, which kinds 2 and 4 have not. 4 is for loads
+/// and 5 for all others. 6 is for updates, kinds 3 to 10. 7 is for what takes a number, kinds 1
+/// and 3. The card is lawful and within its limits before the change, so for 8 to 11 the change
+/// itself must be able to bring the cause about.
+pub const POSSIBLE: [(Kind, &[u32]); 12] = [
+    // A load can bring any of the four about.
+    (Kind::Known(1), &[0, 1, 2, 3, 4, 7, 8, 9, 10, 11]),
+    // Calls of others on the package become unmet (9, 10) and grants to it wait (11). The met
+    // calls that stay are those that were granted: no 8.
+    (Kind::Known(2), &[0, 1, 2, 5, 9, 10, 11]),
+    // Unmet calls on the service become met, so they need a grant (8) and are fewer (no 10); its
+    // grants may wait (11). No service goes: no 9.
+    (Kind::Known(3), &[0, 1, 2, 3, 5, 6, 7, 8, 11]),
+    // Calls on the service become unmet (9, 10). Its grants go, and waiting ones are fewer: no 11.
+    // No call on it is met any longer: no 8.
+    (Kind::Known(4), &[0, 1, 2, 5, 6, 9, 10]),
+    // The new call is met and may lack its grant (8), or it is unmet (10). Needs and grants stay.
+    (Kind::Known(5), &[0, 1, 2, 3, 5, 6, 8, 10]),
+    // A call goes, with its need: nothing can come about.
+    (Kind::Known(6), &[0, 1, 2, 3, 5, 6]),
+    // One more grant, which may wait (11). Calls and needs stay.
+    (Kind::Known(7), &[0, 1, 2, 3, 5, 6, 11]),
+    // A met call may lose its grant (8).
+    (Kind::Known(8), &[0, 1, 2, 3, 5, 6, 8]),
+    // The need may be on an unmet call (9). Calls and grants stay.
+    (Kind::Known(9), &[0, 1, 2, 3, 5, 6, 9]),
+    // A need goes: nothing can come about.
+    (Kind::Known(10), &[0, 1, 2, 3, 5, 6]),
+    (Kind::Unknown, &[1, 2]),
+    (Kind::Missing, &[1, 2]),
+];
+
+pub fn possible(kind: Kind, answer: u32) -> bool {
+    POSSIBLE.iter().any(|(known, answers)| *known == kind && answers.contains(&answer))
+}
+
+/// How often each pair was seen.
+#[derive(Default)]
+pub struct Pairs(BTreeMap<(Kind, u32), u64>);
+
+impl Pairs {
+    pub fn count(&mut self, kind: Kind, answer: u32) {
+        *self.0.entry((kind, answer)).or_default() += 1;
+    }
+
+    pub fn seen(&self, kind: Kind, answer: u32) -> u64 {
+        self.0.get(&(kind, answer)).copied().unwrap_or(0)
+    }
+
+    /// How many of the possible pairs were seen, and how many there are.
+    pub fn coverage(&self) -> (usize, usize) {
+        let all = POSSIBLE.iter().map(|(_, answers)| answers.len()).sum();
+        (all - self.missing().len(), all)
+    }
+
+    /// The possible pairs never seen.
+    pub fn missing(&self) -> Vec<(Kind, u32)> {
+        let all = POSSIBLE.iter().flat_map(|(kind, answers)| answers.iter().map(|answer| (*kind, *answer)));
+        all.filter(|(kind, answer)| self.seen(*kind, *answer) == 0).collect()
+    }
+}
+
+impl fmt::Display for Pairs {
+    /// A row for each kind and a column for each answer; `-` where the paper has no such pair.
+    fn fmt(&self, f: &mut fmt::Formatter) -> fmt::Result {
+        write!(f, "{:>8}", "kind")?;
+        (0..=11).try_for_each(|answer| write!(f, "{answer:>7}"))?;
+        for (kind, answers) in POSSIBLE {
+            write!(f, "\n{:>8}", kind.to_string())?;
+            for answer in 0..=11 {
+                match answers.contains(&answer) {
+                    true => write!(f, "{:>7}", self.seen(kind, answer))?,
+                    false => write!(f, "{:>7}", "-")?,
+                }
+            }
+        }
+        Ok(())
+    }
+}
+
+#[cfg(test)]
+mod tests {
+    use super::*;
+
+    #[test]
+    fn kinds_are_told_apart() {
+        assert_eq!(Kind::of(&[0, 4, 1, 10]), Kind::Known(10));
+        assert_eq!(Kind::of(&[0, 4, 1, 11]), Kind::Unknown);
+        assert_eq!(Kind::of(&[0, 4, 1, 0]), Kind::Unknown);
+        assert_eq!(Kind::of(&[0, 3, 1]), Kind::Missing);
+    }
+
+    #[test]
+    fn what_was_counted_is_not_missing() {
+        let mut pairs = Pairs::default();
+        assert_eq!(pairs.coverage(), (0, 78));
+        pairs.count(Kind::Known(2), 11);
+        assert_eq!(pairs.coverage(), (1, 78));
+        assert!(!pairs.missing().contains(&(Kind::Known(2), 11)));
+        assert!(possible(Kind::Known(2), 11) && !possible(Kind::Known(4), 11));
+    }
+}

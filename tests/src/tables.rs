@@ -1,0 +1,239 @@
+//! The tests' own reader of images: what the tables of a sound image stand for.
+//!
+//! It reads only the places where a sound image may have something and writes a new image from
+//! what it read. Where the two differ, something stands where nothing may.
+
+use crate::machine::{Aid, Contract, Machine, Row, Tokens};
+
+struct Tables {
+    packages: [Option<Package>; 8],
+    /// The bits set, in the order of `places`.
+    calls: Vec<Bit>,
+    grants: Vec<Bit>,
+    needs: Vec<Bit>,
+    unmet: Vec<Unmet>,
+    waiting: Vec<Waiting>,
+}
+
+struct Package {
+    aid: Aid,
+    services: [Option<Tokens>; 8],
+}
+
+#[derive(Clone, Copy, PartialEq, Eq, PartialOrd, Ord)]
+struct Bit {
+    callee: usize,
+    caller: usize,
+    service: usize,
+}
+
+#[derive(PartialEq, Eq, PartialOrd, Ord)]
+struct Unmet {
+    callee: Aid,
+    tokens: Tokens,
+    caller: usize,
+}
+
+#[derive(PartialEq, Eq, PartialOrd, Ord)]
+struct Waiting {
+    caller: Aid,
+    callee: usize,
+    service: usize,
+}
+
+/// The contracts that an image stands for; `None` when it is not sound.
+pub fn contracts(image: &[u8]) -> Option<Machine> {
+    let tables = Tables::read(image)?;
+    (tables.write() == image && tables.hold()).then(|| tables.machine())
+}
+
+/// The AID at a package number of a sound image; `None` when the number is not used.
+pub fn aid_at(image: &[u8], number: u32) -> Option<Aid> {
+    let used = number < 8 && bit(image[3], number as usize);
+    used.then(|| read_aid(&image[4 + 17 * number as usize..])).flatten()
+}
+
+impl Tables {
+    fn read(image: &[u8]) -> Option<Tables> {
+        if image.len() != 1094 {
+            return None;
+        }
+        let mut packages = [const { None }; 8];
+        for (number, place) in packages.iter_mut().enumerate() {
+            if bit(image[3], number) {
+                let aid = read_aid(&image[4 + 17 * number..])?;
+                let mut services = [None; 8];
+                for (service, place) in services.iter_mut().enumerate() {
+                    if bit(image[268 + number], service) {
+                        *place = Some(read_tokens(&image[140 + 16 * number + 2 * service..]));
+                    }
+                }
+                *place = Some(Package { aid, services });
+            }
+        }
+        let [mut calls, mut grants, mut needs] = [const { Vec::new() }; 3];
+        for place in places(&packages) {
+            let Bit { caller, callee, service } = place;
+            if bit(image[340 + 8 * callee + caller], service) {
+                grants.push(place);
+            }
+            if bit(image[276 + 8 * caller + callee], service) {
+                calls.push(place);
+                if bit(image[404 + 8 * caller + callee], service) {
+                    needs.push(place);
+                }
+            }
+        }
+        let mut unmet = Vec::new();
+        for row in list(image, 468, 20)? {
+            unmet.push(Unmet { callee: read_aid(row)?, tokens: read_tokens(&row[17..]), caller: row[19].into() });
+        }
+        let mut waiting = Vec::new();
+        for row in list(image, 789, 19)? {
+            waiting.push(Waiting { caller: read_aid(row)?, callee: row[17].into(), service: row[18].into() });
+        }
+        Some(Tables { packages, calls, grants, needs, unmet, waiting })
+    }
+
+    fn write(&self) -> Vec<u8> {
+        let mut image = vec![0; 1094];
+        image[..3].copy_from_slice(&[0x04, 0x46, 0x01]);
+        for (number, package) in self.packages.iter().enumerate() {
+            let Some(package) = package else { continue };
+            image[3] |= 1 << number;
+            write_aid(&mut image[4 + 17 * number..], package.aid);
+            for (service, tokens) in package.services.iter().enumerate() {
+                let Some(tokens) = tokens else { continue };
+                image[268 + number] |= 1 << service;
+                image[140 + 16 * number + 2 * service] = tokens.interface;
+                image[140 + 16 * number + 2 * service + 1] = tokens.method;
+            }
+        }
+        for Bit { caller, callee, service } in &self.calls {
+            image[276 + 8 * caller + callee] |= 1 << service;
+        }
+        for Bit { caller, callee, service } in &self.grants {
+            image[340 + 8 * callee + caller] |= 1 << service;
+        }
+        for Bit { caller, callee, service } in &self.needs {
+            image[404 + 8 * caller + callee] |= 1 << service;
+        }
+        image[468] = self.unmet.len() as u8;
+        for (n, row) in self.unmet.iter().enumerate() {
+            let place = &mut image[469 + 20 * n..];
+            write_aid(place, row.callee);
+            place[17..20].copy_from_slice(&[row.tokens.interface, row.tokens.method, row.caller as u8]);
+        }
+        image[789] = self.waiting.len() as u8;
+        for (n, row) in self.waiting.iter().enumerate() {
+            let place = &mut image[790 + 19 * n..];
+            write_aid(place, row.caller);
+            place[17..19].copy_from_slice(&[row.callee as u8, row.service as u8]);
+        }
+        image
+    }
+
+    /// What a sound image has besides the right form.
+    fn hold(&self) -> bool {
+        let installed = || self.packages.iter().flatten();
+        let number = |n: usize| self.packages.get(n).and_then(Option::as_ref);
+        let aids_differ = differ(installed().map(|package| package.aid));
+        let tokens_differ = installed().all(|package| differ(package.services.iter().flatten()));
+        let lawful = self.calls.iter().all(|call| self.grants.binary_search(call).is_ok());
+        let rows_differ = differ(self.unmet.iter()) && differ(self.waiting.iter());
+        let unmet_hold = self.unmet.iter().all(|row| {
+            let provided =
+                installed().any(|package| package.aid == row.callee && package.services.contains(&Some(row.tokens)));
+            number(row.caller).is_some_and(|caller| caller.aid != row.callee) && !provided
+        });
+        let waiting_hold = self.waiting.iter().all(|row| {
+            let services = number(row.callee).map(|callee| &callee.services);
+            let provided = services.is_some_and(|services| services.get(row.service).is_some_and(Option::is_some));
+            provided && installed().all(|package| package.aid != row.caller)
+        });
+        aids_differ && tokens_differ && lawful && rows_differ && unmet_hold && waiting_hold
+    }
+
+    /// The contracts, one for each used number under its AID.
+    fn machine(&self) -> Machine {
+        let mut contracts = [const { None }; 8];
+        for (contract, package) in contracts.iter_mut().zip(&self.packages) {
+            *contract = package.as_ref().map(|package| Contract {
+                provides: package.services.iter().flatten().copied().collect(),
+                ..Contract::default()
+            });
+        }
+        let called = |place: &Bit| self.row(place.callee, place.callee, place.service);
+        for place in &self.calls {
+            contracts[place.caller].as_mut().unwrap().calls.insert(called(place));
+        }
+        for place in &self.needs {
+            contracts[place.caller].as_mut().unwrap().needs.insert(called(place));
+        }
+        for place in &self.grants {
+            let row = self.row(place.caller, place.callee, place.service);
+            contracts[place.callee].as_mut().unwrap().grants.insert(row);
+        }
+        for row in &self.unmet {
+            let call = Row { other: row.callee, tokens: row.tokens };
+            contracts[row.caller].as_mut().unwrap().calls.insert(call);
+        }
+        for row in &self.waiting {
+            let tokens = self.row(row.callee, row.callee, row.service).tokens;
+            let grant = Row { other: row.caller, tokens };
+            contracts[row.callee].as_mut().unwrap().grants.insert(grant);
+        }
+        let aids = self.packages.iter().flatten().map(|package| package.aid);
+        Machine { contracts: aids.zip(contracts.into_iter().flatten()).collect() }
+    }
+
+    /// The row with the AID of package `other` and the tokens of a service of package `provider`.
+    fn row(&self, other: usize, provider: usize, service: usize) -> Row {
+        let package = |n: usize| self.packages[n].as_ref().unwrap();
+        Row { other: package(other).aid, tokens: package(provider).services[service].unwrap() }
+    }
+}
+
+/// The places that a bit may have, upwards: two different used numbers and a service provided.
+fn places(packages: &[Option<Package>; 8]) -> Vec<Bit> {
+    let mut places = Vec::new();
+    for (callee, package) in packages.iter().enumerate() {
+        let Some(package) = package else { continue };
+        for caller in (0..8).filter(|caller| *caller != callee && packages[*caller].is_some()) {
+            let services = (0..8).filter(|service| package.services[*service].is_some());
+            places.extend(services.map(|service| Bit { caller, callee, service }));
+        }
+    }
+    places
+}
+
+/// The rows of the list at `start`; `None` when its count is above 16.
+fn list(image: &[u8], start: usize, row: usize) -> Option<impl Iterator<Item = &[u8]>> {
+    let count = usize::from(image[start]);
+    (count <= 16).then(|| image[start + 1..].chunks(row).take(count))
+}
+
+fn read_aid(place: &[u8]) -> Option<Aid> {
+    let length = usize::from(place[0]);
+    (5..=16).contains(&length).then(|| Aid::new(&place[1..1 + length]))
+}
+
+fn write_aid(place: &mut [u8], aid: Aid) {
+    let bytes = aid.bytes();
+    place[0] = bytes.len() as u8;
+    place[1..1 + bytes.len()].copy_from_slice(bytes);
+}
+
+fn read_tokens(place: &[u8]) -> Tokens {
+    Tokens { interface: place[0], method: place[1] }
+}
+
+fn bit(byte: u8, n: usize) -> bool {
+    byte & (1 << n) != 0
+}
+
+fn differ<T: Ord>(items: impl Iterator<Item = T>) -> bool {
+    let mut items: Vec<T> = items.collect();
+    items.sort();
+    items.windows(2).all(|two| two[0] != two[1])
+}

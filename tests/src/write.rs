@@ -1,0 +1,96 @@
+//! Writes records, good and bad: nothing is looked at, so that any wrong record can be written.
+
+pub type Tokens = (u8, u8);
+/// A row of calls, grants or needs: the other end's AID and the tokens.
+pub type Row = (Vec<u8>, Tokens);
+
+/// A record with the right length field and version: the kind, then the parts.
+pub fn record(kind: u8, parts: &[&[u8]]) -> Vec<u8> {
+    let mut record = vec![0, 0, 1, kind];
+    for part in parts {
+        record.extend_from_slice(part);
+    }
+    set_length(&mut record);
+    record
+}
+
+/// Writes the record's whole length into its first two bytes.
+pub fn set_length(record: &mut [u8]) {
+    let length = (record.len() as u16).to_be_bytes();
+    record[..2].copy_from_slice(&length);
+}
+
+/// An AID: its length byte and its bytes.
+pub fn aid(aid: &[u8]) -> Vec<u8> {
+    let mut written = vec![aid.len() as u8];
+    written.extend_from_slice(aid);
+    written
+}
+
+pub fn tokens((interface, method): Tokens) -> [u8; 2] {
+    [interface, method]
+}
+
+/// A row: an AID and tokens.
+pub fn row(other: &[u8], service: Tokens) -> Vec<u8> {
+    [aid(other), tokens(service).to_vec()].concat()
+}
+
+fn list(rows: Vec<Vec<u8>>) -> Vec<u8> {
+    let mut written = vec![rows.len() as u8];
+    written.extend(rows.concat());
+    written
+}
+
+fn rows(rows: &[Row]) -> Vec<u8> {
+    list(rows.iter().map(|(other, service)| row(other, *service)).collect())
+}
+
+/// Kind 1.
+pub fn load(own: &[u8], provides: &[Tokens], calls: &[Row], grants: &[Row], needs: &[Row]) -> Vec<u8> {
+    let provides = list(provides.iter().map(|service| tokens(*service).to_vec()).collect());
+    record(1, &[&aid(own), &provides, &rows(calls), &rows(grants), &rows(needs)])
+}
+
+/// Kind 2.
+pub fn remove(own: &[u8]) -> Vec<u8> {
+    record(2, &[&aid(own)])
+}
+
+/// Kind 3.
+pub fn add_service(own: &[u8], service: Tokens, callers: &[Vec<u8>]) -> Vec<u8> {
+    let callers = list(callers.iter().map(|caller| aid(caller)).collect());
+    record(3, &[&aid(own), &tokens(service), &callers])
+}
+
+/// Kind 4.
+pub fn remove_service(own: &[u8], service: Tokens) -> Vec<u8> {
+    record(4, &[&aid(own), &tokens(service)])
+}
+
+/// Kinds 5 to 10: 5 and 6 a call, 7 and 8 a grant, 9 and 10 a need; odd adds and even removes.
+pub fn update(kind: u8, own: &[u8], other: &[u8], service: Tokens) -> Vec<u8> {
+    record(kind, &[&aid(own), &row(other, service)])
+}
+
+#[cfg(test)]
+mod tests {
+    use super::*;
+    use crate::hex::to_hex;
+
+    const H: [u8; 5] = [0xF0, 0, 0, 0, 1];
+    const C: [u8; 5] = [0xF0, 0, 0, 0, 2];
+
+    #[test]
+    fn the_papers_first_record() {
+        let load = load(&H, &[(0, 0)], &[], &[(C.to_vec(), (0, 0))], &[]);
+        assert_eq!(to_hex(&load), "00 18 01 01 05 F0 00 00 00 01 01 00 00 00 01 05 F0 00 00 00 02 00 00 00");
+    }
+
+    #[test]
+    fn a_service_with_its_callers() {
+        let added = add_service(&H, (3, 4), &[C.to_vec()]);
+        assert_eq!(to_hex(&added), "00 13 01 03 05 F0 00 00 00 01 03 04 01 05 F0 00 00 00 02");
+        assert_eq!(to_hex(&update(9, &H, &C, (3, 4))), "00 12 01 09 05 F0 00 00 00 01 05 F0 00 00 00 02 03 04");
+    }
+}

@@ -1,0 +1,194 @@
+//! Each cause by itself, and the lowest number where several apply.
+
+use second::card::{linked, Verdict};
+use second::cases::{B, C, H, X};
+use second::compare::{Compare, Tally};
+use second::write::{add_service, load, record, remove, remove_service, row as written, update, Row, Tokens};
+
+const S: Tokens = (0, 0);
+const T: Tokens = (0, 1);
+
+fn row(other: &[u8], tokens: Tokens) -> Row {
+    (other.to_vec(), tokens)
+}
+
+fn unmet(count: u8) -> Vec<Row> {
+    (0..count).map(|n| row(X, (9, n))).collect()
+}
+
+fn strangers(count: u8) -> Vec<Row> {
+    (0..count).map(|n| row(&[0xEE, 0, 0, 0, n], S)).collect()
+}
+
+/// Judges records everywhere, each from the state that the one before left.
+fn answers(records: &[Vec<u8>]) -> Vec<u32> {
+    let cards = linked();
+    let mut compare = Compare::new(&cards, 1).expect("an empty card");
+    let mut tally = Tally::default();
+    let judged = records.iter().map(|record| compare.step(record, &mut tally));
+    judged.map(|verdict| verdict.expect("no difference").answer).collect()
+}
+
+#[test]
+fn cause_2_the_form() {
+    let mut wrong_version = remove(H);
+    wrong_version[2] = 2;
+    let mut wrong_length = remove(H);
+    wrong_length[1] += 1;
+    let mut left_over = remove(H);
+    left_over.push(0);
+    let records = [
+        wrong_version,
+        wrong_length,
+        left_over,
+        record(0, &[&written(H, S)]),
+        record(11, &[&written(H, S)]),
+        record(2, &[&[5], &H[..4]]),
+        record(2, &[&[0]]),
+        record(1, &[&written(H, S)]),
+        record(4, &[&[5], H, &[0]]),
+        load(H, &[], &unmet(73), &[], &[]),
+        load(H, &[S], &[], &strangers(73), &[]),
+        load(H, &[], &unmet(72), &[], &unmet(73)),
+        add_service(H, S, &vec![C.to_vec(); 33]),
+        vec![0],
+        vec![0, 3, 1],
+        vec![0, 4, 1, 2],
+    ];
+    assert_eq!(answers(&records), vec![2; records.len()]);
+}
+
+#[test]
+fn the_longest_lists_are_read() {
+    let callers: Vec<Vec<u8>> = strangers(32).into_iter().map(|(aid, _)| aid).collect();
+    let records = [
+        load(H, &[S], &unmet(72), &strangers(72), &[]),
+        load(H, &[S], &unmet(72), &strangers(72), &unmet(72)),
+        load(H, &[], &[], &[], &[]),
+        add_service(H, S, &callers),
+    ];
+    assert_eq!(answers(&records), [10, 9, 0, 11]);
+}
+
+#[test]
+fn the_longest_record_has_4145_bytes() {
+    let long = |n: u8| [vec![0xEE; 15], vec![n]].concat();
+    let services: Vec<Tokens> = (0..8).map(|n| (0, n)).collect();
+    let rows: Vec<Row> = (0..72).map(|n| row(&long(n), S)).collect();
+    let longest = load(&[0xF0; 16], &services, &rows, &rows, &rows);
+    assert_eq!(longest.len(), 4145);
+    assert_eq!(answers(&[longest]), [9]);
+}
+
+#[test]
+fn cause_3_a_record_against_itself() {
+    let (call, grant) = (|| row(X, S), || row(X, S));
+    let records = [
+        load(H, &[S, T, S], &[], &[], &[]),
+        load(H, &[], &[call(), row(X, T), call()], &[], &[]),
+        load(H, &[S], &[], &[grant(), grant()], &[]),
+        load(H, &[], &[call()], &[], &[call(), call()]),
+        load(H, &[], &[row(H, S)], &[], &[]),
+        load(H, &[S], &[], &[row(H, S)], &[]),
+        load(H, &[], &[call()], &[], &[row(H, S)]),
+        load(H, &[], &[call()], &[], &[row(X, T)]),
+        load(H, &[S], &[], &[row(X, T)], &[]),
+        add_service(H, S, &[H.to_vec()]),
+        add_service(H, S, &[C.to_vec(), B.to_vec(), C.to_vec()]),
+    ];
+    assert_eq!(answers(&records), vec![3; records.len()]);
+    let updates: Vec<Vec<u8>> = (5..=10).map(|kind| update(kind, H, H, S)).collect();
+    assert_eq!(answers(&updates), [3; 6]);
+}
+
+#[test]
+fn causes_4_and_5_installed_or_not() {
+    let mut records = vec![load(H, &[], &[], &[], &[]), load(H, &[S], &unmet(17), &[], &[])];
+    records.extend([remove(C), add_service(C, S, &[]), remove_service(C, S)]);
+    records.extend((5..=10).map(|kind| update(kind, C, H, S)));
+    let expected = [vec![0, 4], vec![5; 9]].concat();
+    assert_eq!(answers(&records), expected);
+    // An AID is another with a zero byte more.
+    let longer = [H, &[0]].concat();
+    assert_eq!(answers(&[load(H, &[], &[], &[], &[]), remove(&longer), load(&longer, &[], &[], &[], &[])]), [0, 5, 0]);
+}
+
+#[test]
+fn cause_6_nothing_to_change() {
+    let records = [
+        load(H, &[S], &[], &[row(C, S), row(X, S)], &[]),
+        load(C, &[], &[row(H, S), row(X, S)], &[], &[row(H, S)]),
+        // What the contract has.
+        add_service(H, S, &[]),
+        update(5, C, H, S),
+        update(5, C, X, S),
+        update(7, H, C, S),
+        update(7, H, X, S),
+        update(9, C, H, S),
+        // What it lacks.
+        remove_service(H, T),
+        update(6, C, H, T),
+        update(6, C, X, T),
+        update(8, H, C, T),
+        update(8, H, B, S),
+        update(10, C, X, S),
+        update(10, C, H, T),
+        // A service not provided, and one not called.
+        update(7, H, C, T),
+        update(9, C, X, T),
+        update(9, C, B, S),
+    ];
+    assert_eq!(answers(&records), [vec![0, 0], vec![6; 16]].concat());
+}
+
+#[test]
+fn the_lowest_number_is_given() {
+    let eight: Vec<Tokens> = (0..8).map(|n| (1, n)).collect();
+    let both = [unmet(16), vec![row(H, S)]].concat();
+    let records = [
+        // 2 before 3, 3 before 5.
+        [load(H, &[S, S], &[], &[], &[]), vec![0]].concat(),
+        add_service(B, S, &[B.to_vec()]),
+        load(H, &eight, &[], &[], &[]),
+        // 3 before 4; 6 before 7; 7 before 11.
+        load(H, &[S, S], &[], &[], &[]),
+        add_service(H, (1, 0), &[]),
+        add_service(H, S, &strangers(17).into_iter().map(|(aid, _)| aid).collect::<Vec<_>>()),
+        // 8 before 9, 10 and 11; 9 before 10; 10 before 11.
+        remove(H),
+        load(H, &[S], &[], &[], &[]),
+        load(C, &[S], &both, &strangers(17), &both),
+        load(C, &[S], &unmet(17), &strangers(17), &unmet(1)),
+        load(C, &[S], &unmet(17), &strangers(17), &[]),
+        load(C, &[S], &unmet(16), &strangers(17), &[]),
+        load(C, &[S], &unmet(16), &strangers(16), &[]),
+    ];
+    assert_eq!(answers(&records), [2, 3, 0, 3, 6, 7, 0, 0, 8, 9, 10, 11, 0]);
+    // 1 before 2.
+    for card in linked() {
+        let mut image = vec![0; 1094];
+        assert_eq!(card.judge(&mut image, &[]), Verdict::new(1, 255));
+        assert_eq!(card.judge(&mut image[..5], &[]), Verdict::new(1, 255));
+    }
+}
+
+#[test]
+fn cause_4_before_7_on_a_full_card() {
+    let aid = |n: u8| [0xF0, 0, 0, 1, n];
+    let mut records: Vec<Vec<u8>> = (0..8).map(|n| load(&aid(n), &[], &[], &[], &[])).collect();
+    records.push(load(&aid(3), &[], &[], &[], &[]));
+    // 7 before 8, 9 and 10: nothing is tried.
+    records.push(load(&aid(8), &[], &unmet(17), &[], &unmet(17)));
+    assert_eq!(answers(&records)[8..], [4, 7]);
+}
+
+#[test]
+fn removing_a_package_can_fail_on_waiting_grants() {
+    let mut records = vec![load(H, &[S, T], &[], &[strangers(15), vec![row(C, S), row(C, T)]].concat(), &[])];
+    assert_eq!(answers(&records), [11]);
+    records.insert(0, load(C, &[], &[], &[], &[]));
+    records.push(remove(C));
+    records.push(update(8, H, C, T));
+    records.push(remove(C));
+    assert_eq!(answers(&records), [0, 0, 11, 0, 0]);
+}

@@ -1,0 +1,40 @@
+//! Every engine that is wrong on purpose is found, with a short history.
+
+use second::card::{Bytes, Card};
+use second::faults::FAULTS;
+use second::run::{replay, run};
+
+const SEED: u64 = 1;
+
+#[test]
+fn every_fault_is_found() {
+    std::panic::set_hook(Box::new(|_| {}));
+    for fault in FAULTS {
+        let cards: [&dyn Card; 2] = [&Bytes, fault];
+        let name = fault.name();
+        let failure = run(&cards, SEED, 20_000).err().unwrap_or_else(|| panic!("{name} was not found"));
+        assert!(!failure.difference.is_empty(), "{name}");
+        assert!(failure.history.len() <= 18, "{name} took {} records", failure.history.len());
+        let again = failure.history.is_empty() || replay(&cards, SEED, &failure.history).is_err();
+        assert!(again, "{name}: the shortest history does not fail");
+    }
+}
+
+#[test]
+fn no_record_of_a_shortest_history_can_be_dropped() {
+    let fault = FAULTS.iter().find(|fault| fault.name() == "grants-lost").expect("the fault");
+    let cards: [&dyn Card; 2] = [&Bytes, fault];
+    let history = run(&cards, SEED, 20_000).err().expect("a difference").history;
+    for n in 0..history.len() {
+        let mut without = history.clone();
+        without.remove(n);
+        assert!(replay(&cards, SEED, &without).is_ok(), "record {n} is not needed");
+    }
+}
+
+#[test]
+fn a_short_run_finds_nothing_in_the_byte_engine() {
+    let tally = run(&[&Bytes], SEED, 1_000).ok().expect("no difference");
+    assert_eq!(tally.records, 1_000);
+    assert!(tally.contracts_read > 1_000 && tally.damaged_sound > 100 && tally.damaged_unsound > 1_000);
+}
