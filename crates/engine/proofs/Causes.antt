@@ -1,10 +1,9 @@
 -- The cause that the code of kinds 2 and 4 finds is the short check's. Assumes nothing.
 use Prim.Native.Nat.{ℕ, _+_, _≤_, _<_}
 use native.Mathlib.Omega.{arith}
-use mathlib.Core.Path.{_≡_, refl, sym, ap, _∙_}
+use mathlib.Core.Path.{_≡_, sym, ap, _∙_}
 use mathlib.Core.Bool.{Bool, true, false, not, _&&_}
 use lib.Dec.{eqb, leb, le→leb, leb→le}
-use lib.ListN.{length}
 use borrow.Author.Tests.{eq-eqb, ne-eqb}
 use Rattle.policy.specs.Lists.{upto}
 use Rattle.policy.specs.Layout.{Layout}
@@ -17,10 +16,10 @@ use Rattle.policy.proofs.Sets.{T-true, T-false}
 use Rattle.engine.proofs.Leaves.{none-pairs}
 use Rattle.engine.proofs.Counts.{full, ones-same, ones-all}
 
-fits-not : (n most : ℕ) → most < n → leb n most ≡ false
+pub fits-not : (n most : ℕ) → most < n → leb n most ≡ false
 fits-not n most h = T-false (leb n most) (λ x. let l = leb→le n most x in absurd (omega arith))
 
-fits-yes : (n most : ℕ) → n ≤ most → leb n most ≡ true
+pub fits-yes : (n most : ℕ) → n ≤ most → leb n most ≡ true
 fits-yes n most h = T-true (leb n most) (le→leb n most h)
 
 -- a check that asks no rights
@@ -29,16 +28,16 @@ module _ (L : Layout) where
   found n u w = answer (lookCauses L (record { granted = true; needed = n; unmetFits = u; waitingFits = w }))
 
   module _ (n u w : Bool) where
-    at-9 : n ≡ false → 9 ≡ found n u w
+    pub at-9 : n ≡ false → 9 ≡ found n u w
     at-9 e = ap (λ (z : Bool). found z u w) (sym e)
 
-    at-10 : n ≡ true → u ≡ false → 10 ≡ found n u w
+    pub at-10 : n ≡ true → u ≡ false → 10 ≡ found n u w
     at-10 e f = λ i. found (sym e i) (sym f i) w
 
     at-11 : n ≡ true → u ≡ true → w ≡ false → 11 ≡ found n u w
     at-11 e f g = λ i. found (sym e i) (sym f i) (sym g i)
 
-    at-0 : n ≡ true → u ≡ true → w ≡ true → 0 ≡ found n u w
+    pub at-0 : n ≡ true → u ≡ true → w ≡ true → 0 ≡ found n u w
     at-0 e f g = λ i. found (sym e i) (sym f i) (sym g i)
 
 -- ---- kind 2: x counts the needs on package n, u and w the rows afterwards

@@ -1,14 +1,14 @@
 -- How many rows a removal leaves, and which: the code's counts and rows are the definitions'. Assumes nothing.
 use Prim.Native.Nat.{ℕ, _+_, _-_, _≤_, _<_}
 use native.Mathlib.Omega.{arith}
-use mathlib.Core.Path.{_≡_, refl, sym, ap, ap₂, _∙_}
-use mathlib.Core.Bool.{Bool, true, false, not, _&&_, and-true}
-use mathlib.Core.List.{List, [], _∷_, map}
+use mathlib.Core.Path.{_≡_, refl, ap, _∙_}
+use mathlib.Core.Bool.{Bool, true, not, _&&_, and-true}
+use mathlib.Core.List.{List, map}
 use lib.ListN.{length}
 use Rattle.policy.specs.Lists.{keep, flat, upto}
 use Rattle.policy.specs.Contract.{Aid}
 use Rattle.policy.specs.Layout.{Layout}
-use Rattle.policy.specs.Tables.{Tables, Unmet, Waiting, bit, rowOf}
+use Rattle.policy.specs.Tables.{Tables, Waiting, bit, rowOf}
 use Rattle.policy.specs.Lookup.{serviceAt}
 use Rattle.policy.specs.Draft.{callRow, leftBy}
 use Rattle.policy.specs.ShortCheck.{count, ones}
@@ -17,7 +17,7 @@ use Rattle.policy.proofs.Bits.{bit-rowOf}
 use Rattle.bits.proofs.Loops.{keep-ext}
 use Rattle.image.specs.Read.{maskOf}
 use Rattle.image.proofs.Masks.{mask-count}
-use Rattle.engine.specs.Removals.{leftRow, leftRows, waitOne, waitRow, waitRows}
+use Rattle.engine.specs.Removals.{leftOne, leftRow, leftRows, waitRow, waitRows}
 use Rattle.engine.proofs.Leaves.{flat-ext, only-keep, sum-ext, length-pairs, count-others}
 
 -- the mask of all services
@@ -34,6 +34,12 @@ module _ (L : Layout) (t : Tables) (d e : ℕ → Bool) (same : (k : ℕ) → k 
 
   pub ones-same : (f : ℕ → ℕ → Bool) → ones L t (λ i k. f i k && d k) ≡ ones L t (λ i k. f i k && e k)
   ones-same f = sum-ext (λ i. count (λ k. f i k && d k) (upto (L .services))) (λ i. count (λ k. f i k && e k) (upto (L .services))) (upto (L .packages)) (λ i _. ap length (kept-same (f i)))
+
+  -- the rows of the same services
+  pub left-same : (a : Aid) (j : ℕ) → leftRows L t a j d ≡ leftRows L t a j e
+  left-same a j = flat-ext (λ i. leftRow L t a j i (λ k. t .calls i j k && d k)) (λ i. leftRow L t a j i (λ k. t .calls i j k && e k)) (upto (L .packages))
+      (λ i _. flat-ext (leftOne t a j i (λ k. t .calls i j k && d k)) (leftOne t a j i (λ k. t .calls i j k && e k)) (upto (L .services))
+      (λ k m. ap (λ (b : Bool). leftOne t a j i (λ _. t .calls i j k && b) k) (same k (upto-in (L .services) m))))
 
   -- the rows that the code leaves are the draft's
   pub left-rows-are : (j : ℕ) → leftRows L t (t .aid j) j d ≡ leftBy L t (t .calls) j e

@@ -14,6 +14,7 @@ pub mod Without
 pub mod Cleared
 pub mod Gone
 pub mod Remove
+pub mod Service
 pub mod Callers
 pub mod Added
 pub mod Checks

@@ -6,7 +6,7 @@ use mathlib.Core.Option.{some}
 use lib.ListN.{length}
 use Rattle.policy.specs.Contract.{Aid}
 use Rattle.policy.specs.Layout.{Layout}
-use Rattle.policy.specs.Record.{remove}
+use Rattle.policy.specs.Record.{Change, remove}
 use Rattle.policy.specs.Causes.{answer}
 use Rattle.policy.specs.Tables.{Tables, decode}
 use Rattle.policy.specs.Lookup.{numberOf}
@@ -29,18 +29,23 @@ use Rattle.engine.proofs.Removed.{remove-absent, remove-refused, remove
 use Rattle.engine.proofs.Gone.{removed-is}
 
 -- the same numbers under the names of the verdict
-gives-as : {o : Out} {x y : ℕ} {b : List ℕ} (number second : ℕ) → number ≡ x → second ≡ y → Gives o x y b → Gives o number second b
+pub gives-as : {o : Out} {x y : ℕ} {b : List ℕ} (number second : ℕ) → number ≡ x → second ≡ y → Gives o x y b → Gives o number second b
 gives-as number second p q g = record { answered = g .answered ∙ sym p; second-is = g .second-is ∙ sym q; bytes-are = g .bytes-are }
 
-module _ (L : Layout) (img : List ℕ) (a : Aid) (ask : Asked L img a remove) where
-  abbrev t : Tables
-  t = decode L img
-
+-- what is asked of any kind
+module _ (L : Layout) (img : List ℕ) (a : Aid) {c : Change} (ask : Asked L img a c) where
   pub asked-laid : Laid L img
   asked-laid = sound-laid L (ask .is-sound)
 
   pub asked-short : length a ≤ 16
   asked-short = valid-short a (ask .first-valid)
+
+  pub aid-at : (n : ℕ) → numberOf L (decode L img) a ≡ some n → decode L img .aid n ≡ a
+  aid-at n at = subst (NumberIs (decode L img) a) at (number-is L (decode L img) (sound-formed L img (ask .is-sound) .names) a) .1
+
+module _ (L : Layout) (img : List ℕ) (a : Aid) (ask : Asked L img a remove) where
+  abbrev t : Tables
+  t = decode L img
 
   -- n is what the search for the package gave, and the verdict is (number, second)
   module _ (n : ℕ) (found : n ≡ numberOr (L .packages) (numberOf L t a)) where
@@ -53,7 +58,7 @@ module _ (L : Layout) (img : List ℕ) (a : Aid) (ask : Asked L img a remove) wh
       at = package-some L t a n found h
 
       aid-is : t .aid n ≡ a
-      aid-is = subst (NumberIs t a) at (number-is L t (sound-formed L img (ask .is-sound) .names) a) .1
+      aid-is = aid-at L img a ask n at
 
       pub says-refused : (m ≡ 0 → ⊥) → (number second : ℕ) → (number ≡ m) × (second ≡ 255) → Gives (settled L img a remove) number second img
       says-refused ne number second v = gives-as number second (v .0) (v .1) (remove-refused L img a n at ask m e ne)

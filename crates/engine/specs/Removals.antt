@@ -3,13 +3,16 @@ use Prim.Native.Nat.{ℕ, _+_, _≤_}
 use mathlib.Core.Bool.{Bool, false, not, _&&_, _||_, cond}
 use mathlib.Core.List.{List, [], _∷_, _++_}
 use lib.Dec.{eqb}
+use lib.ListN.{length}
 use Rattle.policy.specs.Lists.{keep, flat, upto}
 use Rattle.policy.specs.Contract.{Aid}
 use Rattle.policy.specs.Layout.{Layout}
 use Rattle.policy.specs.Tables.{Tables, Unmet, Waiting, noTok, bit}
-use Rattle.policy.specs.Draft.{put}
+use Rattle.policy.specs.Lookup.{numbers}
+use Rattle.policy.specs.Draft.{put, put2}
 use Rattle.policy.specs.ShortCheck.{count, ones}
 use Rattle.image.specs.Laid.{withUnmet, withWaiting}
+use Rattle.image.specs.Wrote.{inColumn, inRow}
 
 -- x where b, else nothing
 abbrev pub only : {A : Type 0} → Bool → A → List A
@@ -53,7 +56,31 @@ module _ (L : Layout) (t : Tables) where
       withWaiting (keep (λ w. not (eqb (w .callee) n)) (t .waiting) ++ waitRows a n)
       (withUnmet (keep (λ u. not (eqb (u .caller) n)) (t .unmet) ++ leftRows a n (bit 65535)) t)
 
+  -- ---- kind 4: service k of package j goes
+  -- the unmet calls have room for those of its callers
+  abbrev pub RoomWithoutService : ℕ → ℕ → Type 0
+  RoomWithoutService j k = length (t .unmet) + count (λ i. t .calls i j k) (numbers L t) ≤ L .capacity
+
+  -- the lists changed; the package's AID is a
+  abbrev pub listsWithoutService : Aid → ℕ → ℕ → Tables
+  listsWithoutService a j k =
+      withWaiting (keep (λ w. not (eqb (w .callee) j && eqb (w .service) k)) (t .waiting)) (withUnmet (t .unmet ++ leftRows a j (λ z. eqb z k)) t)
+
 -- its places cleared
+abbrev pub tablesWithoutService : ℕ → ℕ → Tables → Tables
+tablesWithoutService j k t = record {
+  used = t .used;
+  aid = t .aid;
+  tok = put2 j k noTok (t .tok);
+  provides = put2 j k false (t .provides);
+  calls = inColumn j k (t .calls);
+  grants = inRow j k (t .grants);
+  needs = inColumn j k (t .needs);
+  unmet = t .unmet;
+  waiting = t .waiting;
+}
+
+-- the places of package n cleared
 abbrev pub tablesWithout : ℕ → Tables → Tables
 tablesWithout n t = record {
   used = put n false (t .used);

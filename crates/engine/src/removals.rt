@@ -5,7 +5,7 @@ ghost use mathlib.Core.List.{_++_};
 ghost use Prim.Native.Nat.{_+_, _≤_, _<_};
 ghost use lib.Dec.{eqb};
 ghost use lib.ListN.{length};
-ghost use Rattle.policy.specs.Record.{remove as removal};
+ghost use Rattle.policy.specs.Record.{remove as removal, removeService};
 ghost use Rattle.policy.specs.Causes.{answer};
 ghost use Rattle.policy.specs.Tables.{bit, decode};
 ghost use Rattle.policy.specs.ShortCheck.{count, ones, shortRemove, shortRemoveService};
@@ -14,8 +14,9 @@ ghost use Rattle.policy.specs.Settled.{settled, Gives};
 ghost use Rattle.geometry.specs.Geometry.{layoutOf};
 ghost use Rattle.image.specs.Laid.{Laid, tableOf, withUnmet, withWaiting};
 ghost use Rattle.image.specs.Wrote.{Wrote};
+ghost use Rattle.image.specs.Read.{tokens};
 ghost use Rattle.engine.specs.Asked.{Asked};
-ghost use Rattle.engine.specs.Removals.{leftOne, leftRow, leftRows, waitOne, waitRow, waitRows, RoomWithout, listsWithout, tablesWithout};
+ghost use Rattle.engine.specs.Removals.{leftOne, leftRow, leftRows, waitOne, waitRow, waitRows, RoomWithout, listsWithout, tablesWithout, RoomWithoutService, listsWithoutService, tablesWithoutService};
 use crate::Verdict;
 use geometry::Card;
 use geometry::Table;
@@ -234,4 +235,79 @@ pub fn remove(img: &mut [u8], c: Card, aid: &[u8]) -> Verdict
     leave_lists(img, c, aid, n);
     clear_package(img, c, n);
     crate::accepted(n)
+}
+
+// The cause from 8 to 11 for which service k of package j does not go; 0 where there is none.
+fn service_cause(img: &[u8], c: Card, j: usize, k: usize) -> u8
+    requires laid { ⌜ Laid (layoutOf c) (now img) ⌝ }
+    requires inside { ⌜ (j < layoutOf c .packages) × (k < layoutOf c .services) ⌝ }
+    ensures { λ r. ⌜ r ≡ answer (lookCauses (layoutOf c) (shortRemoveService (layoutOf c) (decode (layoutOf c) (now (img .entry))) j k)) ⌝ }
+{
+    let most = geometry::capacity(c);
+    let mask = bits::with_bit(0, k);
+    let needed = column(img, c, Table::Needs, j, mask);
+    if needed != 0 {
+        return 9;
+    }
+    let all = image::lists::unmet_count(img, c);
+    let left = column(img, c, Table::Calls, j, mask);
+    let total = all + left;
+    if total > most {
+        return 10;
+    }
+    0
+}
+
+// The two lists with the calls on service k of package j, and without its waiting grants.
+fn leave_service(img: &mut [u8], c: Card, aid: &[u8], j: usize, k: usize)
+    requires laid { ⌜ Laid (layoutOf c) (now img) ⌝ }
+    requires inside { ⌜ (j < layoutOf c .packages) × (k < layoutOf c .services) ⌝ }
+    requires short { ⌜ length (now aid) ≤ 16 ⌝ }
+    requires room { ⌜ RoomWithoutService (layoutOf c) (decode (layoutOf c) (now img)) j k ⌝ }
+    ensures { λ _. ⌜ Wrote (layoutOf c) (now (img .exit)) (listsWithoutService (layoutOf c) (decode (layoutOf c) (now (img .entry))) (now (aid .entry)) j k) ⌝ }
+{
+    let mask = bits::with_bit(0, k);
+    leave_calls(img, c, aid, j, mask);
+    let given = image::lists::granting(img, c, j, k);
+    image::write::drop_waiting(img, c, given);
+}
+
+// The places of service k of package j cleared.
+fn clear_service(img: &mut [u8], c: Card, j: usize, k: usize)
+    requires laid { ⌜ Laid (layoutOf c) (now img) ⌝ }
+    requires inside { ⌜ (j < layoutOf c .packages) × (k < layoutOf c .services) ⌝ }
+    ensures { λ _. ⌜ Wrote (layoutOf c) (now (img .exit)) (tablesWithoutService j k (decode (layoutOf c) (now (img .entry)))) ⌝ }
+{
+    image::write::clear_column_bit(img, c, Table::Calls, j, k);
+    image::write::clear_column_bit(img, c, Table::Grants, j, k);
+    image::write::clear_column_bit(img, c, Table::Needs, j, k);
+    image::write::put_tok(img, c, j, k, 0, 0);
+    let row = image::read::provided_row(img, c, j);
+    let rest = bits::without_bit(row, k);
+    image::write::set_provided(img, c, j, rest);
+}
+
+// Kind 4: the service with these tokens of the package with this AID goes.
+pub fn remove_service(img: &mut [u8], c: Card, aid: &[u8], interface: u8, method: u8) -> Verdict
+    requires { ⌜ Asked (layoutOf c) (now img) (now aid) (removeService (tokens interface method)) ⌝ }
+    ensures { λ r. ⌜ Gives (settled (layoutOf c) (now (img .entry)) (now (aid .entry)) (removeService (tokens interface method)))
+        (r .number) (r .second) (now (img .exit)) ⌝ }
+{
+    let j = image::read::find_package(img, c, aid);
+    let most = geometry::packages(c);
+    if j >= most {
+        return crate::refused(5);
+    }
+    let k = image::read::find_service(img, c, j, interface, method);
+    let size = geometry::services(c);
+    if k >= size {
+        return crate::refused(6);
+    }
+    let cause = service_cause(img, c, j, k);
+    if cause != 0 {
+        return crate::refused(cause);
+    }
+    leave_service(img, c, aid, j, k);
+    clear_service(img, c, j, k);
+    crate::accepted(j)
 }
