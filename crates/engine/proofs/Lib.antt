@@ -20,4 +20,3 @@ pub mod Added
 pub mod Checks
 pub mod Shorts
 pub mod Decisions
-pub mod Writing

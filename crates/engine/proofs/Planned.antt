@@ -59,7 +59,7 @@ unmet-same u = λ z v. T-eq (eqUnmet v u) (eqUnmet u v) (flip v u) (flip u v) z
     flip : (v w : Unmet) → T (eqUnmet v w) → T (eqUnmet w v)
     flip v w h = subst (λ (z : Unmet). T (eqUnmet z v)) (eqUnmet→ v w h) (eqUnmet-refl v)
 
-waiting-same : (j k : ℕ) (a : Aid)
+pub waiting-same : (j k : ℕ) (a : Aid)
     → (λ (w : Waiting). eqAid (w .caller) a && (eqb (w .callee) j && eqb (w .service) k)) ≡ eqWaiting (record { caller = a; callee = j; service = k })
 waiting-same j k a = λ z w. (regroup (eqAid (w .caller) a) (eqb (w .callee) j) (eqb (w .service) k) ∙ T-eq (eqWaiting w v) (eqWaiting v w) (flip w v) (flip v w)) z
   where

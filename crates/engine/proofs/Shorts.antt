@@ -22,13 +22,13 @@ use Rattle.policy.specs.Draft.{Look, hasWaiting}
 use Rattle.policy.specs.ShortCheck.{newcomerRights, othersRights, shortLoad, shortLook}
 use Rattle.policy.specs.Judge.{lookCauses}
 use Rattle.policy.proofs.Sets.{T-eq, T-true, true-T, false-T}
-use Rattle.policy.proofs.Equal.{eqWaiting→, eqWaiting-refl}
 use Rattle.policy.proofs.Formed.{Formed, Fitting}
 use Rattle.policy.proofs.SoundFacts.{sound-formed, sound-fitting}
 use Rattle.image.specs.Read.{maskOf, noUnmet, unmetRow}
 use Rattle.image.proofs.Masks.{mask-bit, mask-zero, zero-mask, mask-and, mask-count}
 use Rattle.engine.specs.Loads.{meets, waitsFor, served, present, waitsAt, callGranted, grantFits, othersGranted, unmetFit, waitingFit, loadLook, loadCause}
 use Rattle.engine.proofs.Checks.{row-in}
+use Rattle.engine.proofs.Planned.{waiting-same}
 
 -- ---- a list by the numbers of its elements
 every-rows : {A : Type 0} (d : A) (F : A → Bool) (G : ℕ → Bool) (i : ℕ) (l : List A) → ((r : ℕ) → r < length l → G (i + r) ≡ F (getD l r d)) → every G (from i (length l)) ≡ every F l
@@ -62,20 +62,6 @@ list-room f l k cap h low =
     ∙ room-left k cap (length (keep f l)) (length (keep (λ x. not (f x)) l)) (length l) (keep-parts f l) h
 
 -- ---- the grants that wait
-waiting-same : (j k : ℕ) (a : Aid)
-    → (λ (w : Waiting). eqAid (w .caller) a && (eqb (w .callee) j && eqb (w .service) k)) ≡ eqWaiting (record { caller = a; callee = j; service = k })
-waiting-same j k a = λ z w. (regroup (eqAid (w .caller) a) (eqb (w .callee) j) (eqb (w .service) k) ∙ T-eq (eqWaiting w v) (eqWaiting v w) (flip w v) (flip v w)) z
-  where
-    v : Waiting
-    v = record { caller = a; callee = j; service = k }
-
-    regroup : (x y z : Bool) → x && (y && z) ≡ (x && y) && z
-    regroup true y z = refl
-    regroup false y z = refl
-
-    flip : (v w : Waiting) → T (eqWaiting v w) → T (eqWaiting w v)
-    flip v w h = subst (λ (z : Waiting). T (eqWaiting z v)) (eqWaiting→ v w h) (eqWaiting-refl v)
-
 both-pass : {A : Type 0} (f g : A → Bool) (l : List A) → not (eqb (bitAnd (maskOf f l) (maskOf g l)) 0) ≡ exists (λ x. f x && g x) l
 both-pass f g l = ap (λ (m : ℕ). not (eqb m 0)) (mask-and f g l) ∙ go (exists (λ x. f x && g x) l) refl
   where

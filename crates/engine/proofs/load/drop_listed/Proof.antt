@@ -4,7 +4,7 @@ use Rattle.policy.specs.Tables.{Tables}
 use Rattle.geometry.specs.Geometry.{layoutOf}
 use Rattle.rows.specs.Area.{keepRows}
 use Rattle.image.specs.Laid.{withWaiting}
-use Rattle.engine.proofs.Writing.{wrote-then}
+use Rattle.image.proofs.Clears.{wrote-then}
 use Rattle.engine.proofs.load.drop_listed.Statement.{statement}
 use Rattle.engine.proofs.load.drop_listed.Tie as tie
 

@@ -4,7 +4,7 @@ use borrow.Author.Needs.{needs}
 use Rattle.geometry.specs.declared.Table.the-variants.{Calls}
 use Rattle.geometry.specs.Geometry.{layoutOf}
 use Rattle.engine.specs.Plans.{withBit}
-use Rattle.engine.proofs.Edits.{wrote-then}
+use Rattle.image.proofs.Clears.{wrote-then}
 use Rattle.engine.proofs.plan.apply.Statement.{statement}
 use Rattle.engine.proofs.plan.apply.Tie as tie
 
@@ -14,7 +14,7 @@ uncall c =
     let d = c .before .before .before .before .before .before .before .before .before in
     let a = d .before .before .before .before .args in
     rw (d .edit3 .given .1)
-    (wrote-then (layoutOf (a .c)) (c .before .before .before .before .before .before .clear-bit2 .ensures) (λ t. withBit t Calls (a .owner) (d .edit3 .given .0 .0) (d .edit3 .given .0 .1 .0) false)
+    (wrote-then (layoutOf (a .c)) (λ t. withBit t Calls (a .owner) (d .edit3 .given .0 .0) (d .edit3 .given .0 .1 .0) false) (c .before .before .before .before .before .before .clear-bit2 .ensures)
     (c .before .before .clear-bit3 .ensures))
 
 pub apply-spec : {M : Type 1} → statement M
