@@ -103,7 +103,7 @@ module _ {A : Type 0} {p : Reader A} {s : List ℕ} {todo rest : Items} (f : A �
       (leb-same (length (keep f (x ∷ later))) left (length (keep f later)) (left - boolByte r) (λ z. omega (arith, passing)) (λ z. omega (arith, passing)))
 
 -- ---- the caller of an unmet call of a sound image is a used package
-in-row : {A : Type 0} (l : List A) (r : ℕ) (d : A) → r < length l → In (getD l r d) l
+pub in-row : {A : Type 0} (l : List A) (r : ℕ) (d : A) → r < length l → In (getD l r d) l
 in-row [] r d h = absurd (omega arith)
 in-row (x ∷ l) zero d h = here refl
 in-row (x ∷ l) (suc r) d h = there (in-row l r d (omega arith))

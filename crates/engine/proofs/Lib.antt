@@ -1,4 +1,5 @@
 pub mod EmptyImage
+pub mod Checked
 pub mod Planned
 pub mod Inside
 pub mod Edits
@@ -17,6 +18,10 @@ pub mod Remove
 pub mod Service
 pub mod Callers
 pub mod Added
+pub mod Settling
+pub mod Meets
+pub mod Opens
+pub mod Serves
 pub mod Checks
 pub mod Shorts
 pub mod Decisions

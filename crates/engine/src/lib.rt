@@ -3,6 +3,7 @@ ghost use mathlib.Core.Path.{_≡_};
 ghost use Prim.Native.Nat.{_<_};
 
 pub mod calls;
+pub mod checking;
 pub mod empty;
 pub mod grants;
 pub mod load;

@@ -19,7 +19,7 @@ ghost use Rattle.image.specs.Wrote.{Wrote};
 ghost use Rattle.image.specs.Read.{numberOr, tokens, unmetRow};
 ghost use Rattle.record.specs.Meaning.{AidFits, Stands, aidIn, itemsIn};
 ghost use Rattle.engine.specs.Asked.{Asked};
-ghost use Rattle.engine.specs.Services.{asks, rowGranted, addingPlan};
+ghost use Rattle.engine.specs.Services.{asks, metOne, met, CallersIn, opened, grantedTo, added, rowGranted, addingPlan};
 use crate::Verdict;
 use geometry::Card;
 use geometry::Table;
@@ -199,4 +199,121 @@ fn plan_adding(
         package: j,
         service: k,
     }
+}
+
+// Unmet call r, if it asks for service k of package j, becomes a call bit.
+fn meet_call(
+    img: &mut [u8],
+    c: Card,
+    r: usize,
+    own: &[u8],
+    interface: u8,
+    method: u8,
+    j: usize,
+    k: usize,
+)
+    requires laid { ⌜ Laid (layoutOf c) (now img) ⌝ }
+    requires inside { ⌜ r < length (decode (layoutOf c) (now img) .unmet) ⌝ }
+    requires numbers { ⌜ (unmetRow (decode (layoutOf c) (now img)) r .caller < layoutOf c .packages) × (j < layoutOf c .packages) × (k < layoutOf c .services) ⌝ }
+    ensures { λ _. ⌜ Wrote (layoutOf c) (now (img .exit)) (metOne (asks (now (own .entry)) (tokens interface method)) j k
+        (unmetRow (decode (layoutOf c) (now (img .entry))) r) (decode (layoutOf c) (now (img .entry)))) ⌝ }
+{
+    if !image::lists::asks_for(img, c, r, own, interface, method) {
+        return;
+    }
+    let i = image::lists::unmet_caller(img, c, r);
+    image::write::set_bit(img, c, Table::Calls, i, j, k);
+}
+
+// The unmet calls that ask for service k of package j become call bits.
+fn meet_calls(img: &mut [u8], c: Card, own: &[u8], interface: u8, method: u8, j: usize, k: usize)
+    requires laid { ⌜ Laid (layoutOf c) (now img) ⌝ }
+    requires by { ⌜ CallersIn (layoutOf c) (decode (layoutOf c) (now img) .unmet) ⌝ }
+    requires numbers { ⌜ (j < layoutOf c .packages) × (k < layoutOf c .services) ⌝ }
+    ensures { λ _. ⌜ Wrote (layoutOf c) (now (img .exit)) (met (asks (now (own .entry)) (tokens interface method)) j k
+        (decode (layoutOf c) (now (img .entry)) .unmet) (decode (layoutOf c) (now (img .entry)))) ⌝ }
+{
+    let n = image::lists::unmet_count(img, c);
+    for r in 0..n {
+        meet_call(img, c, r, own, interface, method, j, k);
+    }
+}
+
+// Package j provides service k with these tokens.
+fn open_service(img: &mut [u8], c: Card, j: usize, k: usize, interface: u8, method: u8)
+    requires laid { ⌜ Laid (layoutOf c) (now img) ⌝ }
+    requires numbers { ⌜ (j < layoutOf c .packages) × (k < layoutOf c .services) ⌝ }
+    ensures { λ _. ⌜ Wrote (layoutOf c) (now (img .exit)) (opened j k (tokens interface method) (decode (layoutOf c) (now (img .entry)))) ⌝ }
+{
+    image::write::put_tok(img, c, j, k, interface, method);
+    let row = image::read::provided_row(img, c, j);
+    let with = bits::with_bit(row, k);
+    image::write::set_provided(img, c, j, with);
+}
+
+// Service k of package j is granted to an AID of the record: a bit where it is installed, else the grant waits.
+fn grant(img: &mut [u8], c: Card, rec: &[u8], a: Aid, j: usize, k: usize)
+    requires laid { ⌜ Laid (layoutOf c) (now img) ⌝ }
+    requires fits { ⌜ AidFits (now rec) a ⌝ }
+    requires numbers { ⌜ (j < layoutOf c .packages) × (k < layoutOf c .services) ⌝ }
+    requires room { ⌜ (numberOf (layoutOf c) (decode (layoutOf c) (now img)) (aidIn (now rec) a) ≡ none
+        → length (decode (layoutOf c) (now img) .waiting) < layoutOf c .capacity) ⌝ }
+    ensures { λ _. ⌜ Wrote (layoutOf c) (now (img .exit)) (addGrantAt (layoutOf c) (decode (layoutOf c) (now (img .entry))) j (aidIn (now (rec .entry)) a) k
+        (numberOf (layoutOf c) (decode (layoutOf c) (now (img .entry))) (aidIn (now (rec .entry)) a)) .tables) ⌝ }
+{
+    let n = geometry::packages(c);
+    let i = find_caller(img, c, rec, a);
+    if i < n {
+        image::write::set_bit(img, c, Table::Grants, j, i, k);
+        return;
+    }
+    let at = a.at;
+    let end = at + a.len;
+    image::write::append_waiting(img, c, &rec[at..end], j, k);
+}
+
+// Service k of package j is granted to the callers.
+fn grant_all(img: &mut [u8], c: Card, rec: &[u8], callers: Items, j: usize, k: usize)
+    requires laid { ⌜ Laid (layoutOf c) (now img) ⌝ }
+    requires stands { ⌜ Stands aid (now rec) callers ⌝ }
+    requires numbers { ⌜ (j < layoutOf c .packages) × (k < layoutOf c .services) ⌝ }
+    requires room { ⌜ length (decode (layoutOf c) (now img) .waiting)
+        + count (notInstalled (layoutOf c) (decode (layoutOf c) (now img))) (itemsIn aid (now rec) callers) ≤ layoutOf c .capacity ⌝ }
+    ensures { λ _. ⌜ Wrote (layoutOf c) (now (img .exit)) (grantedTo (layoutOf c) j k (itemsIn aid (now (rec .entry)) callers) (decode (layoutOf c) (now (img .entry)))) ⌝ }
+{
+    let mut todo = callers;
+    while 0 < todo.count {
+        let r = record::rows::take_aid(rec, todo);
+        let a = r.aid;
+        grant(img, c, rec, a, j, k);
+        todo = r.rest;
+    }
+}
+
+// Service k of package j is on the card: unmet calls on it become bits and leave their list, and the callers are granted it.
+fn serve(
+    img: &mut [u8],
+    c: Card,
+    own: &[u8],
+    interface: u8,
+    method: u8,
+    rec: &[u8],
+    callers: Items,
+    j: usize,
+    k: usize,
+)
+    requires laid { ⌜ Laid (layoutOf c) (now img) ⌝ }
+    requires by { ⌜ CallersIn (layoutOf c) (decode (layoutOf c) (now img) .unmet) ⌝ }
+    requires stands { ⌜ Stands aid (now rec) callers ⌝ }
+    requires numbers { ⌜ (j < layoutOf c .packages) × (k < layoutOf c .services) ⌝ }
+    requires room { ⌜ length (decode (layoutOf c) (now img) .waiting)
+        + count (notInstalled (layoutOf c) (decode (layoutOf c) (now img))) (itemsIn aid (now rec) callers) ≤ layoutOf c .capacity ⌝ }
+    ensures { λ _. ⌜ Wrote (layoutOf c) (now (img .exit)) (added (layoutOf c) j k (now (own .entry)) (tokens interface method) (itemsIn aid (now (rec .entry)) callers)
+        (decode (layoutOf c) (now (img .entry)))) ⌝ }
+{
+    meet_calls(img, c, own, interface, method, j, k);
+    let mask = image::lists::asking(img, c, own, interface, method);
+    image::write::drop_unmet(img, c, mask);
+    open_service(img, c, j, k, interface, method);
+    grant_all(img, c, rec, callers, j, k);
 }

@@ -1,0 +1,141 @@
+-- What the writing code of kind 3 leaves: call bits of unmet calls, and grants. Assumes nothing.
+use Prim.Native.Nat.{ℕ, zero, suc, _+_, _-_, _≤_, _<_}
+use native.Mathlib.Omega.{arith}
+use native.Mathlib.Numerals.{add-one}
+use mathlib.Core.Path.{_≡_, refl, sym, ap, _∙_, subst}
+use mathlib.Core.Bool.{Bool, true, false, not, cond}
+use mathlib.Core.List.{List, [], _∷_, _++_}
+use mathlib.Core.Option.{Option, none, some}
+use lib.ListN.{length, getD, take, drop, drop-of-length-le}
+use lib.Seq.{drop-cons}
+use Rattle.policy.specs.Contract.{Aid}
+use Rattle.policy.specs.Lists.{keep, isSome}
+use Rattle.policy.specs.Record.{aid}
+use Rattle.policy.specs.ShortCheck.{count, notInstalled}
+use Rattle.policy.specs.Layout.{Layout}
+use Rattle.policy.specs.Tables.{Tables, Unmet, decode}
+use Rattle.policy.specs.Lookup.{numberOf}
+use Rattle.policy.specs.Draft.{put3, withCalls, withGrants, addGrantAt}
+use Rattle.policy.proofs.Sets.{false-T, length-snoc}
+use Rattle.image.specs.Laid.{Laid, withWaiting}
+use Rattle.image.specs.Wrote.{Wrote}
+use Rattle.image.specs.Read.{numberOr, noUnmet, unmetRow}
+use Rattle.image.proofs.Numbers.{package-none, package-some}
+use Rattle.record.specs.Meaning.{AidFits, itemsIn, Uncons}
+use Rattle.record.specs.declared.Items.{Items}
+use Rattle.record.proofs.Loops.{Todo, todo-end, todo-next}
+use Rattle.record.specs.declared.Aid.{Aid as Place}
+use Rattle.engine.specs.Services.{metOne, met, CallersIn, grantedTo}
+use Rattle.engine.proofs.Callers.{in-row}
+
+module _ (L : Layout) (f : Unmet → Bool) (j k : ℕ) (img : List ℕ) where
+  abbrev t : Tables
+  t = decode L img
+
+  -- ---- one unmet call
+  pub not-met : (b : Bool) (u : Unmet) → b ≡ f u → not b ≡ true → Laid L img → Wrote L img (metOne f j k u t)
+  not-met false u e n h = record { laid = h; tables = ap (λ (z : Bool). withCalls (cond z (put3 (u .caller) j k true (t .calls)) (t .calls)) (t .unmet) t) e }
+  not-met true u e n h = absurd (false-T (sym n) tt)
+
+  pub is-met : {img′ : List ℕ} (b : Bool) (u : Unmet) (i : ℕ) → b ≡ f u → not b ≡ false → i ≡ u .caller → Wrote L img′ (withCalls (put3 i j k true (t .calls)) (t .unmet) t)
+      → Wrote L img′ (metOne f j k u t)
+  is-met {img′} true u i e n q w = subst (λ (z : Bool). Wrote L img′ (withCalls (cond z (put3 (u .caller) j k true (t .calls)) (t .calls)) (t .unmet) t)) e
+      (subst (λ (m : ℕ). Wrote L img′ (withCalls (put3 m j k true (t .calls)) (t .unmet) t)) q w)
+  is-met false u i e n q w = absurd (false-T n tt)
+
+-- ---- a loop over them: those from r on are still to be met
+pub record Meeting (L : Layout) (f : Unmet → Bool) (j k : ℕ) (t₀ : Tables) (img : List ℕ) (r : ℕ) : Type 0 where
+  pub laid : Laid L img
+  pub rows : decode L img .unmet ≡ t₀ .unmet
+  pub rest : met f j k (drop r (t₀ .unmet)) (decode L img) ≡ met f j k (t₀ .unmet) t₀
+
+module _ (L : Layout) (f : Unmet → Bool) (j k : ℕ) (t₀ : Tables) {img : List ℕ} {r : ℕ} (m : Meeting L f j k t₀ img r) where
+  pub meeting-next : {img′ : List ℕ} → r < length (t₀ .unmet) → Wrote L img′ (metOne f j k (unmetRow (decode L img) r) (decode L img)) → Meeting L f j k t₀ img′ (r + 1)
+  meeting-next {img′} h w = record {
+    laid = w .laid;
+    rows = ap (λ (v : Tables). v .unmet) (w .tables) ∙ m .rows;
+    rest = ap (met f j k (drop (r + 1) (t₀ .unmet))) (w .tables)
+        ∙ ap (λ (l : List Unmet). met f j k (getD l r noUnmet ∷ drop (r + 1) (t₀ .unmet)) (decode L img)) (m .rows)
+        ∙ ap (λ (l : List Unmet). met f j k l (decode L img)) (sym here)
+        ∙ m .rest;
+  }
+    where
+      here : drop r (t₀ .unmet) ≡ getD (t₀ .unmet) r noUnmet ∷ drop (r + 1) (t₀ .unmet)
+      here = rw (add-one r) (drop-cons (t₀ .unmet) r noUnmet h)
+
+  pub meeting-inside : r < length (t₀ .unmet) → r < length (decode L img .unmet)
+  meeting-inside h = subst (λ (l : List Unmet). r < length l) (sym (m .rows)) h
+
+  pub meeting-caller : CallersIn L (t₀ .unmet) → r < length (t₀ .unmet) → unmetRow (decode L img) r .caller < L .packages
+  meeting-caller by h = subst (λ (l : List Unmet). getD l r noUnmet .caller < L .packages) (sym (m .rows)) (by (getD (t₀ .unmet) r noUnmet) (in-row (t₀ .unmet) r noUnmet h))
+
+  pub meeting-end : length (t₀ .unmet) ≤ r → Wrote L img (met f j k (t₀ .unmet) t₀)
+  meeting-end h = record {
+    laid = m .laid;
+    tables = ap (λ (l : List Unmet). met f j k l (decode L img)) (sym (drop-of-length-le (t₀ .unmet) {i = r} h)) ∙ m .rest;
+  }
+
+-- ---- one grant
+take-most : {A : Type 0} (n : ℕ) (l : List A) → length (take n l) ≤ n
+take-most zero l = omega arith
+take-most (suc n) [] = omega arith
+take-most (suc n) (x ∷ l) = omega (arith, take-most n l)
+
+-- the part of the record that an AID is has at most 16 bytes
+pub part-short : (s : List ℕ) (a : Place) → AidFits s a → length (take (a .at + a .len - a .at) (drop (a .at) s)) ≤ 16
+part-short s a h = omega (arith, take-most (a .at + a .len - a .at) (drop (a .at) s), h .high)
+
+module _ (L : Layout) (t : Tables) (j k : ℕ) (a : Aid) (n i : ℕ) (e : n ≡ L .packages) (q : i ≡ numberOr (L .packages) (numberOf L t a)) where
+  pub grant-bit : {img : List ℕ} → i < n → Wrote L img (withGrants (put3 j i k true (t .grants)) (t .waiting) t) → Wrote L img (addGrantAt L t j a k (numberOf L t a) .tables)
+  grant-bit {img} h w = subst (λ (o : Option ℕ). Wrote L img (addGrantAt L t j a k o .tables)) (sym (package-some L t a i q (omega arith))) w
+
+  pub unknown : n ≤ i → numberOf L t a ≡ none
+  unknown h = package-none L t a i q (omega arith)
+
+  pub grant-waits : {img : List ℕ} (b : Aid) → n ≤ i → b ≡ a → Wrote L img (withWaiting (t .waiting ++ (record { caller = b; callee = j; service = k } ∷ [])) t)
+      → Wrote L img (addGrantAt L t j a k (numberOf L t a) .tables)
+  grant-waits {img} b h p w = subst (λ (o : Option ℕ). Wrote L img (addGrantAt L t j a k o .tables)) (sym (unknown h))
+      (subst (λ (z : Aid). Wrote L img (withWaiting (t .waiting ++ (record { caller = z; callee = j; service = k } ∷ [])) t)) p w)
+
+-- ---- the grants, one by one: those of todo are to come, and there is room for them
+pub record Granting (L : Layout) (j k : ℕ) (t₀ : Tables) (all : List Aid) (rec : List ℕ) (img : List ℕ) (todo : Items) : Type 0 where
+  pub laid : Laid L img
+  pub left : Todo aid rec todo (λ l. grantedTo L j k l (decode L img)) (grantedTo L j k all t₀)
+  pub room : length (decode L img .waiting) + count (notInstalled L (decode L img)) (itemsIn aid rec todo) ≤ L .capacity
+
+module _ (L : Layout) (j k : ℕ) (t : Tables) (x : Aid) (l : List Aid) (h : length (t .waiting) + count (notInstalled L t) (x ∷ l) ≤ L .capacity) where
+  abbrev later : List Aid
+  later = keep (notInstalled L t) l
+
+  abbrev RoomBy : Option ℕ → Type 0
+  RoomBy o = length (t .waiting) + length (cond (not (isSome o)) (x ∷ later) later) ≤ L .capacity
+
+  pub room-here : numberOf L t x ≡ none → length (t .waiting) < L .capacity
+  room-here e = go (subst RoomBy e h)
+    where
+      go : RoomBy none → length (t .waiting) < L .capacity
+      go q = omega (arith, q)
+
+  room-after : (o : Option ℕ) → RoomBy o → length (addGrantAt L t j x k o .tables .waiting) + count (notInstalled L (addGrantAt L t j x k o .tables)) l ≤ L .capacity
+  unfolding numberOf
+  room-after none q = subst (λ (n : ℕ). n + length later ≤ L .capacity) (sym (length-snoc (t .waiting) (record { caller = x; callee = j; service = k }))) (omega (arith, q))
+  room-after (some i) q = q
+
+module _ (L : Layout) (j k : ℕ) (t₀ : Tables) (all : List Aid) {rec img : List ℕ} {todo : Items} (g : Granting L j k t₀ all rec img todo) where
+  pub granting-end : todo .count ≤ 0 → Wrote L img (grantedTo L j k all t₀)
+  granting-end e = record { laid = g .laid; tables = todo-end (g .left) e }
+
+  module _ {x : Aid} {rest : Items} (u : Uncons aid rec todo x rest) where
+    room-of : length (decode L img .waiting) + count (notInstalled L (decode L img)) (x ∷ itemsIn aid rec rest) ≤ L .capacity
+    room-of = subst (λ (l : List Aid). length (decode L img .waiting) + count (notInstalled L (decode L img)) l ≤ L .capacity) (u .same) (g .room)
+
+    pub granting-room : numberOf L (decode L img) x ≡ none → length (decode L img .waiting) < L .capacity
+    granting-room = room-here L j k (decode L img) x (itemsIn aid rec rest) room-of
+
+    pub granting-next : {img′ : List ℕ} → Wrote L img′ (addGrantAt L (decode L img) j x k (numberOf L (decode L img) x) .tables) → Granting L j k t₀ all rec img′ rest
+    granting-next {img′} w = record {
+      laid = w .laid;
+      left = todo-next (g .left) u (λ l. grantedTo L j k l (decode L img′)) (ap (grantedTo L j k (itemsIn aid rec rest)) (sym (w .tables)));
+      room = subst (λ (v : Tables). length (v .waiting) + count (notInstalled L v) (itemsIn aid rec rest) ≤ L .capacity) (sym (w .tables))
+          (room-after L j k (decode L img) x (itemsIn aid rec rest) room-of (numberOf L (decode L img) x) room-of);
+    }

@@ -1,0 +1,66 @@
+-- `engine::services::open_service` meets its contract. Assumes nothing.
+use native.Mathlib.Omega.{arith}
+use denote.Ref.{now}
+use borrow.Author.Needs.{needs}
+use Rattle.policy.specs.Tables.{decode}
+use Rattle.geometry.specs.Geometry.{layoutOf}
+use Rattle.geometry.proofs.Bounds.{limits, service-lt}
+use Rattle.image.specs.Read.{tokens}
+use Rattle.engine.proofs.Opens.{with-fits, with-is, row-still, open-wrote}
+use Rattle.engine.proofs.services.open_service.Statement.{statement}
+use Rattle.engine.proofs.services.open_service.Tie as tie
+
+put-tok-requires : tie.Need-put-tok-requires
+put-tok-requires c κs = search needs
+
+provided-row-requires : tie.Need-provided-row-requires
+provided-row-requires c κs = search needs
+
+with-bit-requires : tie.Need-with-bit-requires
+with-bit-requires c κs = let s = c .before .before .before .before .before .before .before in service-lt (s .args .c) (s .args .k) (s .pre .1 .1)
+
+set-provided-requires : tie.Need-set-provided-requires
+set-provided-requires c κs =
+    let r = c .before .before in
+    let w = r .before .before .before .before in
+    let s = w .before .before .before in
+    let a = s .args in
+    let L = layoutOf (a .c) in
+    let t = decode L (now (a .img)) in (
+      w .put-tok .ensures .laid,
+      (
+        s .pre .1 .0,
+        with-fits (L .services) (a .k) (t .provides (a .j)) (λ z h. s .pre .0 .room .provides-in (a .j) z h .1) (s .pre .1 .1) (omega (arith, limits (a .c)))
+            (r .provided-row .result) (c .before .with-bit .result)
+            (row-still L t (a .j) (a .k) (tokens (a .interface) (a .method)) (w .put-tok .ensures) (L .services) (r .provided-row .result) (r .provided-row .ensures)) (c .before .with-bit .ensures),
+      ),
+    )
+
+same-length : tie.Need-same-length
+same-length c = search needs
+
+returns : tie.Need-returns
+returns c =
+    let v = c .before .before .before .before in
+    let r = v .before in
+    let w = r .before .before .before .before in
+    let s = w .before .before .before in
+    let a = s .args in
+    let L = layoutOf (a .c) in
+    let t = decode L (now (a .img)) in
+    open-wrote L t (a .j) (a .k) (tokens (a .interface) (a .method)) (w .put-tok .ensures) (v .with-bit .result)
+    (with-is (L .services) (a .k) (t .provides (a .j)) (λ z h. s .pre .0 .room .provides-in (a .j) z h .1) (s .pre .1 .1) (omega (arith, limits (a .c)))
+    (r .provided-row .result) (v .with-bit .result)
+    (row-still L t (a .j) (a .k) (tokens (a .interface) (a .method)) (w .put-tok .ensures) (L .services) (r .provided-row .result) (r .provided-row .ensures)) (v .with-bit .ensures))
+    (c .before .before .set-provided .ensures)
+
+pub open-service-spec : {M : Type 1} → statement M
+open-service-spec =
+    tie.close
+    (tie.spec
+    put-tok-requires
+    provided-row-requires
+    with-bit-requires
+    set-provided-requires
+    same-length
+    returns)
