@@ -22,6 +22,7 @@ pub mod Settling
 pub mod Meets
 pub mod Opens
 pub mod Serves
+pub mod Adds
 pub mod Checks
 pub mod Shorts
 pub mod Decisions

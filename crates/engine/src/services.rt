@@ -317,3 +317,38 @@ fn serve(
     open_service(img, c, j, k, interface, method);
     grant_all(img, c, rec, callers, j, k);
 }
+
+// Kind 3: a service of the package with AID own, with the callers that it is granted to.
+pub fn add_service(
+    img: &mut [u8],
+    c: Card,
+    own: &[u8],
+    interface: u8,
+    method: u8,
+    rec: &[u8],
+    callers: Items,
+) -> Verdict
+    requires asked { ⌜ Asked (layoutOf c) (now img) (now own) (addService (tokens interface method) (itemsIn aid (now rec) callers)) ⌝ }
+    requires stands { ⌜ Stands aid (now rec) callers ⌝ }
+    ensures { λ r. ⌜ Gives (settled (layoutOf c) (now (img .entry)) (now (own .entry)) (addService (tokens interface method) (itemsIn aid (now (rec .entry)) callers)))
+        (r .number) (r .second) (now (img .exit)) ⌝ }
+{
+    let plan = plan_adding(img, c, own, interface, method, rec, callers);
+    match plan {
+        Adding::Refuse { cause } => crate::refused(cause),
+        Adding::Add { package, service } => {
+            serve(
+                img,
+                c,
+                own,
+                interface,
+                method,
+                rec,
+                callers,
+                package,
+                service,
+            );
+            crate::accepted(package)
+        }
+    }
+}
