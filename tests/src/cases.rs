@@ -39,7 +39,8 @@ impl Case {
     pub fn run(&self, cards: &[&dyn Card]) -> Result<Vec<Verdict>, String> {
         let mut compare = Compare::new(cards, 0)?;
         let mut tally = Tally::default();
-        self.steps.iter().map(|step| compare.step(&step.record, &mut tally)).collect()
+        let verdicts = self.steps.iter().map(|step| compare.step(&step.record, &mut tally));
+        verdicts.map(|verdict| verdict.map_err(|difference| difference.to_string())).collect()
     }
 
     /// The line that a program prints for the case: each answer, and the package number or `-`.

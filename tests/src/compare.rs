@@ -1,7 +1,7 @@
 //! What is compared after each record: the plain machine, the byte engine, and every other engine.
 
 use crate::card::{Card, Verdict, IMAGE, LONGEST_RECORD};
-use crate::damage;
+use crate::damage::Damage;
 use crate::hex::to_hex;
 use crate::machine::record::{self, Lists};
 use crate::machine::{Change, Contract, Machine};
@@ -9,10 +9,29 @@ use crate::pairs::{possible, Kind, Pairs};
 use crate::random::Random;
 use crate::tables;
 use std::collections::BTreeSet;
+use std::fmt;
 use std::hint::black_box;
 
-/// A difference in words.
-type Difference = String;
+/// A difference in words, and the damage to the image that showed it.
+pub struct Difference {
+    pub words: String,
+    pub damage: Damage,
+}
+
+impl fmt::Display for Difference {
+    fn fmt(&self, f: &mut fmt::Formatter) -> fmt::Result {
+        match self.damage.0.is_empty() {
+            true => write!(f, "{}", self.words),
+            false => write!(f, "with damage {}: {}", self.damage.to_text(), self.words),
+        }
+    }
+}
+
+impl From<String> for Difference {
+    fn from(words: String) -> Difference {
+        Difference { words, damage: Damage::default() }
+    }
+}
 
 macro_rules! expect {
     ($holds:expr, $($words:tt)*) => {
@@ -51,7 +70,7 @@ pub struct Compare<'a> {
 }
 
 impl<'a> Compare<'a> {
-    pub fn new(cards: &'a [&'a dyn Card], seed: u64) -> Result<Compare<'a>, Difference> {
+    pub fn new(cards: &'a [&'a dyn Card], seed: u64) -> Result<Compare<'a>, String> {
         let mut image = vec![0; IMAGE];
         image[..3].copy_from_slice(&[0x04, 0x46, 0x01]);
         for card in cards {
@@ -71,16 +90,18 @@ impl<'a> Compare<'a> {
         self.check_alike()?;
         self.read_out_alike(&mut random, tally)?;
         self.aid_alike(bytes)?;
-        expect!(*black_box(&self.image) == before, "an image that was lent to be read is changed");
-        for n in 0..4 {
-            self.damaged_alike(n % 2 == 0, bytes, &mut random, tally)?;
+        if *black_box(&self.image) != before {
+            return Err("an image that was lent to be read is changed".to_string().into());
+        }
+        for draw in [Damage::one_byte, Damage::two_bytes, Damage::one_byte, Damage::two_bytes] {
+            self.damaged_alike(&draw(&self.image, &mut random), bytes, tally)?;
         }
         self.count(tally);
         Ok(verdict)
     }
 
     /// The image is sound for every engine, with as many packages as there are contracts.
-    fn check_alike(&self) -> Result<(), Difference> {
+    fn check_alike(&self) -> Result<(), String> {
         let expected = Verdict::new(0, self.machine.contracts.len() as u32);
         for card in self.cards {
             let verdict = card.check(&self.image);
@@ -90,7 +111,7 @@ impl<'a> Compare<'a> {
     }
 
     /// Every number reads out as the contract that the machine holds, alike in every engine.
-    fn read_out_alike(&self, random: &mut Random, tally: &mut Tally) -> Result<(), Difference> {
+    fn read_out_alike(&self, random: &mut Random, tally: &mut Tally) -> Result<(), String> {
         for number in 0..8 {
             let used = self.image[3] >> number & 1 == 1;
             let first = self.read_out_one(self.cards[0], number, LONGEST_RECORD)?;
@@ -104,12 +125,12 @@ impl<'a> Compare<'a> {
         let number = random.below(8) as u32;
         let whole = self.read_out_one(self.cards[0], number, LONGEST_RECORD)?;
         let unused = [8, 9, 255, 256 + number, 65_536 + number, u32::MAX][random.below(6)];
+        let shorter = random.below(whole.len().max(1));
         for card in self.cards {
             let exact = self.read_out_one(*card, number, whole.len())?;
             expect!(exact == whole, "{}: package {number} reads out into {} bytes", card.name(), whole.len());
             self.read_out_one(*card, unused, LONGEST_RECORD)?;
             if !whole.is_empty() {
-                let shorter = random.below(whole.len());
                 for size in [whole.len() - 1, shorter] {
                     let mut buffer = FILL[..size].to_vec();
                     let verdict = card.read_out(&self.image, number, &mut buffer);
@@ -123,7 +144,7 @@ impl<'a> Compare<'a> {
 
     /// The record that a number reads out as, into a buffer that is long enough; empty when the
     /// number is not used.
-    fn read_out_one(&self, card: &dyn Card, number: u32, size: usize) -> Result<Vec<u8>, Difference> {
+    fn read_out_one(&self, card: &dyn Card, number: u32, size: usize) -> Result<Vec<u8>, String> {
         let mut buffer = FILL[..size].to_vec();
         let verdict = card.read_out(&self.image, number, &mut buffer);
         let place = || format!("{}: reading {number} out gives {verdict:?}", card.name());
@@ -147,7 +168,7 @@ impl<'a> Compare<'a> {
     }
 
     /// The first AID's part of the record is where the machine reads it, or empty.
-    fn aid_alike(&self, bytes: &[u8]) -> Result<(), Difference> {
+    fn aid_alike(&self, bytes: &[u8]) -> Result<(), String> {
         let read = record::read(bytes);
         for card in self.cards {
             let part = card.aid(bytes);
@@ -161,31 +182,28 @@ impl<'a> Compare<'a> {
     }
 
     /// Engines agree on a damaged image, with the tests' own reader and with the machine.
-    fn damaged_alike(&self, one: bool, bytes: &[u8], random: &mut Random, tally: &mut Tally) -> Result<(), Difference> {
-        let mut image = self.image.clone();
-        match one {
-            true => damage::one_byte(&mut image, random),
-            false => damage::two_bytes(&mut image, random),
-        }
-        let damaged = |difference| {
-            let places = (0..IMAGE).filter(|at| image[*at] != self.image[*at]);
-            let places: Vec<String> = places.map(|at| format!("byte {at} = {:02X}", image[at])).collect();
-            format!("on the image with {}: {difference}", places.join(" and "))
-        };
-        match tables::contracts(&image) {
+    pub fn damaged_alike(&self, damage: &Damage, bytes: &[u8], tally: &mut Tally) -> Result<(), Difference> {
+        let image = damage.done_to(&self.image);
+        let outcome = match tables::contracts(&image) {
             Some(machine) => {
                 tally.damaged_sound += 1;
-                let mut damaged_card = Compare { cards: self.cards, machine, image: image.clone(), seed: self.seed };
-                let Compare { machine, image, .. } = &mut damaged_card;
-                judge_alike(self.cards, machine, image, bytes, &mut tally.pairs).map_err(damaged)?;
-                damaged_card.check_alike().map_err(damaged)
+                let damaged = Compare { cards: self.cards, machine, image, seed: self.seed };
+                damaged.sound_alike(bytes, tally)
             }
             None => {
                 tally.damaged_unsound += 1;
                 tally.pairs.count(Kind::of(bytes), 1);
-                self.cards.iter().try_for_each(|card| unsound(*card, &image, bytes)).map_err(damaged)
+                self.cards.iter().try_for_each(|card| unsound(*card, &image, bytes))
             }
-        }
+        };
+        outcome.map_err(|words| Difference { words, damage: damage.clone() })
+    }
+
+    /// A damaged image that is sound is a card like any other.
+    fn sound_alike(mut self, bytes: &[u8], tally: &mut Tally) -> Result<(), String> {
+        self.check_alike()?;
+        judge_alike(self.cards, &mut self.machine, &mut self.image, bytes, &mut tally.pairs)?;
+        self.check_alike()
     }
 
     fn count(&self, tally: &mut Tally) {
@@ -209,7 +227,7 @@ fn judge_alike(
     image: &mut Vec<u8>,
     bytes: &[u8],
     pairs: &mut Pairs,
-) -> Result<Verdict, Difference> {
+) -> Result<Verdict, String> {
     let before = image.clone();
     let answer = machine.judge(bytes);
     let kind = Kind::of(bytes);
@@ -263,7 +281,7 @@ fn lists_are(lists: &Lists, contract: &Contract) -> bool {
 }
 
 /// An image that is not sound is refused by every entry and left as it was.
-fn unsound(card: &dyn Card, image: &[u8], bytes: &[u8]) -> Result<(), Difference> {
+fn unsound(card: &dyn Card, image: &[u8], bytes: &[u8]) -> Result<(), String> {
     let name = card.name();
     let checked = card.check(image);
     expect!(checked == Verdict::new(1, 255), "{name}: checking the unsound image gives {checked:?}");
@@ -277,7 +295,7 @@ fn unsound(card: &dyn Card, image: &[u8], bytes: &[u8]) -> Result<(), Difference
 }
 
 /// Images, buffers and records of lengths that no card and no record has.
-pub fn lengths_alike(cards: &[&dyn Card]) -> Result<(), Difference> {
+pub fn lengths_alike(cards: &[&dyn Card]) -> Result<(), String> {
     let removal = [0, 10, 1, 2, 5, 0xF0, 0, 0, 0, 1];
     for card in cards {
         let name = card.name();
@@ -285,7 +303,7 @@ pub fn lengths_alike(cards: &[&dyn Card]) -> Result<(), Difference> {
             let mut image = vec![0; length];
             let header = [0x04, 0x46, 0x01];
             image[..length.min(3)].copy_from_slice(&header[..length.min(3)]);
-            unsound(*card, &image, &removal).map_err(|difference| format!("{length} bytes: {difference}"))?;
+            unsound(*card, &image, &removal).map_err(|words| format!("{length} bytes: {words}"))?;
             let mut buffer = vec![0xA5; length];
             let written = card.empty(&mut buffer);
             let left = buffer == vec![0xA5; length];

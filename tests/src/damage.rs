@@ -2,44 +2,96 @@
 
 use crate::random::Random;
 
-/// Changes one byte.
-pub fn one_byte(image: &mut [u8], random: &mut Random) {
-    let at = place(image, random);
-    let byte = image[at];
-    image[at] = match random.below(4) {
+/// Bytes put at places of an image.
+#[derive(Clone, Debug, Default, PartialEq, Eq)]
+pub struct Damage(pub Vec<(usize, u8)>);
+
+impl Damage {
+    /// One byte changed.
+    pub fn one_byte(image: &[u8], random: &mut Random) -> Damage {
+        let at = place(image, random);
+        Damage(vec![(at, changed(image[at], random))])
+    }
+
+    /// Two bytes changed: anywhere, or the same bit of one caller and callee in two tables.
+    pub fn two_bytes(image: &[u8], random: &mut Random) -> Damage {
+        if random.percent(60) {
+            let places = [place(image, random), place(image, random)];
+            return Damage(places.map(|at| (at, changed(image[at], random))).to_vec());
+        }
+        let (caller, callee, bit) = (random.below(8), random.below(8), 1 << random.below(8));
+        let cells = [276 + 8 * caller + callee, 340 + 8 * callee + caller, 404 + 8 * caller + callee];
+        let left_out = random.below(3);
+        let kept = cells.into_iter().enumerate().filter(|(n, _)| *n != left_out);
+        Damage(kept.map(|(_, cell)| (cell, image[cell] ^ bit)).collect())
+    }
+
+    /// The image with the damage.
+    pub fn done_to(&self, image: &[u8]) -> Vec<u8> {
+        let mut image = image.to_vec();
+        for (at, byte) in &self.0 {
+            image[*at] = *byte;
+        }
+        image
+    }
+
+    /// Places and bytes, as in `3=0F,1093=01`.
+    pub fn to_text(&self) -> String {
+        self.0.iter().map(|(at, byte)| format!("{at}={byte:02X}")).collect::<Vec<_>>().join(",")
+    }
+
+    /// Reads what `to_text` writes; `None` when something else stands there.
+    pub fn from_text(text: &str) -> Option<Damage> {
+        let places = text.split(',').map(|place| {
+            let (at, byte) = place.split_once('=')?;
+            let at: usize = at.parse().ok()?;
+            (at < 1094).then_some((at, u8::from_str_radix(byte, 16).ok()?))
+        });
+        places.collect::<Option<Vec<_>>>().map(Damage)
+    }
+}
+
+fn changed(byte: u8, random: &mut Random) -> u8 {
+    match random.below(4) {
         0 => random.byte(),
         1 => byte.wrapping_add(1),
         2 => byte.wrapping_sub(1),
         _ => byte ^ (1 << random.below(8)),
-    };
-}
-
-/// Changes two bytes: anywhere, or the same bit of one caller and callee in two tables.
-pub fn two_bytes(image: &mut [u8], random: &mut Random) {
-    if random.percent(60) {
-        one_byte(image, random);
-        one_byte(image, random);
-        return;
-    }
-    let (caller, callee, bit) = (random.below(8), random.below(8), 1 << random.below(8));
-    let cells = [276 + 8 * caller + callee, 340 + 8 * callee + caller, 404 + 8 * caller + callee];
-    let left_out = random.below(3);
-    for (n, cell) in cells.into_iter().enumerate() {
-        if n != left_out {
-            image[cell] ^= bit;
-        }
     }
 }
 
 /// A place anywhere, or in a part of the image that is otherwise seldom reached.
 fn place(image: &[u8], random: &mut Random) -> usize {
-    match random.below(8) {
+    let count_or_length =
+        [468, 789, 4 + 17 * random.below(8), 469 + 20 * random.below(16), 790 + 19 * random.below(16)];
+    match random.below(9) {
         0 => random.below(4),
         1 => random.between(4, 139),
         2 => random.between(140, 275),
         3 => random.between(276, 467),
         4 => 468 + random.below(1 + 20 * (usize::from(image[468]) + 1).min(16)),
         5 => 789 + random.below(1 + 19 * (usize::from(image[789]) + 1).min(16)),
+        6 => count_or_length[random.below(5)],
         _ => random.below(image.len()),
+    }
+}
+
+#[cfg(test)]
+mod tests {
+    use super::*;
+
+    #[test]
+    fn damage_changes_the_bytes_it_names() {
+        let image = vec![0; 1094];
+        let mut random = Random::new(5);
+        for _ in 0..200 {
+            let (one, two) = (Damage::one_byte(&image, &mut random), Damage::two_bytes(&image, &mut random));
+            assert_eq!((one.0.len(), two.0.len()), (1, 2));
+            let damaged = two.done_to(&image);
+            assert!((0..1094).all(|at| damaged[at] == image[at] || two.0.contains(&(at, damaged[at]))));
+            assert_eq!(Damage::from_text(&two.to_text()), Some(two));
+        }
+        assert_eq!(Damage::from_text("1094=00"), None);
+        assert_eq!(Damage::from_text("3"), None);
     }
 }

@@ -2,6 +2,9 @@
 
 /// Drops ever smaller runs of items while `fails` holds, until no single item can be dropped.
 pub fn shrink<T: Clone>(history: &[T], fails: impl Fn(&[T]) -> bool) -> Vec<T> {
+    if fails(&[]) {
+        return Vec::new();
+    }
     let mut shortest = history.to_vec();
     let mut run = shortest.len() / 2;
     while run > 0 {

@@ -26,7 +26,7 @@ fn answers(records: &[Vec<u8>]) -> Vec<u32> {
     let mut compare = Compare::new(&cards, 1).expect("an empty card");
     let mut tally = Tally::default();
     let judged = records.iter().map(|record| compare.step(record, &mut tally));
-    judged.map(|verdict| verdict.expect("no difference").answer).collect()
+    judged.map(|verdict| verdict.unwrap_or_else(|difference| panic!("{difference}")).answer).collect()
 }
 
 #[test]

@@ -1,6 +1,8 @@
 //! Every engine that is wrong on purpose is found, with a short history.
 
 use second::card::{Bytes, Card};
+use second::compare::lengths_alike;
+use second::damage::Damage;
 use second::faults::FAULTS;
 use second::run::{replay, run};
 
@@ -13,9 +15,10 @@ fn every_fault_is_found() {
         let cards: [&dyn Card; 2] = [&Bytes, fault];
         let name = fault.name();
         let failure = run(&cards, SEED, 20_000).err().unwrap_or_else(|| panic!("{name} was not found"));
-        assert!(!failure.difference.is_empty(), "{name}");
-        assert!(failure.history.len() <= 18, "{name} took {} records", failure.history.len());
-        let again = failure.history.is_empty() || replay(&cards, SEED, &failure.history).is_err();
+        let (difference, history) = (failure.difference, failure.history);
+        assert!(!difference.words.is_empty(), "{name}");
+        assert!(history.len() <= 5, "{name} took {} records", history.len());
+        let again = replay(&cards, SEED, &history, &difference.damage).is_err() || lengths_alike(&cards).is_err();
         assert!(again, "{name}: the shortest history does not fail");
     }
 }
@@ -28,7 +31,7 @@ fn no_record_of_a_shortest_history_can_be_dropped() {
     for n in 0..history.len() {
         let mut without = history.clone();
         without.remove(n);
-        assert!(replay(&cards, SEED, &without).is_ok(), "record {n} is not needed");
+        assert!(replay(&cards, SEED, &without, &Damage::default()).is_ok(), "record {n} is not needed");
     }
 }
 

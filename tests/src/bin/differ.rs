@@ -1,12 +1,14 @@
 //! Compares the engines on random histories.
 //!
-//!     differ [--seed N] [--records N] [--replay FILE] [--fault NAME]
+//!     differ [--seed N] [--records N] [--fault NAME]
+//!     differ --replay FILE [--damage PLACE=BYTE,...] [--seed N] [--fault NAME]
 //!
 //! A file to replay has a record on each line, in hexadecimal. A fault is an engine that is wrong
 //! on purpose and is compared too.
 
 use second::card::{linked, Card};
 use second::compare::Tally;
+use second::damage::Damage;
 use second::faults::FAULTS;
 use second::hex::{from_hex, to_hex};
 use second::run::{replay, run, DEFAULT_RECORDS, DEFAULT_SEED};
@@ -17,6 +19,7 @@ struct Arguments {
     seed: u64,
     records: u64,
     replay: Option<String>,
+    damage: Damage,
     fault: Option<&'static dyn Card>,
 }
 
@@ -42,7 +45,8 @@ fn main() -> ExitCode {
 }
 
 fn arguments() -> Result<Arguments, String> {
-    let mut arguments = Arguments { seed: DEFAULT_SEED, records: DEFAULT_RECORDS, replay: None, fault: None };
+    let (seed, records) = (DEFAULT_SEED, DEFAULT_RECORDS);
+    let mut arguments = Arguments { seed, records, replay: None, damage: Damage::default(), fault: None };
     let mut given = std::env::args().skip(1);
     while let Some(name) = given.next() {
         let value = given.next().ok_or(format!("{name} lacks its value"))?;
@@ -51,8 +55,12 @@ fn arguments() -> Result<Arguments, String> {
             "--seed" => arguments.seed = number()?,
             "--records" => arguments.records = number()?,
             "--replay" => arguments.replay = Some(value),
+            "--damage" => {
+                let read = Damage::from_text(&value);
+                arguments.damage = read.ok_or(format!("{name} {value}: not as in 3=0F,1093=01"))?;
+            }
             "--fault" => arguments.fault = Some(fault(&value)?),
-            _ => return Err(format!("{name}: not known; there are --seed, --records, --replay and --fault")),
+            _ => return Err(format!("{name}: not known; there are --seed, --records, --replay, --damage and --fault")),
         }
     }
     Ok(arguments)
@@ -122,6 +130,7 @@ fn replay_file(cards: &[&dyn Card], arguments: &Arguments, file: &str) -> Result
         .enumerate()
         .map(|(n, line)| from_hex(line).ok_or(format!("{file}, line {}: not pairs of hexadecimal digits", n + 1)));
     let history: Vec<Vec<u8>> = records.collect::<Result<_, _>>()?;
-    println!("{}", report(&replay(cards, arguments.seed, &history)?));
+    let tally = replay(cards, arguments.seed, &history, &arguments.damage);
+    println!("{}", report(&tally.map_err(|difference| difference.to_string())?));
     Ok(())
 }
