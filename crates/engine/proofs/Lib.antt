@@ -23,6 +23,3 @@ pub mod Meets
 pub mod Opens
 pub mod Serves
 pub mod Adds
-pub mod Checks
-pub mod Shorts
-pub mod Decisions

@@ -2,4 +2,3 @@ pub mod Asked
 pub mod Plans
 pub mod Removals
 pub mod Services
-pub mod Loads

@@ -6,7 +6,6 @@ pub mod calls;
 pub mod checking;
 pub mod empty;
 pub mod grants;
-pub mod load;
 pub mod needs;
 pub mod plan;
 pub mod removals;

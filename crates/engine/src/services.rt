@@ -33,7 +33,7 @@ pub enum Adding {
 }
 
 // The number of the package with an AID of the record; the number of packages where there is none.
-fn find_caller(img: &[u8], c: Card, rec: &[u8], a: Aid) -> usize
+pub fn find_caller(img: &[u8], c: Card, rec: &[u8], a: Aid) -> usize
     requires laid { ⌜ Laid (layoutOf c) (now img) ⌝ }
     requires fits { ⌜ AidFits (now rec) a ⌝ }
     ensures { λ r. ⌜ r ≡ numberOr (layoutOf c .packages) (numberOf (layoutOf c) (decode (layoutOf c) (now (img .entry))) (aidIn (now (rec .entry)) a)) ⌝ }
@@ -226,7 +226,15 @@ fn meet_call(
 }
 
 // The unmet calls that ask for service k of package j become call bits.
-fn meet_calls(img: &mut [u8], c: Card, own: &[u8], interface: u8, method: u8, j: usize, k: usize)
+pub fn meet_calls(
+    img: &mut [u8],
+    c: Card,
+    own: &[u8],
+    interface: u8,
+    method: u8,
+    j: usize,
+    k: usize,
+)
     requires laid { ⌜ Laid (layoutOf c) (now img) ⌝ }
     requires by { ⌜ CallersIn (layoutOf c) (decode (layoutOf c) (now img) .unmet) ⌝ }
     requires numbers { ⌜ (j < layoutOf c .packages) × (k < layoutOf c .services) ⌝ }
@@ -240,7 +248,7 @@ fn meet_calls(img: &mut [u8], c: Card, own: &[u8], interface: u8, method: u8, j:
 }
 
 // Package j provides service k with these tokens.
-fn open_service(img: &mut [u8], c: Card, j: usize, k: usize, interface: u8, method: u8)
+pub fn open_service(img: &mut [u8], c: Card, j: usize, k: usize, interface: u8, method: u8)
     requires laid { ⌜ Laid (layoutOf c) (now img) ⌝ }
     requires numbers { ⌜ (j < layoutOf c .packages) × (k < layoutOf c .services) ⌝ }
     ensures { λ _. ⌜ Wrote (layoutOf c) (now (img .exit)) (opened j k (tokens interface method) (decode (layoutOf c) (now (img .entry)))) ⌝ }
@@ -252,7 +260,7 @@ fn open_service(img: &mut [u8], c: Card, j: usize, k: usize, interface: u8, meth
 }
 
 // Service k of package j is granted to an AID of the record: a bit where it is installed, else the grant waits.
-fn grant(img: &mut [u8], c: Card, rec: &[u8], a: Aid, j: usize, k: usize)
+pub fn grant(img: &mut [u8], c: Card, rec: &[u8], a: Aid, j: usize, k: usize)
     requires laid { ⌜ Laid (layoutOf c) (now img) ⌝ }
     requires fits { ⌜ AidFits (now rec) a ⌝ }
     requires numbers { ⌜ (j < layoutOf c .packages) × (k < layoutOf c .services) ⌝ }

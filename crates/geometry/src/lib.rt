@@ -157,7 +157,7 @@ pub fn header(c: Card) -> [u8; 3]
     ensures { λ r. ⌜ r ≡ layoutOf c .header ⌝ }
 {
     match c {
-        Card::Small => [4, 70, 1],
+        Card::Small => *b"\x04\x46\x01",
     }
 }
 

@@ -4,9 +4,8 @@ pub mod Laid
 pub mod Access
 pub mod Replace
 pub mod Over
-pub mod Append
 pub mod RowBits
-pub mod Drops
+pub mod Lent
 pub mod Writes
 pub mod Clears
 pub mod Seen

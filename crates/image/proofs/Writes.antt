@@ -15,8 +15,9 @@ use Rattle.policy.specs.Tables.{Tables, Unmet, Waiting, bit, rowOf, readNumber,
 use Rattle.policy.specs.Draft.{put, put2, put3}
 use Rattle.policy.proofs.Sets.{T-false}
 use Rattle.policy.proofs.Pieces.{length-aid, length-unmet, length-waiting}
-use Rattle.rows.specs.Area.{IsArea, keepRows, dropped}
-use Rattle.rows.proofs.Over.{over-on}
+use Rattle.rows.specs.Area.{IsArea, HasRoom, keepRows, appended, dropped}
+use Rattle.rows.proofs.Lists.{kept-in, kept-short}
+use Rattle.rows.proofs.Over.{over-on, part-at}
 use Rattle.bits.proofs.Row.{rowOf-lt}
 use Rattle.geometry.specs.declared.Card.{Card}
 use Rattle.geometry.specs.declared.Table.{Table}
@@ -27,8 +28,7 @@ use Rattle.image.specs.Wrote.{Wrote}
 use Rattle.image.proofs.Laid.{laid-length, entry-in}
 use Rattle.image.proofs.Access.{entry-number, unmet-is, unmet-count, waiting-is, waiting-count}
 use Rattle.image.proofs.Replace.{Holds, laid-holds, holds-laid, holds-decode, holds-used, holds-aid, holds-tok, holds-provides, holds-entry, holds-unmet, holds-waiting}
-use Rattle.image.proofs.Append.{holds-unmet-append, holds-waiting-append}
-use Rattle.image.proofs.Drops.{kept-in, kept-short, lent-area, lent-dropped}
+use Rattle.image.proofs.Lent.{in-more, fits-more, lent-area, lent-dropped, lent-room, lent-appended}
 use Rattle.image.proofs.Over.{over-byte, over-length, over-row, entry-put3, row-put2}
 use Rattle.image.proofs.RowBits.{row-bits, bit-in, Ends, ends-in, put-ends, put-is, put-lt, put-bits, bit-set, bit-clear}
 
@@ -39,25 +39,26 @@ two-bytes at x y img h =
     ∙ over-byte (at + 1) y (over at (x ∷ []) img) (rw (over-length at (x ∷ []) img (omega arith)) (omega arith))
     ∙ over-on at (x ∷ []) img (omega arith) (at + 1) (y ∷ []) refl
 
-drop-zeros : (k n : ℕ) → drop {A = ℕ} k (replicate n 0) ≡ replicate (n - k) 0
-drop-zeros zero n = rw sub-zero
-drop-zeros (suc k) zero = rw zero-sub
-drop-zeros (suc k) (suc n) = rw suc-sub-suc (drop-zeros k n)
+-- an AID's place: its length, its bytes, zeros
+pub slot-made : (at : ℕ) (a img : List ℕ) → length a ≤ 16 → at + 17 ≤ length img
+    → over (at + 1 + length a) (replicate (16 - length a) 0) (over (at + 1) a (set img at (length a))) ≡ over at (writeAid a) img
+slot-made at a img s h =
+    let n = length a in
+    let e : set img at n ≡ over at (n ∷ []) img = over-byte at n img (omega arith) in
+    let q : over (at + 1) a (over at (n ∷ []) img) ≡ over at (n ∷ a) img = over-on at (n ∷ []) img (omega arith) (at + 1) a refl in
+    ap (λ (z : List ℕ). over (at + 1 + n) (replicate (16 - n) 0) (over (at + 1) a z)) e
+    ∙ ap (over (at + 1 + n) (replicate (16 - n) 0)) q
+    ∙ over-on at (n ∷ a) img (omega arith) (at + 1 + n) (replicate (16 - n) 0) (omega arith)
 
--- an AID after its length, and zeros
-pub slot-made : (a : Aid) → over 1 a (length a ∷ replicate 16 0) ≡ writeAid a
-slot-made a = ap (λ (z : List ℕ). length a ∷ (a ++ z)) (ap (λ (z : ℕ). drop z (length a ∷ replicate 16 0)) (one-add (length a)) ∙ drop-zeros (length a) 16)
+-- a row: an AID's place, and what follows it
+pub row-wide : (a tail : List ℕ) → length a ≤ 16 → length (writeAid a ++ tail) ≡ 17 + length tail
+row-wide a tail s = length-append (writeAid a) tail ∙ ap (λ (z : ℕ). z + length tail) (length-aid a s)
 
--- a row, an AID's place and what follows it, and a byte of its list
-pub row-put : (at row x : ℕ) (a tail img : List ℕ) → length a ≤ 16 → at < length img → row + (17 + length tail) ≤ length img
-    → set (over (row + 17) tail (over row (writeAid a) img)) at x ≡ over at (x ∷ []) (over row (writeAid a ++ tail) img)
-row-put at row x a tail img s lt h =
+pub row-made : (a tail zeros : List ℕ) → length a ≤ 16 → 17 + length tail ≤ length zeros → take (17 + length tail) (over 17 tail (over 0 (writeAid a) zeros)) ≡ writeAid a ++ tail
+row-made a tail zeros s h =
     let e : length (writeAid a) ≡ 17 = length-aid a s in
-    let q : length (writeAid a ++ tail) ≡ 17 + length tail = length-append (writeAid a) tail ∙ ap (λ (z : ℕ). z + length tail) e in
-    let o : over (row + 17) tail (over row (writeAid a) img) ≡ over row (writeAid a ++ tail) img =
-    over-on row (writeAid a) img (omega arith) (row + 17) tail (omega arith) in
-    let m : length (over row (writeAid a ++ tail) img) ≡ length img = over-length row (writeAid a ++ tail) img (omega arith) in
-    ap (λ (z : List ℕ). set z at x) o ∙ over-byte at x (over row (writeAid a ++ tail) img) (omega arith)
+    let q : length (writeAid a ++ tail) ≡ 17 + length tail = row-wide a tail s in
+    ap (take (17 + length tail)) (over-on 0 (writeAid a) zeros (omega arith) 17 tail (omega arith)) ∙ part-at 0 (writeAid a ++ tail) zeros (omega arith) (17 + length tail) q
 
 -- a row of bits put at a place of an image
 abbrev Put : Layout → List ℕ → List ℕ → ℕ → ℕ → Type 0
@@ -109,38 +110,7 @@ module _ (c : Card) where
     pub aid-wrote : {img′ : List ℕ} (n at : ℕ) (a : Aid) → n < L .packages → length a ≤ 16 → at ≡ aidAt L n → img′ ≡ over at (writeAid a) img → Wrote L img′ (withAid n a t)
     aid-wrote n at a p s q e = wrote-as (e ∙ ap (λ (z : ℕ). over z (writeAid a) img) q) (holds-aid L (layout-ok c) (laid-holds L h) n a p s)
 
-    -- ---- a row more
-    module _ (at : ℕ) (a : at ≡ unmetAt L) where
-      unmet-counted : getD img at 0 ≡ length (t .unmet)
-      unmet-counted = ap (λ (z : ℕ). getD img z 0) a ∙ unmet-count L (layout-ok c) h
-
-      pub unmet-room : length (t .unmet) < L .capacity → (getD img at 0 < 255) × (at + (1 + getD img at 0 * 20) + 20 ≤ length img)
-      unmet-room lt =
-          let l = limits c in
-          (rw unmet-counted (omega arith), rw (unmet-counted, a, laid-len h) (unmet-in c (length (t .unmet)) lt))
-
-      pub unmet-wrote : {img′ : List ℕ} (u : Unmet) → length (u .callee) ≤ 16 → length (t .unmet) < L .capacity
-          → img′ ≡ over at ((getD img at 0 + 1) ∷ []) (over (at + (1 + getD img at 0 * 20)) (writeUnmet u) img) → Wrote L img′ (withUnmet (t .unmet ++ (u ∷ [])) t)
-      unmet-wrote u s lt e =
-          wrote-as (e ∙ ap₂ (λ (x n : ℕ). over x ((n + 1) ∷ []) (over (x + (1 + n * 20)) (writeUnmet u) img)) a unmet-counted)
-          (holds-unmet-append L (layout-ok c) (laid-holds L h) u s lt)
-
-    module _ (at : ℕ) (a : at ≡ waitingAt L) where
-      waiting-counted : getD img at 0 ≡ length (t .waiting)
-      waiting-counted = ap (λ (z : ℕ). getD img z 0) a ∙ waiting-count L (layout-ok c) h
-
-      pub waiting-room : length (t .waiting) < L .capacity → (getD img at 0 < 255) × (at + (1 + getD img at 0 * 19) + 19 ≤ length img)
-      waiting-room lt =
-          let l = limits c in
-          (rw waiting-counted (omega arith), rw (waiting-counted, a, laid-len h) (waiting-in c (length (t .waiting)) lt))
-
-      pub waiting-wrote : {img′ : List ℕ} (v : Waiting) → length (v .caller) ≤ 16 → length (t .waiting) < L .capacity
-          → img′ ≡ over at ((getD img at 0 + 1) ∷ []) (over (at + (1 + getD img at 0 * 19)) (writeWaiting v) img) → Wrote L img′ (withWaiting (t .waiting ++ (v ∷ [])) t)
-      waiting-wrote v s lt e =
-          wrote-as (e ∙ ap₂ (λ (x n : ℕ). over x ((n + 1) ∷ []) (over (x + (1 + n * 19)) (writeWaiting v) img)) a waiting-counted)
-          (holds-waiting-append L (layout-ok c) (laid-holds L h) v s lt)
-
-    -- ---- rows dropped
+    -- ---- the lists: rows dropped, and a row more
     module _ (at n : ℕ) (a : at ≡ unmetAt L) (b : n ≡ 1 + L .capacity * 20) where
       unmet-part : take n (drop at img) ≡ writeList L writeUnmet 20 (t .unmet)
       unmet-part = ap₂ (λ (x y : ℕ). take x (drop y img)) b a ∙ unmet-is L (layout-ok c) h
@@ -160,6 +130,18 @@ module _ (c : Card) where
           (lent-dropped L writeUnmet 20 (t .unmet) unmet-wide (h .room .unmet-fits) at n img unmet-part mask b e ∙ ap (λ (z : ℕ). over z (writeList L writeUnmet 20 l) img) a)
           (holds-unmet L (layout-ok c) (laid-holds L h) l fits (λ u i. h .room .unmet-short u (kept-in mask 0 (t .unmet) i)))
 
+      module _ (x : Unmet) (s : length (x .callee) ≤ 16) (lt : length (t .unmet) < L .capacity) where
+        pub unmet-room : HasRoom 20 (writeUnmet x) (take n (drop at img))
+        unmet-room = lent-room L writeUnmet 20 (t .unmet) unmet-wide (h .room .unmet-fits) at n img unmet-part x (length-unmet x s) lt (limits c .capacity-low)
+
+        pub unmet-appended : {new : List ℕ} → new ≡ appended 20 (writeUnmet x) (take n (drop at img))
+            → Wrote L (take at img ++ (new ++ drop n (drop at img))) (withUnmet (t .unmet ++ (x ∷ [])) t)
+        unmet-appended e =
+            let l = t .unmet ++ (x ∷ []) in
+            wrote-as
+            (lent-appended L writeUnmet 20 (t .unmet) unmet-wide (h .room .unmet-fits) at n img unmet-part x (length-unmet x s) lt b e ∙ ap (λ (z : ℕ). over z (writeList L writeUnmet 20 l) img) a)
+            (holds-unmet L (layout-ok c) (laid-holds L h) l (fits-more (t .unmet) x lt) (in-more (λ y. length (y .callee) ≤ 16) (t .unmet) x (h .room .unmet-short) s))
+
     module _ (at n : ℕ) (a : at ≡ waitingAt L) (b : n ≡ 1 + L .capacity * 19) where
       waiting-part : take n (drop at img) ≡ writeList L writeWaiting 19 (t .waiting)
       waiting-part = ap₂ (λ (x y : ℕ). take x (drop y img)) b a ∙ waiting-is L (layout-ok c) h
@@ -178,6 +160,18 @@ module _ (c : Card) where
           wrote-as
           (lent-dropped L writeWaiting 19 (t .waiting) waiting-wide (h .room .waiting-fits) at n img waiting-part mask b e ∙ ap (λ (z : ℕ). over z (writeList L writeWaiting 19 l) img) a)
           (holds-waiting L (layout-ok c) (laid-holds L h) l fits (λ u i. h .room .waiting-short u (kept-in mask 0 (t .waiting) i)))
+
+      module _ (x : Waiting) (s : length (x .caller) ≤ 16) (lt : length (t .waiting) < L .capacity) where
+        pub waiting-room : HasRoom 19 (writeWaiting x) (take n (drop at img))
+        waiting-room = lent-room L writeWaiting 19 (t .waiting) waiting-wide (h .room .waiting-fits) at n img waiting-part x (length-waiting x s) lt (limits c .capacity-low)
+
+        pub waiting-appended : {new : List ℕ} → new ≡ appended 19 (writeWaiting x) (take n (drop at img))
+            → Wrote L (take at img ++ (new ++ drop n (drop at img))) (withWaiting (t .waiting ++ (x ∷ [])) t)
+        waiting-appended e =
+            let l = t .waiting ++ (x ∷ []) in
+            wrote-as
+            (lent-appended L writeWaiting 19 (t .waiting) waiting-wide (h .room .waiting-fits) at n img waiting-part x (length-waiting x s) lt b e ∙ ap (λ (z : ℕ). over z (writeList L writeWaiting 19 l) img) a)
+            (holds-waiting L (layout-ok c) (laid-holds L h) l (fits-more (t .waiting) x lt) (in-more (λ y. length (y .caller) ≤ 16) (t .waiting) x (h .room .waiting-short) s))
 
     -- ---- an entry of a table
     module _ (tb : Table) (i j at : ℕ) (p : i < L .packages) (q : j < L .packages) (a : at ≡ entryAt L tb i j) where
@@ -226,4 +220,4 @@ module _ (c : Card) where
           (put-lt (L .services) (t .provides j) ends k l v low row is row′ g e u, (λ r x y. cond (eqb x j) (same r y) (t .provides x y)) ∙ row-put2 j k v (t .provides))
 
 -- what writing code leaves: `search writes` at each need
-pub ruleset writes = (laid-len, used-wrote, provides-wrote, tok-wrote, aid-wrote, unmet-wrote, waiting-wrote, entry-wrote, bit-set, bit-clear, bit-fits, bit-wrote, geo)
+pub ruleset writes = (laid-len, used-wrote, provides-wrote, tok-wrote, aid-wrote, entry-wrote, bit-set, bit-clear, bit-fits, bit-wrote, geo)

@@ -2,12 +2,12 @@
 ghost use mathlib.Core.Path.{_≡_};
 ghost use mathlib.Core.Bool.{true, false};
 ghost use mathlib.Core.List.{[], _∷_, _++_};
-ghost use Prim.Native.Nat.{_+_, _*_, _^_, _≤_, _<_};
-ghost use lib.ListN.{length, getD};
+ghost use Prim.Native.Nat.{_+_, _^_, _≤_, _<_};
+ghost use lib.ListN.{length};
 ghost use Rattle.policy.specs.Tables.{bit, writeAid, decode};
 ghost use Rattle.policy.specs.Draft.{put3};
 ghost use Rattle.geometry.specs.Geometry.{layoutOf};
-ghost use Rattle.rows.specs.Area.{keepRows};
+ghost use Rattle.rows.specs.Area.{HasRoom, keepRows, appended};
 ghost use Rattle.image.specs.Laid.{Laid, tableOf, over, withUsed, withAid, withTok, withProvides, withTable, withEntry, withUnmet, withWaiting};
 ghost use Rattle.image.specs.Wrote.{Wrote, withoutPackage, inColumn, inRow, withoutService, withoutServices};
 use geometry::Card;
@@ -84,10 +84,10 @@ fn put_slot(img: &mut [u8], at: usize, aid: &[u8])
     requires { ⌜ (at + 17 ≤ length (now img)) × (length (now aid) ≤ 16) ⌝ }
     ensures { λ _. ⌜ now (img .exit) ≡ over at (writeAid (now (aid .entry))) (now (img .entry)) ⌝ }
 {
-    let mut slot = [0u8; 17];
-    slot[0] = aid.len() as u8;
-    rows::put(&mut slot, 1, aid);
-    rows::put(img, at, &slot);
+    let n = aid.len();
+    img[at] = n as u8;
+    rows::put(img, at + 1, aid);
+    rows::clear(img, at + 1 + n, 16 - n);
 }
 
 // The AID of package n.
@@ -111,19 +111,17 @@ pub fn clear_aid(img: &mut [u8], c: Card, n: usize)
     rows::put(img, at, &[0u8; 17]);
 }
 
-// A row of `width` bytes after the last one of the list at `at`: an AID's place, then `tail`; and the count.
-fn append(img: &mut [u8], at: usize, width: usize, aid: &[u8], tail: &[u8])
-    requires short { ⌜ length (now aid) ≤ 16 ⌝ }
-    requires count { ⌜ getD (now img) at 0 < 255 ⌝ }
-    requires room { ⌜ at + (1 + getD (now img) at 0 * width) + (17 + length (now tail)) ≤ length (now img) ⌝ }
-    ensures { λ _. ⌜ now (img .exit) ≡ over at ((getD (now (img .entry)) at 0 + 1) ∷ [])
-        (over (at + (1 + getD (now (img .entry)) at 0 * width)) (writeAid (now (aid .entry)) ++ now (tail .entry)) (now (img .entry))) ⌝ }
+// A row after the last one of a list area: an AID's place, then `tail`.
+fn append(area: &mut [u8], aid: &[u8], tail: &[u8])
+    requires short { ⌜ (length (now aid) ≤ 16) × (length (now tail) ≤ 3) ⌝ }
+    requires room { ⌜ HasRoom (17 + length (now tail)) (writeAid (now aid) ++ now tail) (now area) ⌝ }
+    ensures { λ _. ⌜ now (area .exit) ≡ appended (17 + length (now (tail .entry))) (writeAid (now (aid .entry)) ++ now (tail .entry)) (now (area .entry)) ⌝ }
 {
-    let n = img[at];
-    let row = at + (1 + (n as usize) * width);
-    put_slot(img, row, aid);
-    rows::put(img, row + 17, tail);
-    img[at] = n + 1;
+    let mut row = [0u8; 20];
+    put_slot(&mut row, 0, aid);
+    rows::put(&mut row, 17, tail);
+    let width = 17 + tail.len();
+    rows::append_row(area, width, &row[..width]);
 }
 
 // One unmet call more: package number `caller` calls a service of the package `aid`.
@@ -136,7 +134,8 @@ pub fn append_unmet(img: &mut [u8], c: Card, aid: &[u8], interface: u8, method: 
         ++ (record { callee = now (aid .entry); tok = record { itf = interface; mth = method }; caller = caller } ∷ [])) (decode (layoutOf c) (now (img .entry)))) ⌝ }
 {
     let at = geometry::unmet_at(c);
-    append(img, at, 20, aid, &[interface, method, caller as u8]);
+    let end = geometry::waiting_at(c);
+    append(&mut img[at..end], aid, &[interface, method, caller as u8]);
 }
 
 // One waiting grant more: of service number `service` of package number `callee` to the package `aid`.
@@ -149,7 +148,7 @@ pub fn append_waiting(img: &mut [u8], c: Card, aid: &[u8], callee: usize, servic
         ++ (record { caller = now (aid .entry); callee = callee; service = service } ∷ [])) (decode (layoutOf c) (now (img .entry)))) ⌝ }
 {
     let at = geometry::waiting_at(c);
-    append(img, at, 19, aid, &[callee as u8, service as u8]);
+    append(&mut img[at..], aid, &[callee as u8, service as u8]);
 }
 
 // The unmet calls whose bit of the mask is clear, closed up in order.

@@ -11,7 +11,7 @@ use lib.ListN.{length, getD, take, drop, replicate, set, length-append, length-d
 use lib.Seq.{take-append-seam, take-at, drop-at, drop-append-add, drop-append-seam, drop-drop, length-take-le, split-at, take-suc, take-all}
 use Rattle.policy.specs.Lists.{flat}
 use Rattle.policy.specs.Tables.{bit, pieces}
-use Rattle.rows.specs.Area.{part, over, areaOf, rowsIn, IsArea, without, keepFrom, keepRows, appended, removed, dropped}
+use Rattle.rows.specs.Area.{part, over, areaOf, rowsIn, IsArea, keepFrom, keepRows, appended, dropped}
 use Rattle.rows.proofs.Over.{over-on, part-after, length-over, length-part}
 
 -- row k ends where row k + 1 starts, within n rows
@@ -224,53 +224,6 @@ module _ (w : ℕ) (a : List ℕ) (h : IsArea w a) where
       ∙ over-on 1 (bytes rs) a (omega (arith, h .fits)) (1 + n * w) row es
       ∙ rw (append-nil, eb) in
       rw (eo, ec) (settled new 0 (omega (arith, el)) (omega (arith, el, rs-bytes)))
-
-  -- row r taken out: the rows after it moved up, then the last row's place zeroed
-  module _ (r : ℕ) (lt : r < n) where
-    abbrev before : List ℕ
-    before = bytes (take r rs)
-
-    abbrev row : List ℕ
-    row = getD rs r []
-
-    abbrev after : List ℕ
-    after = bytes (drop (suc r) rs)
-
-    in-rows : r < length rs
-    in-rows = rw rows-length lt
-
-    split : bytes rs ≡ before ++ (row ++ after)
-    split = ap bytes (split-at rs r [] in-rows) ∙ bytes-append (take r rs) (row ∷ drop (suc r) rs)
-
-    before-length : length before ≡ r * w
-    before-length = bytes-length w (take r rs) (wide-take w r rs wide) ∙ rw (length-take-le r rs (omega (arith, in-rows)))
-
-    whole-length : length before + (length row + length after) ≡ n * w
-    whole-length = sym (ap length split ∙ length-append before (row ++ after) ∙ rw (length-append row after)) ∙ rs-bytes
-
-    pub row-within : 1 + r * w + w ≤ 1 + n * w
-    row-within = omega (arith, row-ends r n w lt)
-
-    slid : over (1 + r * w) (part (1 + r * w + w) (1 + n * w - (1 + r * w + w)) a) a ≡ over 1 (bytes (without r rs)) a
-    slid =
-        let er : length row ≡ w = wide-at w r rs wide in-rows in
-        let ea : a ≡ length rs ∷ (before ++ (row ++ (after ++ replicate z 0))) = tail ∙ rw (split, append-assoc, append-assoc) in
-        let ep : part (1 + r * w + w) (1 + n * w - (1 + r * w + w)) a ≡ after =
-        ap (part (1 + r * w + w) (1 + n * w - (1 + r * w + w))) ea
-        ∙ third (length rs) before row after (replicate z 0) (1 + r * w + w) (1 + n * w - (1 + r * w + w)) (omega (arith, before-length)) (omega (arith, before-length, whole-length)) in
-        let es : 1 + r * w ≡ 1 + length before = rw before-length in
-        ap (λ (x : List ℕ). over (1 + r * w) x a) ep
-        ∙ ap (over (1 + r * w) after) (sym (in-place before (row ++ after) split))
-        ∙ over-on 1 before a (omega (arith, h .fits, before-length, whole-length)) (1 + r * w) after es
-        ∙ ap (λ (x : List ℕ). over 1 x a) (sym (bytes-append (take r rs) (drop (suc r) rs)))
-
-    pub remove-is : set (over (1 + n * w - w) (replicate w 0) (over (1 + r * w) (part (1 + r * w + w) (1 + n * w - (1 + r * w + w)) a) a)) 0 (n - 1) ≡ removed w r a
-    remove-is =
-        let er : length row ≡ w = wide-at w r rs wide in-rows in
-        let el : length (bytes (without r rs)) ≡ length before + length after = rw bytes-append (length-append before after) in
-        let ec : n - 1 ≡ length (without r rs) = sym (length-append (take r rs) (drop (suc r) rs) ∙ rw (length-take-le r rs (omega (arith, in-rows)), length-drop) (omega (arith, rows-length w a))) in
-        settle (without r rs) (1 + n * w - w) w (n - 1) (over (1 + r * w) (part (1 + r * w + w) (1 + n * w - (1 + r * w + w)) a) a)
-        (omega (arith, el, whole-length)) (omega (arith, row-within)) ec slid
 
 -- ---- rows closed up by a mask: r rows of the area are done, and k of them are kept
 pub record Closed (w mask : ℕ) (a b : List ℕ) (k r : ℕ) : Type 0 where

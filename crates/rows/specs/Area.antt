@@ -38,10 +38,6 @@ pub record HasRoom (w : ℕ) (row a : List ℕ) : Type 0 where
   pub room : 1 + getD a 0 0 * w + w ≤ length a
 
 -- ---- rows, numbered from 0
--- all but row r
-abbrev pub without : {A : Type 0} → ℕ → List A → List A
-without r l = take r l ++ drop (suc r) l
-
 -- those whose bit of the mask is clear; the first of them is row k
 abbrev pub keepFrom : {A : Type 0} → ℕ → ℕ → List A → List A
 keepFrom k mask [] = []
@@ -53,9 +49,6 @@ keepRows mask l = keepFrom 0 mask l
 -- ---- changes: 'What leaves a list is closed up in order. Then new rows are put at the end.'
 abbrev pub appended : ℕ → List ℕ → List ℕ → List ℕ
 appended w row a = areaOf (length a) (rowsIn w a ++ (row ∷ []))
-
-abbrev pub removed : ℕ → ℕ → List ℕ → List ℕ
-removed w r a = areaOf (length a) (without r (rowsIn w a))
 
 abbrev pub dropped : ℕ → ℕ → List ℕ → List ℕ
 dropped w mask a = areaOf (length a) (keepRows mask (rowsIn w a))

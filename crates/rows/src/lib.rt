@@ -1,9 +1,9 @@
 // A list area, a part of an image: a count byte, then rows of `width` bytes, then zeros to its end.
 ghost use mathlib.Core.Path.{_≡_};
-ghost use Prim.Native.Nat.{_+_, _*_, _≤_, _<_};
+ghost use Prim.Native.Nat.{_+_, _≤_};
 ghost use lib.ListN.{length, getD, replicate};
 ghost use Rattle.policy.specs.Lists.{eqBytes, flat};
-ghost use Rattle.rows.specs.Area.{part, over, rowsIn, IsArea, HasRoom, keepRows, appended, removed, dropped};
+ghost use Rattle.rows.specs.Area.{part, over, rowsIn, IsArea, HasRoom, keepRows, appended, dropped};
 
 // Whether the bytes of a from index at on are those of b.
 pub fn same_at(a: &[u8], at: usize, b: &[u8]) -> bool
@@ -58,23 +58,6 @@ pub fn append_row(area: &mut [u8], width: usize, row: &[u8])
     let at = 1 + (n as usize) * width;
     put(area, at, row);
     area[0] = n + 1;
-}
-
-// Row r taken out: the rows after it move up, and the place that the last one leaves is zeroed.
-pub fn remove_row(area: &mut [u8], width: usize, r: usize)
-    requires { ⌜ IsArea width (now area) ⌝ }
-    requires { ⌜ r < getD (now area) 0 0 ⌝ }
-    ensures { λ _. ⌜ now (area .exit) ≡ removed width r (now (area .entry)) ⌝ }
-{
-    let n = area[0];
-    let end = 1 + (n as usize) * width;
-    let to = 1 + r * width;
-    let from = to + width;
-    let len = end - from;
-    slide(area, to, from, len);
-    let last = end - width;
-    clear(area, last, width);
-    area[0] = n - 1;
 }
 
 // The rows whose bit of the mask is clear moved up, in order; their number.

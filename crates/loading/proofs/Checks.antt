@@ -1,0 +1,181 @@
+-- Kind 1: what the code that decides has found, in the form in which its needs ask it: `search checks`. Assumes nothing.
+use Prim.Native.Nat.{ℕ, zero, suc, _+_, _-_, _≤_, _<_}
+use native.Mathlib.Omega.{arith}
+use mathlib.Core.Path.{_≡_, refl, sym, ap, ap₂, _∙_}
+use mathlib.Core.Bool.{Bool, true, false, not, _&&_, _||_, cond}
+use mathlib.Core.List.{List, [], _∷_}
+use mathlib.Core.List.{List·Memᴰ as In, List·Memᴰ·head as here, List·Memᴰ·tail as there}
+use mathlib.Core.Option.{Option, none, some}
+use lib.Bits.{bitAnd}
+use lib.Dec.{T, eqb, leb, ltb}
+use lib.ListN.{length, getD}
+use mir.Syntax.{w64}
+use mir.Val.{Fits}
+use borrow.Author.Tests.{not-true, not-false, ltb-true, ltb-false, lt-leb, le-leb, leb-true, leb-false}
+use borrow.Author.Needs.{needs}
+use Rattle.policy.specs.Lists.{implies, exists, keep, isSome, orElse, upto}
+use Rattle.policy.specs.Contract.{Aid, eqAid, eqTok, Row}
+use Rattle.policy.specs.Layout.{Layout}
+use Rattle.policy.specs.Record.{Reader}
+use Rattle.policy.specs.Tables.{Tables, Unmet, bit, decode}
+use Rattle.policy.specs.Lookup.{Place as Found, numberOf, serverOf}
+use Rattle.policy.specs.Sound.{sound}
+use Rattle.policy.proofs.Sets.{false-T, length-keep}
+use Rattle.policy.proofs.SoundFacts.{sound-formed}
+use Rattle.image.specs.declared.read.Place.{Place}
+use Rattle.image.specs.Read.{numberOr, placeOr, maskOf, noUnmet, unmetRow}
+use Rattle.image.proofs.Numbers.{package-none, package-some, server-none, server-some}
+use Rattle.record.specs.Meaning.{Uncons, itemsIn}
+use Rattle.record.specs.declared.Items.{Items}
+use Rattle.record.proofs.Loops.{Todo, todo-cons, todo-next, todo-end}
+use Rattle.loading.specs.Loads.{served, present, waitsAt, callGranted, grantFits}
+
+-- ---- two tests, the second only where the first passes
+pub fails-first : (b x y : Bool) → b ≡ x → not b ≡ true → false ≡ x && y
+fails-first false x y e h = ap (λ (z : Bool). z && y) e
+fails-first true x y e h = absurd (false-T (sym h) tt)
+
+pub passes-first : (b r x y : Bool) → b ≡ x → not b ≡ false → r ≡ y → r ≡ x && y
+passes-first true r x y e h q = q ∙ ap (λ (z : Bool). z && y) e
+passes-first false r x y e h q = absurd (false-T h tt)
+
+pub not-asked : (b x y : Bool) → b ≡ x → not b ≡ true → true ≡ implies x y
+not-asked false x y e h = ap (λ (z : Bool). implies z y) e
+not-asked true x y e h = absurd (false-T (sym h) tt)
+
+pub is-asked : (b r x y : Bool) → b ≡ x → not b ≡ false → r ≡ y → r ≡ implies x y
+is-asked true r x y e h q = q ∙ ap (λ (z : Bool). implies z y) e
+is-asked false r x y e h q = absurd (false-T h tt)
+
+module _ (L : Layout) (t : Tables) where
+  -- ---- a package with the AID a
+  module _ (a : Aid) (n i : ℕ) (e : n ≡ L .packages) (q : i ≡ numberOr (L .packages) (numberOf L t a)) where
+    present-as : ltb i n ≡ present L t a
+    present-as = go (ltb i n) refl
+      where
+        go : (b : Bool) → ltb i n ≡ b → b ≡ present L t a
+        go true h = let z = ltb-true i n h in sym (ap isSome (package-some L t a i q (omega arith)))
+        go false h = let z = ltb-false i n h in sym (ap isSome (package-none L t a i q (omega arith)))
+
+  pub present-is : (a b : Aid) (n i : ℕ) → n ≡ L .packages → i ≡ numberOr (L .packages) (numberOf L t b) → b ≡ a → ltb i n ≡ present L t a
+  present-is a b n i e q z = present-as b n i e q ∙ ap (present L t) z
+
+  -- ---- a grant of the package a for the unmet call u, asked for first; i is the caller of u, and o the AID of the grant
+  module _ (a : Aid) (u : Unmet) (g : Row) (b : Bool) (e : b ≡ eqAid (u .callee) a && eqTok (u .tok) (g .tok)) where
+    pub grant-other : not b ≡ true → false ≡ grantFits L t a u g
+    grant-other h = fails-first b (eqAid (u .callee) a && eqTok (u .tok) (g .tok)) (t .used (u .caller) && eqAid (t .aid (u .caller)) (g .aid)) e h
+
+    pub grant-seen : (r : Bool) (i : ℕ) (o : Aid) → not b ≡ false → i ≡ u .caller → o ≡ g .aid → r ≡ t .used i && eqAid (t .aid i) o → r ≡ grantFits L t a u g
+    grant-seen r i o h x y q =
+        passes-first b r (eqAid (u .callee) a && eqTok (u .tok) (g .tok)) (t .used (u .caller) && eqAid (t .aid (u .caller)) (g .aid)) e h
+        (q ∙ ap₂ (λ (k : ℕ) (z : Aid). t .used k && eqAid (t .aid k) z) x y)
+
+  -- ---- the server of a row
+  module _ (r : Row) (n : ℕ) (p : Place) (e : n ≡ L .packages) (q : p ≡ placeOr L (serverOf L t r)) where
+    pub served-is : ltb (p .callee) n ≡ served L t r
+    served-is = go (ltb (p .callee) n) refl
+      where
+        go : (b : Bool) → ltb (p .callee) n ≡ b → b ≡ served L t r
+        go true h = let z = ltb-true (p .callee) n h in sym (ap isSome (server-some L t r p q (omega arith) .0))
+        go false h = let z = ltb-false (p .callee) n h in sym (ap isSome (server-none L t r p q (omega arith)))
+
+    module _ (w : ℕ) where
+      pub granted-off : n ≤ p .callee → true ≡ callGranted L t w r
+      granted-off h = sym (ap (λ (o : Option Found). orElse o true (waitsAt L t w)) (server-none L t r p q (omega arith)))
+
+      pub granted-on : (m : ℕ) → p .callee < n → m ≡ maskOf (λ x. eqb (x .callee) (p .callee) && eqb (x .service) (p .service)) (t .waiting)
+          → not (eqb (bitAnd w m) 0) ≡ callGranted L t w r
+      granted-on m h g =
+          ap (λ (x : ℕ). not (eqb (bitAnd w x) 0)) g ∙ sym (ap (λ (o : Option Found). orElse o true (waitsAt L t w)) (server-some L t r p q (omega arith) .0))
+
+pub exists-both : {A : Type 0} (x : Bool) (f : A → Bool) (l : List A) → exists (λ s. x && f s) l ≡ x && exists f l
+exists-both true f [] = refl
+exists-both false f [] = refl
+exists-both true f (s ∷ l) = ap (λ (z : Bool). f s || z) (exists-both true f l)
+exists-both false f (s ∷ l) = exists-both false f l
+
+-- ---- a loop that counts those that pass down from the room there is
+one-more : (k m : ℕ) → 0 < m → leb (suc k) m ≡ leb k (m - 1)
+one-more k m h = go (leb k (m - 1)) refl
+  where
+    go : (b : Bool) → leb k (m - 1) ≡ b → leb (suc k) m ≡ b
+    go true e = let z = leb-true k (m - 1) e in le-leb (suc k) m (omega arith)
+    go false e = let z = leb-false k (m - 1) e in lt-leb (suc k) m (omega arith)
+
+module _ {A : Type 0} {p : Reader A} {s : List ℕ} {todo rest : Items} (f : A → Bool) {b r : Bool} (n : ℕ) {x : A} (u : Uncons p s todo x rest) (q : r ≡ f x) where
+  pub fit-none : Todo p s todo (λ l. leb (length (keep (λ y. not (f y)) l)) n) b → r ≡ false → n ≡ 0 → false ≡ b
+  fit-none h e z = sym (lt-leb (suc (length (keep (λ y. not (f y)) (itemsIn p s rest)))) n (omega arith)) ∙ rw (sym q ∙ e) at (todo-cons h u)
+
+  pub fit-less : Todo p s todo (λ l. leb (length (keep (λ y. not (f y)) l)) n) b → r ≡ false → (n ≡ 0 → ⊥) → Todo p s rest (λ l. leb (length (keep (λ y. not (f y)) l)) (n - 1)) b
+  fit-less h e z = todo-next h u (λ l. leb (length (keep (λ y. not (f y)) l)) (n - 1)) (rw (sym q ∙ e) (one-more (length (keep (λ y. not (f y)) (itemsIn p s rest))) n (omega arith)))
+
+  pub fit-same : Todo p s todo (λ l. leb (length (keep (λ y. not (f y)) l)) n) b → r ≡ true → Todo p s rest (λ l. leb (length (keep (λ y. not (f y)) l)) n) b
+  fit-same h e = todo-next h u (λ l. leb (length (keep (λ y. not (f y)) l)) n) (rw (sym q ∙ e))
+
+pub fit-end : {A : Type 0} {p : Reader A} {s : List ℕ} {todo : Items} (f : A → Bool) {b : Bool} (n : ℕ)
+    → Todo p s todo (λ l. leb (length (keep (λ y. not (f y)) l)) n) b → todo .count ≤ 0 → true ≡ b
+fit-end f n h l = sym (le-leb 0 n (omega arith)) ∙ todo-end h l
+
+-- ---- the caller of an unmet call of a sound image
+pub row-in : {A : Type 0} (d : A) (l : List A) (r : ℕ) → r < length l → In (getD l r d) l
+row-in d [] r h = absurd (omega arith)
+row-in d (x ∷ l) zero h = here refl
+row-in d (x ∷ l) (suc r) h = there (row-in d l r (omega arith))
+
+pub caller-in : (L : Layout) (img : List ℕ) (r : ℕ) → T (sound L img) → r < length (decode L img .unmet) → unmetRow (decode L img) r .caller < L .packages
+caller-in L img r ok h =
+    let f = sound-formed L img ok in
+    f .names .used-lt (unmetRow (decode L img) r .caller) (f .unmet .off .off-used (unmetRow (decode L img) r) (row-in noUnmet (decode L img .unmet) r h))
+
+-- ---- the room that a list has after the rows of a mask go
+pub gone-low : (m : ℕ) → length (keep (bit m) (upto 32)) ≤ 32
+gone-low m = length-keep (bit m) (upto 32)
+
+-- and the sum fits a word
+pub sum-fits : (x y u v : ℕ) → x ≡ u → y ≡ v → u ≤ 32 → v ≤ 32 → Fits w64 (x + y)
+sum-fits x y u v e q h l = omega arith
+
+pub room-is : (k : ℕ) {b : Bool} {x y z u v w : ℕ} → b ≡ leb k (x + y - z) → x ≡ u → y ≡ v → z ≡ w → b ≡ leb k (u + v - w)
+room-is k e p q r = e ∙ (λ i. leb k (p i + q i - r i))
+
+-- ---- the first cause that applies
+abbrev pub causeOf : Bool → Bool → Bool → Bool → Bool → ℕ
+causeOf g h n u w = cond (not (g && h)) 8 (cond (not n) 9 (cond (not u) 10 (cond (not w) 11 0)))
+
+module _ (g h n u w : Bool) where
+  pub cause-1 : (a : Bool) → a ≡ g → not a ≡ true → 8 ≡ causeOf g h n u w
+  cause-1 false e q = ap (λ (z : Bool). causeOf z h n u w) e
+  cause-1 true e q = absurd (false-T (sym q) tt)
+
+  module _ (a : Bool) (e1 : a ≡ g) (q1 : not a ≡ false) where
+    on-1 : true ≡ g
+    on-1 = sym (not-false a q1) ∙ e1
+
+    pub cause-2 : (b : Bool) → b ≡ h → not b ≡ true → 8 ≡ causeOf g h n u w
+    cause-2 b e q = (λ i. causeOf (on-1 i) ((sym (not-true b q) ∙ e) i) n u w)
+
+    module _ (b : Bool) (e2 : b ≡ h) (q2 : not b ≡ false) where
+      on-2 : true ≡ h
+      on-2 = sym (not-false b q2) ∙ e2
+
+      pub cause-3 : (d : Bool) → d ≡ n → not d ≡ true → 9 ≡ causeOf g h n u w
+      cause-3 d e q = (λ i. causeOf (on-1 i) (on-2 i) ((sym (not-true d q) ∙ e) i) u w)
+
+      module _ (d : Bool) (e3 : d ≡ n) (q3 : not d ≡ false) where
+        on-3 : true ≡ n
+        on-3 = sym (not-false d q3) ∙ e3
+
+        pub cause-4 : (f : Bool) → f ≡ u → not f ≡ true → 10 ≡ causeOf g h n u w
+        cause-4 f e q = (λ i. causeOf (on-1 i) (on-2 i) (on-3 i) ((sym (not-true f q) ∙ e) i) w)
+
+        module _ (f : Bool) (e4 : f ≡ u) (q4 : not f ≡ false) where
+          on-4 : true ≡ u
+          on-4 = sym (not-false f q4) ∙ e4
+
+          pub cause-5 : (k : Bool) → k ≡ w → not k ≡ true → 11 ≡ causeOf g h n u w
+          cause-5 k e q = (λ i. causeOf (on-1 i) (on-2 i) (on-3 i) (on-4 i) ((sym (not-true k q) ∙ e) i))
+
+          pub cause-0 : (k : Bool) → k ≡ w → not k ≡ false → 0 ≡ causeOf g h n u w
+          cause-0 k e q = (λ i. causeOf (on-1 i) (on-2 i) (on-3 i) (on-4 i) ((sym (not-false k q) ∙ e) i))
+
+pub ruleset checks = (present-is, served-is, granted-off, granted-on, fails-first, passes-first, not-asked, is-asked, needs)

@@ -1,0 +1,112 @@
+-- Kind 1: folds of the writes of a load, by the places that they change. Assumes nothing.
+use Prim.Native.Nat.{ℕ, zero, suc, _+_, _<_, suc-le-suc}
+use native.Mathlib.Omega.{arith}
+use native.Mathlib.Nat.{add-zero, add-suc, suc-add, zero-add}
+use mathlib.Core.Path.{_≡_, refl, sym, ap, ap₂, _∙_}
+use mathlib.Core.Bool.{Bool, true, false, _&&_, _||_, cond, and-true, and-false, or-false}
+use mathlib.Core.List.{List, [], _∷_}
+use lib.Dec.{eqb, eqb→eq, eqb-refl, ltb, leb·zero, leb·suc-zero, leb·suc-suc}
+use lib.ListN.{length, getD}
+use Rattle.policy.specs.Lists.{exists}
+use Rattle.policy.specs.Tables.{Unmet, Waiting, bit}
+use Rattle.policy.specs.Draft.{put2, put3}
+use Rattle.policy.proofs.Sets.{T-eq, T-true, and-r, cond-false}
+use Rattle.policy.proofs.Equal.{eqb-of}
+use Rattle.engine.specs.Services.{metCalls}
+use Rattle.loading.specs.Writes.{dueGrants}
+
+-- ---- one write for each element of a list, at the places from k on
+module _ {A B : Type 0} (f : ℕ → A → B → B) where
+  abbrev pub each : ℕ → List A → B → B
+  each k [] b = b
+  each k (s ∷ l) b = each (suc k) l (f k s b)
+
+-- each write changes its own place only
+module _ {A B C : Type 0} (f : ℕ → A → B → B) (see : B → ℕ → C) (new : A → C → C) (away : (k z : ℕ) (s : A) (b : B) → (z ≡ k → ⊥) → see (f k s b) z ≡ see b z)
+    (here : (k : ℕ) (s : A) (b : B) → see (f k s b) k ≡ new s (see b k)) where
+  -- what place r of the list makes of the old value
+  abbrev atRow : List A → ℕ → A → C → C
+  atRow l r d v = cond (ltb r (length l)) (new (getD l r d) v) v
+
+  before : (k : ℕ) (l : List A) (b : B) (z : ℕ) → z < k → see (each f k l b) z ≡ see b z
+  before k [] b z h = refl
+  before k (s ∷ l) b z h = before (suc k) l (f k s b) z (omega arith) ∙ away k z s b (λ e. omega arith)
+
+  from-on : (k : ℕ) (l : List A) (d : A) (b : B) (r : ℕ) → see (each f k l b) (k + r) ≡ atRow l r d (see b (k + r))
+  from-on k [] d b r = sym (ap (λ (c : Bool). cond c (new d (see b (k + r))) (see b (k + r))) (leb·suc-zero r))
+  from-on k (s ∷ l) d b zero =
+      before (suc k) l (f k s b) (k + zero) (omega arith) ∙ ap (see (f k s b)) (add-zero k) ∙ here k s b ∙ ap (λ (z : ℕ). new s (see b z)) (sym (add-zero k))
+      ∙ sym (ap (λ (c : Bool). cond c (new s (see b (k + zero))) (see b (k + zero))) (leb·suc-suc 0 (length l) ∙ leb·zero (length l)))
+  from-on k (s ∷ l) d b (suc r) =
+      let e : k + suc r ≡ suc k + r = omega arith in
+      ap (see (each f (suc k) l (f k s b))) e ∙ from-on (suc k) l d (f k s b) r ∙ ap (atRow l r d) (away k (suc k + r) s b (λ q. omega arith) ∙ ap (see b) (sym e))
+      ∙ sym (ap (λ (c : Bool). cond c (new (getD l r d) (see b (k + suc r))) (see b (k + suc r))) (leb·suc-suc (suc r) (length l)))
+
+  pub each-row : (l : List A) (d : A) (b : B) (r : ℕ) → see (each f 0 l b) r ≡ cond (ltb r (length l)) (new (getD l r d) (see b r)) (see b r)
+  each-row l d b r = ap (see (each f 0 l b)) (sym (zero-add r)) ∙ from-on 0 l d b r ∙ ap (λ (z : ℕ). atRow l r d (see b z)) (zero-add r)
+
+-- the values v of the elements, in row n
+pub put-rows : {A C : Type 0} (n : ℕ) (v : A → C) (l : List A) (d : A) (b : ℕ → ℕ → C) (x y : ℕ)
+    → each (λ k s. put2 n k (v s)) 0 l b x y ≡ cond (ltb y (length l)) (cond (eqb x n) (v (getD l y d)) (b x y)) (b x y)
+put-rows n v l d b x y = each-row (λ k s. put2 n k (v s)) (λ b. b x) (λ s w. cond (eqb x n) (v s) w)
+    (λ k z s b h. cond-false (eqb x n && eqb z k) (v s) (b x z) (λ q. h (eqb→eq z k (and-r (eqb x n) (eqb z k) q))))
+    (λ k s b. ap (λ (c : Bool). cond c (v s) (b x k)) (ap (λ (c : Bool). eqb x n && c) (T-true (eqb k k) (eqb-refl k)) ∙ and-true (eqb x n))) l d b y
+
+-- ---- bits set in column j, for the elements that pass
+module _ {A : Type 0} (f : A → Bool) (row service : A → ℕ) (j : ℕ) where
+  abbrev marked : List A → (ℕ → ℕ → ℕ → Bool) → ℕ → ℕ → ℕ → Bool
+  marked [] b = b
+  marked (u ∷ l) b = marked l (cond (f u) (put3 (row u) j (service u) true b) b)
+
+  abbrev pub marks : ℕ → ℕ → List A → Bool
+  marks x z l = exists (λ u. f u && (eqb (row u) x && eqb (service u) z)) l
+
+  marked-is : (l : List A) (b : ℕ → ℕ → ℕ → Bool) (x y z : ℕ) → marked l b x y z ≡ b x y z || (eqb y j && marks x z l)
+  marked-is [] b x y z = sym (ap (λ (c : Bool). b x y z || c) (and-false (eqb y j)) ∙ or-false (b x y z))
+  marked-is (u ∷ l) b x y z = marked-is l (cond (f u) (put3 (row u) j (service u) true b) b) x y z ∙ go (f u) (marks x z l)
+    where
+      flip : (m n : ℕ) → eqb m n ≡ eqb n m
+      flip m n = T-eq (eqb m n) (eqb n m) (λ h. eqb-of (sym (eqb→eq m n h))) (λ h. eqb-of (sym (eqb→eq n m h)))
+
+      more : (p q r b e : Bool) → cond (p && q && r) true b || (q && e) ≡ b || (q && (p && r || e))
+      more true true true true e = refl
+      more true true true false e = refl
+      more true true false b e = refl
+      more true false r b e = refl
+      more false q r b e = refl
+
+      go : (v e : Bool) → cond v (put3 (row u) j (service u) true b) b x y z || (eqb y j && e) ≡ b x y z || (eqb y j && (v && (eqb (row u) x && eqb (service u) z) || e))
+      go true e = more (eqb x (row u)) (eqb y j) (eqb z (service u)) (b x y z) e
+          ∙ ap₂ (λ (p r : Bool). b x y z || (eqb y j && (p && r || e))) (flip x (row u)) (flip z (service u))
+      go false e = refl
+
+-- the unmet calls that pass
+pub met-calls : (f : Unmet → Bool) (j k : ℕ) (l : List Unmet) (b : ℕ → ℕ → ℕ → Bool) (x y z : ℕ)
+    → metCalls f j k l b x y z ≡ b x y z || (eqb y j && marks f (λ u. u .caller) (λ u. k) j x z l)
+met-calls f j k l b x y z = ap (λ (c : ℕ → ℕ → ℕ → Bool). c x y z) (same l b) ∙ marked-is f (λ u. u .caller) (λ u. k) j l b x y z
+  where
+    same : (l : List Unmet) (b : ℕ → ℕ → ℕ → Bool) → metCalls f j k l b ≡ marked f (λ u. u .caller) (λ u. k) j l b
+    same [] b = refl
+    same (u ∷ l) b = same l (cond (f u) (put3 (u .caller) j k true b) b)
+
+-- the waiting grants whose bits the mask has
+pub due-grants : (f : Waiting → Bool) (mask n : ℕ) (l : List Waiting) → ((r : ℕ) (d : Waiting) → r < length l → bit mask r ≡ f (getD l r d)) → (b : ℕ → ℕ → ℕ → Bool) (x y z : ℕ)
+    → dueGrants mask n 0 l b x y z ≡ b x y z || (eqb y n && marks f (λ w. w .callee) (λ w. w .service) n x z l)
+due-grants f mask n l h b x y z = ap (λ (c : ℕ → ℕ → ℕ → Bool). c x y z) (same 0 l (λ r d p. ap (bit mask) (zero-add r) ∙ h r d p) b) ∙ marked-is f (λ w. w .callee) (λ w. w .service) n l b x y z
+  where
+    same : (k : ℕ) (l : List Waiting) → ((r : ℕ) (d : Waiting) → r < length l → bit mask (k + r) ≡ f (getD l r d)) → (b : ℕ → ℕ → ℕ → Bool)
+        → dueGrants mask n k l b ≡ marked f (λ w. w .callee) (λ w. w .service) n l b
+    same k [] h b = refl
+    same k (w ∷ l) h b =
+        let e : bit mask k ≡ f w = ap (bit mask) (sym (add-zero k)) ∙ h 0 w (omega arith) in
+        same (suc k) l (λ r d p. ap (bit mask) (suc-add k r ∙ sym (add-suc k r)) ∙ h (suc r) d (suc-le-suc p)) (cond (bit mask k) (put3 (w .callee) n (w .service) true b) b)
+        ∙ ap (λ (v : Bool). marked f (λ w. w .callee) (λ w. w .service) n l (cond v (put3 (w .callee) n (w .service) true b) b)) e
+
+-- one service for all
+pub marks-one : {A : Type 0} (f : A → Bool) (row : A → ℕ) (k j x z : ℕ) (l : List A) → marks f row (λ u. k) j x z l ≡ eqb k z && exists (λ u. f u && eqb (row u) x) l
+marks-one f row k j x z l = go (eqb k z) l
+  where
+    go : (v : Bool) (l : List _) → exists (λ u. f u && (eqb (row u) x && v)) l ≡ v && exists (λ u. f u && eqb (row u) x) l
+    go true l = λ i. exists (λ u. f u && and-true (eqb (row u) x) i) l
+    go false [] = refl
+    go false (u ∷ l) = (λ i. (ap (λ (c : Bool). f u && c) (and-false (eqb (row u) x)) ∙ and-false (f u)) i || go false l i)

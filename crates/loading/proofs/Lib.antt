@@ -1,0 +1,12 @@
+pub mod Checks
+pub mod Shorts
+pub mod Decisions
+pub mod Folds
+pub mod Joined
+pub mod OwnRows
+pub mod OwnRoom
+pub mod Newcomers
+pub mod Opening
+pub mod Settles
+pub mod RowTurns
+pub mod Puts

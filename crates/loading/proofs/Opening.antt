@@ -1,0 +1,62 @@
+-- A package put on the card: its number and AID, and its services one by one. Assumes nothing.
+use Prim.Native.Nat.{ℕ, suc, _+_, _^_, _≤_, _<_}
+use native.Mathlib.Nat.{not-le-of-lt}
+use native.Mathlib.Omega.{arith}
+use native.Mathlib.Numerals.{add-one}
+use mathlib.Core.Path.{_≡_, sym, ap, _∙_, subst}
+use mathlib.Core.Bool.{Bool, true, _||_}
+use mathlib.Core.List.{List, _∷_}
+use lib.Dec.{eqb}
+use lib.ListN.{length}
+use Rattle.policy.specs.Contract.{Aid, Tok}
+use Rattle.policy.specs.Record.{tokens}
+use Rattle.policy.specs.Layout.{Layout}
+use Rattle.policy.specs.Tables.{Tables, bit, rowOf, decode}
+use Rattle.policy.proofs.Sets.{T-false}
+use Rattle.image.specs.Laid.{Room, Laid, withUsed, withAid}
+use Rattle.image.specs.Wrote.{Wrote}
+use Rattle.image.proofs.RowBits.{Ends, put-lt, put-bits, bit-set}
+use Rattle.image.proofs.Clears.{wrote-then}
+use Rattle.record.specs.Meaning.{itemsIn, Uncons}
+use Rattle.record.specs.declared.Items.{Items}
+use Rattle.record.proofs.Loops.{Todo, todo-end, todo-next}
+use Rattle.engine.specs.Services.{CallersIn}
+use Rattle.loading.specs.Writes.{named, openedOne, openedAll}
+
+-- ---- its number and its AID
+module _ (L : Layout) (t : Tables) (room : Room L t) (low : L .packages ≤ 16) (n : ℕ) (inside : n < L .packages) (row with : ℕ) (e : row ≡ rowOf (L .packages) (t .used))
+    (q : with ≡ rowOf 16 (λ z. eqb z n || bit row z)) where
+  used-ends : Ends (L .packages) (t .used)
+  used-ends z h = T-false (t .used z) (λ p. not-le-of-lt (room .used-in z p) h)
+
+  pub used-fits : with < 2 ^ L .packages
+  used-fits = put-lt (L .packages) (t .used) used-ends n inside true low row e with (λ z. eqb z n || bit row z) q (bit-set n (bit row))
+
+  pub named-wrote : (a : Aid) {img img′ : List ℕ} → Wrote L img (withUsed (bit with) t) → Wrote L img′ (withAid n a (decode L img)) → Wrote L img′ (named n a t)
+  named-wrote a {img′ = img′} w v =
+      subst (λ (f : ℕ → Bool). Wrote L img′ (withAid n a (withUsed f t)))
+      (put-bits (L .packages) (t .used) used-ends n inside true low row e with (λ z. eqb z n || bit row z) q (bit-set n (bit row))) (wrote-then L (withAid n a) w v)
+
+-- ---- its services: those of todo are to come, with the numbers from k on
+pub record Opening (L : Layout) (n : ℕ) (a : Aid) (t₀ : Tables) (all : List Tok) (rec : List ℕ) (img : List ℕ) (todo : Items) (k : ℕ) : Type 0 where
+  pub laid : Laid L img
+  pub callers : CallersIn L (decode L img .unmet)
+  pub left : Todo tokens rec todo (λ l. openedAll n a k l (decode L img)) (openedAll n a 0 all t₀)
+  pub fits : k + length (itemsIn tokens rec todo) ≤ L .services
+
+module _ (L : Layout) (n : ℕ) (a : Aid) (t₀ : Tables) (all : List Tok) {rec img : List ℕ} {todo : Items} {k : ℕ} (g : Opening L n a t₀ all rec img todo k) where
+  pub opening-end : todo .count ≤ 0 → Wrote L img (openedAll n a 0 all t₀)
+  opening-end e = record { laid = g .laid; tables = todo-end (g .left) e }
+
+  module _ {s : Tok} {rest : Items} (u : Uncons tokens rec todo s rest) where
+    pub opening-fits : k + 1 + length (itemsIn tokens rec rest) ≤ L .services
+    opening-fits = let h : k + length (s ∷ itemsIn tokens rec rest) ≤ L .services = subst (λ (l : List Tok). k + length l ≤ L .services) (u .same) (g .fits) in omega (arith, h)
+
+    pub opening-next : {img′ : List ℕ} → Wrote L img′ (openedOne n a k s (decode L img)) → Opening L n a t₀ all rec img′ rest (k + 1)
+    opening-next {img′} w = record {
+      laid = w .laid;
+      callers = subst (λ (v : Tables). CallersIn L (v .unmet)) (sym (w .tables)) (g .callers);
+      left = todo-next (g .left) u (λ l. openedAll n a (k + 1) l (decode L img′))
+          (ap (openedAll n a (suc k) (itemsIn tokens rec rest)) (sym (w .tables)) ∙ ap (λ (m : ℕ). openedAll n a m (itemsIn tokens rec rest) (decode L img′)) (sym (add-one k)));
+      fits = opening-fits;
+    }

@@ -1,0 +1,211 @@
+-- Kind 1: what the writes of a package's own rows leave, its calls, grants and needs, one and all. Assumes nothing.
+use Prim.Native.Nat.{ℕ, _+_, _≤_, _<_}
+use native.Mathlib.Omega.{arith}
+use mathlib.Core.Path.{_≡_, refl, sym, ap, _∙_, subst}
+use mathlib.Core.Bool.{Bool, true, not, cond}
+use mathlib.Core.List.{List, [], _∷_, _++_}
+use mathlib.Core.Option.{Option, none, some}
+use lib.Dec.{T}
+use lib.ListN.{length}
+use borrow.Author.Needs.{needs}
+use borrow.Author.Tests.{ltb-true}
+use Rattle.policy.specs.Lists.{every, keep, isSome}
+use Rattle.policy.specs.Contract.{Aid, Tok, Row}
+use Rattle.policy.specs.Layout.{Layout}
+use Rattle.policy.specs.Record.{aRow}
+use Rattle.policy.specs.Tables.{Tables, decode}
+use Rattle.policy.specs.Lookup.{Place as Found, numberOf, serviceOf, serverOf}
+use Rattle.policy.specs.Draft.{put3, callRow, withCalls, withNeeds, addCallAt, addGrantAt, addNeedAt}
+use Rattle.policy.specs.ShortCheck.{count}
+use Rattle.policy.proofs.Sets.{T-true, and-l, and-r, length-snoc}
+use Rattle.image.specs.declared.read.Place.{Place}
+use Rattle.image.specs.Laid.{Laid, withUnmet}
+use Rattle.image.specs.Wrote.{Wrote}
+use Rattle.image.specs.Read.{numberOr, placeOr}
+use Rattle.image.proofs.Numbers.{Below, service-below, server-none, server-some}
+use Rattle.record.specs.Meaning.{AidFits, Stands, aidIn, itemsIn, Uncons}
+use Rattle.record.specs.declared.Aid.{Aid as Position}
+use Rattle.record.specs.declared.Items.{Items}
+use Rattle.record.proofs.Loops.{Todo, todo-end, todo-next, todo-start}
+use Rattle.engine.proofs.Callers.{part-aid}
+use Rattle.engine.proofs.Meets.{part-short}
+use Rattle.loading.specs.Loads.{served, present}
+use Rattle.loading.specs.Writes.{calledAll, serviceNumber, grantedAll, neededAll}
+use Rattle.loading.proofs.Checks.{served-is}
+
+-- ---- one row
+-- the bytes of an AID of the record are at most 16
+pub aid-short : (s : List ℕ) (a : Position) (b : List ℕ) → AidFits s a → b ≡ aidIn s a → length b ≤ 16
+aid-short s a b h e = subst (λ (z : List ℕ). length z ≤ 16) (part-aid s a ∙ sym e) (part-short s a h)
+
+-- a place is in range: by a test, and by what is said of its service
+pub callee-tested : (L : Layout) (i m : ℕ) → m ≡ L .packages → i < m → i < L .packages
+callee-tested L i m e h = omega (arith, h, e)
+
+module _ (L : Layout) (t : Tables) (r : Row) (p : Place) (q : p ≡ placeOr L (serverOf L t r)) where
+  pub callee-served : T (served L t r) → p .callee < L .packages
+  callee-served h = ltb-true (p .callee) (L .packages) (served-is L t r (L .packages) p refl q ∙ T-true (served L t r) h)
+
+  pub nowhere : (m : ℕ) → m ≡ L .packages → m ≤ p .callee → serverOf L t r ≡ none
+  nowhere m e h = server-none L t r p q (omega (arith, h, e))
+
+  module _ (h : p .callee < L .packages) where
+    pub service-in : p .service < L .services
+    service-in = server-some L t r p q h .1
+
+    -- a need is a bit; so is a call on a service of the card
+    pub need-bit : (n : ℕ) {img : List ℕ} → Wrote L img (withNeeds (put3 n (p .callee) (p .service) true (t .needs)) t) → Wrote L img (addNeedAt L t n r (serverOf L t r) .tables)
+    need-bit n {img} w = subst (λ (o : Option Found). Wrote L img (addNeedAt L t n r o .tables)) (sym (server-some L t r p q h .0)) w
+
+    pub call-bit : (n : ℕ) {img : List ℕ} → Wrote L img (withCalls (put3 n (p .callee) (p .service) true (t .calls)) (t .unmet) t) → Wrote L img (addCallAt L t n r (serverOf L t r) .tables)
+    call-bit n {img} w = subst (λ (o : Option Found). Wrote L img (addCallAt L t n r o .tables)) (sym (server-some L t r p q h .0)) w
+
+-- a call on a service that is not on the card is unmet
+pub call-unmet : (L : Layout) (t : Tables) (r : Row) (n : ℕ) {img : List ℕ} (b : Aid) → serverOf L t r ≡ none → b ≡ r .aid
+    → Wrote L img (withUnmet (t .unmet ++ (record { callee = b; tok = r .tok; caller = n } ∷ [])) t) → Wrote L img (addCallAt L t n r (serverOf L t r) .tables)
+call-unmet L t r n {img} b h k w = subst (λ (o : Option Found). Wrote L img (addCallAt L t n r o .tables)) (sym h)
+    (subst (λ (z : Aid). Wrote L img (withUnmet (t .unmet ++ (record { callee = z; tok = r .tok; caller = n } ∷ [])) t)) k w)
+
+module _ (L : Layout) (t : Tables) (n : ℕ) (s : Tok) (k : ℕ) (e : k ≡ serviceNumber L t n s) where
+  -- the number of a service that package n provides is in range
+  pub grant-service : T (isSome (serviceOf L t n s)) → k < L .services
+  grant-service = go (serviceOf L t n s) (service-below L t n s) e
+    where
+      go : (o : Option ℕ) → Below (L .services) o → k ≡ numberOr (L .services) o → T (isSome o) → k < L .services
+      go none b q h = absurd h
+      go (some i) b q h = omega (arith, b, q)
+
+  pub grant-made : (a : Aid) {img : List ℕ} → Wrote L img (addGrantAt L t n a k (numberOf L t a) .tables) → Wrote L img (addGrantAt L t n a (serviceNumber L t n s) (numberOf L t a) .tables)
+  grant-made a {img} w = subst (λ (z : ℕ). Wrote L img (addGrantAt L t n a z (numberOf L t a) .tables)) e w
+
+pub ruleset one-row = (aid-short, callee-tested, callee-served, nowhere, service-in, need-bit, call-bit, call-unmet, grant-service, grant-made, needs)
+
+-- ---- a loop over rows: what a row does to the tables and asks of them, and what all rows do and ask
+pub record Turns : Type 1 where
+  pub one : Row → Tables → Tables
+  pub all : List Row → Tables → Tables
+  pub Asks : Row → Tables → Type 0
+  pub AllAsk : List Row → Tables → Type 0
+  pub none-is : (t : Tables) → all [] t ≡ t
+  pub first-is : (x : Row) (l : List Row) (t : Tables) → all (x ∷ l) t ≡ all l (one x t)
+  pub here : (x : Row) (l : List Row) (t : Tables) → AllAsk (x ∷ l) t → Asks x t
+  pub still : (x : Row) (l : List Row) (t : Tables) → AllAsk (x ∷ l) t → AllAsk l (one x t)
+
+-- the rows of todo are to come, of those of l, which were to go into the tables t
+pub record Turning (L : Layout) (s : Turns) (t : Tables) (l : List Row) (rec img : List ℕ) (todo : Items) : Type 0 where
+  pub laid : Laid L img
+  pub left : Todo aRow rec todo (λ m. s .all m (decode L img)) (s .all l t)
+  pub asks : s .AllAsk (itemsIn aRow rec todo) (decode L img)
+
+module _ {L : Layout} (s : Turns) where
+  pub turning-start : {rec img : List ℕ} {todo : Items} → Laid L img → Stands aRow rec todo → s .AllAsk (itemsIn aRow rec todo) (decode L img)
+      → Turning L s (decode L img) (itemsIn aRow rec todo) rec img todo
+  turning-start h k a = record { laid = h; left = todo-start k; asks = a }
+
+  module _ {t : Tables} {l : List Row} {rec img : List ℕ} {todo : Items} (g : Turning L s t l rec img todo) where
+    pub turning-end : todo .count ≤ 0 → Wrote L img (s .all l t)
+    turning-end e = record { laid = g .laid; tables = sym (s .none-is (decode L img)) ∙ todo-end (g .left) e }
+
+    module _ {x : Row} {rest : Items} (u : Uncons aRow rec todo x rest) where
+      asked : s .AllAsk (x ∷ itemsIn aRow rec rest) (decode L img)
+      asked = subst (λ (m : List Row). s .AllAsk m (decode L img)) (u .same) (g .asks)
+
+      pub turning-here : s .Asks x (decode L img)
+      turning-here = s .here x (itemsIn aRow rec rest) (decode L img) asked
+
+      pub turning-next : {img′ : List ℕ} → Wrote L img′ (s .one x (decode L img)) → Turning L s t l rec img′ rest
+      turning-next {img′} w = record {
+        laid = w .laid;
+        left = todo-next (g .left) u (λ m. s .all m (decode L img′)) (s .first-is x (itemsIn aRow rec rest) (decode L img) ∙ ap (s .all (itemsIn aRow rec rest)) (sym (w .tables)));
+        asks = subst (s .AllAsk (itemsIn aRow rec rest)) (sym (w .tables)) (s .still x (itemsIn aRow rec rest) (decode L img) asked);
+      }
+
+pub ruleset all-rows = (turning-start, turning-next, needs)
+
+-- ---- room in a list for those that f finds nothing for
+module _ {A B C : Type 0} (f : A → Option B) (x : A) (l : List A) (rows : List C) (most : ℕ) where
+  abbrev pub later : List A
+  later = keep (λ y. not (isSome (f y))) l
+
+  abbrev pub RoomBy : Option B → Type 0
+  RoomBy o = length rows + length (cond (not (isSome o)) (x ∷ later) later) ≤ most
+
+  pub room-here : RoomBy (f x) → f x ≡ none → length rows < most
+  room-here h e = go (subst RoomBy e h)
+    where
+      go : RoomBy none → length rows < most
+      go q = omega (arith, q)
+
+  room-after : (u : C) → RoomBy none → length (rows ++ (u ∷ [])) + length later ≤ most
+  room-after u q = subst (λ (n : ℕ). n + length later ≤ most) (sym (length-snoc rows u)) (omega (arith, q))
+
+-- ---- the three lists of a package; a row changes no lookup
+module _ (L : Layout) (n : ℕ) where
+  abbrev pub CallsAsk : List Row → Tables → Type 0
+  CallsAsk l t = length (t .unmet) + count (λ x. not (served L t x)) l ≤ L .capacity
+
+  pub calls-still : (x : Row) (l : List Row) (t : Tables) (o : Option Found) → RoomBy (serverOf L t) x l (t .unmet) (L .capacity) o → CallsAsk l (addCallAt L t n x o .tables)
+  unfolding numberOf serviceOf serverOf
+  calls-still x l t none q = room-after (serverOf L t) x l (t .unmet) (L .capacity) (callRow n x) q
+  calls-still x l t (some p) q = q
+
+  abbrev pub calls : Turns
+  calls = record {
+    one = λ x t. addCallAt L t n x (serverOf L t x) .tables;
+    all = calledAll L n;
+    Asks = λ x t. serverOf L t x ≡ none → length (t .unmet) < L .capacity;
+    AllAsk = CallsAsk;
+    none-is = λ t. refl;
+    first-is = λ x l t. refl;
+    here = λ x l t. room-here (serverOf L t) x l (t .unmet) (L .capacity);
+    still = λ x l t h. calls-still x l t (serverOf L t x) h;
+  }
+
+  abbrev pub provided : Tables → Row → Bool
+  provided t x = isSome (serviceOf L t n (x .tok))
+
+  abbrev pub GrantsAsk : List Row → Tables → Type 0
+  GrantsAsk l t = T (every (provided t) l) × (length (t .waiting) + count (λ x. not (present L t (x .aid))) l ≤ L .capacity)
+
+  pub grants-still : (x : Row) (l : List Row) (t : Tables) (k : ℕ) (o : Option ℕ) → T (every (provided t) l)
+      → RoomBy (λ y. numberOf L t (y .aid)) x l (t .waiting) (L .capacity) o → GrantsAsk l (addGrantAt L t n (x .aid) k o .tables)
+  unfolding numberOf serviceOf
+  grants-still x l t k none h q = (h, room-after (λ y. numberOf L t (y .aid)) x l (t .waiting) (L .capacity) (record { caller = x .aid; callee = n; service = k }) q)
+  grants-still x l t k (some i) h q = (h, q)
+
+  abbrev pub grants : Turns
+  grants = record {
+    one = λ x t. addGrantAt L t n (x .aid) (serviceNumber L t n (x .tok)) (numberOf L t (x .aid)) .tables;
+    all = grantedAll L n;
+    Asks = λ x t. T (provided t x) × (numberOf L t (x .aid) ≡ none → length (t .waiting) < L .capacity);
+    AllAsk = GrantsAsk;
+    none-is = λ t. refl;
+    first-is = λ x l t. refl;
+    here = λ x l t h. (
+      and-l (provided t x) (every (provided t) l) (h .0),
+      room-here (λ y. numberOf L t (y .aid)) x l (t .waiting) (L .capacity) (h .1),
+    );
+    still = λ x l t h.
+        grants-still x l t (serviceNumber L t n (x .tok)) (numberOf L t (x .aid))
+        (and-r (provided t x) (every (provided t) l) (h .0)) (h .1);
+  }
+
+  abbrev pub NeedsAsk : List Row → Tables → Type 0
+  NeedsAsk l t = T (every (served L t) l)
+
+  pub needs-still : (x : Row) (l : List Row) (t : Tables) (o : Option Found) → NeedsAsk l t → NeedsAsk l (addNeedAt L t n x o .tables)
+  unfolding numberOf serviceOf serverOf
+  needs-still x l t none h = h
+  needs-still x l t (some p) h = h
+
+  abbrev pub needed : Turns
+  needed = record {
+    one = λ x t. addNeedAt L t n x (serverOf L t x) .tables;
+    all = neededAll L n;
+    Asks = λ x t. T (served L t x);
+    AllAsk = NeedsAsk;
+    none-is = λ t. refl;
+    first-is = λ x l t. refl;
+    here = λ x l t. and-l (served L t x) (every (served L t) l);
+    still = λ x l t h. needs-still x l t (serverOf L t x) (and-r (served L t x) (every (served L t) l) h);
+  }

@@ -1,0 +1,32 @@
+-- `loading::decide::bytes_of` meets its contract.
+use native.Mathlib.Omega.{arith}
+use borrow.Author.Needs.{needs}
+use native.Mathlib.Nat.{add-sub-cancel-left}
+use mathlib.Core.Path.{refl}
+use Rattle.loading.proofs.decide.bytes_of.Statement.{statement}
+use Rattle.loading.proofs.decide.bytes_of.Tie as tie
+
+add-end : tie.Need-add-end
+add-end c = search needs
+
+sub-result : tie.Need-sub-result
+sub-result c = search needs
+
+part-result-start : tie.Need-part-result-start
+part-result-start c = search needs
+
+part-result-end : tie.Need-part-result-end
+part-result-end c = search needs
+
+returns : tie.Need-returns
+returns c = rw add-sub-cancel-left refl
+
+pub bytes-of-spec : {M : Type 1} → statement M
+bytes-of-spec =
+    tie.close
+    (tie.spec
+    add-end
+    sub-result
+    part-result-start
+    part-result-end
+    returns)

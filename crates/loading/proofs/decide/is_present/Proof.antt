@@ -1,0 +1,25 @@
+-- `loading::decide::is_present` meets its contract.
+use Rattle.loading.proofs.Checks.{checks}
+use Rattle.loading.proofs.decide.is_present.Statement.{statement}
+use Rattle.loading.proofs.decide.is_present.Tie as tie
+
+packages-requires : tie.Need-packages-requires
+packages-requires c κs = search checks
+
+bytes-of-requires : tie.Need-bytes-of-requires
+bytes-of-requires c κs = search checks
+
+find-package-requires : tie.Need-find-package-requires
+find-package-requires c κs = search checks
+
+returns : tie.Need-returns
+returns c = search checks
+
+pub is-present-spec : {M : Type 1} → statement M
+is-present-spec =
+    tie.close
+    (tie.spec
+    packages-requires
+    bytes-of-requires
+    find-package-requires
+    returns)

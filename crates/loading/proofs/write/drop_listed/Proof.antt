@@ -1,0 +1,26 @@
+-- `loading::write::drop_listed` meets its contract.
+use borrow.Author.Needs.{needs}
+use Rattle.policy.specs.Tables.{Tables}
+use Rattle.geometry.specs.Geometry.{layoutOf}
+use Rattle.rows.specs.Area.{keepRows}
+use Rattle.image.specs.Laid.{withWaiting}
+use Rattle.image.proofs.Clears.{wrote-then}
+use Rattle.loading.proofs.write.drop_listed.Statement.{statement}
+use Rattle.loading.proofs.write.drop_listed.Tie as tie
+
+drop-unmet-requires : tie.Need-drop-unmet-requires
+drop-unmet-requires c κs = search needs
+
+drop-waiting-requires : tie.Need-drop-waiting-requires
+drop-waiting-requires c κs = search needs
+
+same-length : tie.Need-same-length
+same-length c = search needs
+
+returns : tie.Need-returns
+returns c =
+    let x = c .before .before .before .before .before .before .before .before .before .args in
+    wrote-then (layoutOf (x .c)) (λ (t : Tables). withWaiting (keepRows (x .waiting) (t .waiting)) t) (c .before .before .before .before .before .before .drop-unmet .ensures) (c .before .before .drop-waiting .ensures)
+
+pub drop-listed-spec : {M : Type 1} → statement M
+drop-listed-spec = tie.close (tie.spec drop-unmet-requires drop-waiting-requires same-length returns)

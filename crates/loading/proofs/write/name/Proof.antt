@@ -1,0 +1,52 @@
+-- `loading::write::name` meets its contract. Assumes nothing.
+use native.Mathlib.Omega.{arith}
+use denote.Ref.{now}
+use borrow.Author.Needs.{needs}
+use Rattle.policy.specs.Tables.{decode}
+use Rattle.geometry.specs.Geometry.{layoutOf}
+use Rattle.geometry.proofs.Bounds.{limits, package-lt}
+use Rattle.loading.proofs.Opening.{used-fits, named-wrote}
+use Rattle.loading.proofs.write.name.Statement.{statement}
+use Rattle.loading.proofs.write.name.Tie as tie
+
+used-row-requires : tie.Need-used-row-requires
+used-row-requires c κs = search needs
+
+with-bit-requires : tie.Need-with-bit-requires
+with-bit-requires c κs = let s = c .before .before .before .before in package-lt (s .args .c) (s .args .n) (s .pre .1 .0)
+
+set-used-requires : tie.Need-set-used-requires
+set-used-requires c κs =
+    let u = c .before .before in
+    let s = u .before .before .before .before in
+    let a = s .args in
+    let L = layoutOf (a .c) in
+    (s .pre .0, used-fits L (decode L (now (a .img))) (s .pre .0 .room) (omega (arith, limits (a .c))) (a .n) (s .pre .1 .0) _ _ (u .used-row .ensures) (c .before .with-bit .ensures))
+
+put-aid-requires : tie.Need-put-aid-requires
+put-aid-requires c κs = search needs
+
+same-length : tie.Need-same-length
+same-length c = search needs
+
+returns : tie.Need-returns
+returns c =
+    let w = c .before .before .before .before .before .before in
+    let b = w .before .before in
+    let u = b .before in
+    let s = u .before .before .before .before in
+    let a = s .args in
+    let L = layoutOf (a .c) in
+    named-wrote L (decode L (now (a .img))) (s .pre .0 .room) (omega (arith, limits (a .c))) (a .n) (s .pre .1 .0) _ _ (u .used-row .ensures) (b .with-bit .ensures) (now (a .aid))
+    (w .set-used .ensures) (c .before .before .put-aid .ensures)
+
+pub name-spec : {M : Type 1} → statement M
+name-spec =
+    tie.close
+    (tie.spec
+    used-row-requires
+    with-bit-requires
+    set-used-requires
+    put-aid-requires
+    same-length
+    returns)

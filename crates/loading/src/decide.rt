@@ -1,0 +1,406 @@
+// Kind 1: whether a package may be loaded.
+ghost use mathlib.Core.Path.{_≡_};
+ghost use mathlib.Core.Bool.{not, _&&_};
+ghost use Prim.Native.Nat.{_+_, _≤_, _<_};
+ghost use lib.Dec.{T, leb};
+ghost use lib.ListN.{length};
+ghost use Rattle.policy.specs.Lists.{implies, every, exists};
+ghost use Rattle.policy.specs.Layout.{Layout};
+ghost use Rattle.policy.specs.Record.{tokens, aRow, load};
+ghost use Rattle.policy.specs.Sound.{sound};
+ghost use Rattle.policy.specs.Tables.{bit, decode};
+ghost use Rattle.policy.specs.Lookup.{numberOf, serverOf};
+ghost use Rattle.policy.specs.ShortCheck.{count};
+ghost use Rattle.geometry.specs.Geometry.{layoutOf};
+ghost use Rattle.image.specs.Laid.{Laid};
+ghost use Rattle.image.specs.Read.{placeOr, maskOf, unmetRow};
+ghost use Rattle.record.specs.Meaning.{AidFits, Stands, aidIn, rowIn, itemsIn};
+ghost use Rattle.loading.specs.Loads.{meets, served, present, callGranted, grantFits, othersGranted, unmetFit, waitingFit, loadCause, Decides};
+ghost use Rattle.engine.specs.Asked.{Asked};
+use geometry::Card;
+use image::read::Place;
+use record::Aid;
+use record::Items;
+use record::Tokens;
+
+// What is decided of a load: 0 or the cause against it; and where it is accepted, the number that the package takes, the
+// unmet calls that it meets and the grants that wait for it, as masks.
+pub struct Decided {
+    pub number: u8,
+    pub at: usize,
+    pub met: u32,
+    pub waiting: u32,
+}
+
+// The bytes of an AID of the record.
+pub fn bytes_of(rec: &[u8], a: Aid) -> &[u8]
+    requires { ⌜ AidFits (now rec) a ⌝ }
+    ensures { λ r. ⌜ now r ≡ aidIn (now (rec .entry)) a ⌝ }
+{
+    let at = a.at;
+    let end = at + a.len;
+    &rec[at..end]
+}
+
+// Where the service of a row of the record stands; the numbers past the last where it stands nowhere.
+pub fn server(img: &[u8], c: Card, rec: &[u8], a: Aid, t: Tokens) -> Place
+    requires laid { ⌜ Laid (layoutOf c) (now img) ⌝ }
+    requires fits { ⌜ AidFits (now rec) a ⌝ }
+    ensures { λ r. ⌜ r ≡ placeOr (layoutOf c) (serverOf (layoutOf c) (decode (layoutOf c) (now (img .entry))) (rowIn (now (rec .entry)) a t)) ⌝ }
+{
+    let other = bytes_of(rec, a);
+    image::read::find_server(img, c, other, t.interface, t.method)
+}
+
+// The service of a row of the record is on the card.
+fn is_served(img: &[u8], c: Card, rec: &[u8], a: Aid, t: Tokens) -> bool
+    requires laid { ⌜ Laid (layoutOf c) (now img) ⌝ }
+    requires fits { ⌜ AidFits (now rec) a ⌝ }
+    ensures { λ r. ⌜ r ≡ served (layoutOf c) (decode (layoutOf c) (now (img .entry))) (rowIn (now (rec .entry)) a t) ⌝ }
+{
+    let n = geometry::packages(c);
+    let p = server(img, c, rec, a, t);
+    p.callee < n
+}
+
+// A package with an AID of the record is on the card.
+fn is_present(img: &[u8], c: Card, rec: &[u8], a: Aid) -> bool
+    requires laid { ⌜ Laid (layoutOf c) (now img) ⌝ }
+    requires fits { ⌜ AidFits (now rec) a ⌝ }
+    ensures { λ r. ⌜ r ≡ present (layoutOf c) (decode (layoutOf c) (now (img .entry))) (aidIn (now (rec .entry)) a) ⌝ }
+{
+    let n = geometry::packages(c);
+    let other = bytes_of(rec, a);
+    let i = image::read::find_package(img, c, other);
+    i < n
+}
+
+// The server of a call, if there is one, has one of the waiting grants of the mask.
+fn call_granted(img: &[u8], c: Card, waiting: u32, rec: &[u8], a: Aid, t: Tokens) -> bool
+    requires laid { ⌜ Laid (layoutOf c) (now img) ⌝ }
+    requires fits { ⌜ AidFits (now rec) a ⌝ }
+    ensures { λ r. ⌜ r ≡ callGranted (layoutOf c) (decode (layoutOf c) (now (img .entry))) waiting (rowIn (now (rec .entry)) a t) ⌝ }
+{
+    let n = geometry::packages(c);
+    let p = server(img, c, rec, a, t);
+    if p.callee >= n {
+        return true;
+    }
+    let m = image::lists::granting(img, c, p.callee, p.service);
+    waiting & m != 0
+}
+
+// Each call of the record is granted.
+fn calls_granted(img: &[u8], c: Card, waiting: u32, rec: &[u8], calls: Items) -> bool
+    requires laid { ⌜ Laid (layoutOf c) (now img) ⌝ }
+    requires stands { ⌜ Stands aRow (now rec) calls ⌝ }
+    ensures { λ r. ⌜ r ≡ every (callGranted (layoutOf c) (decode (layoutOf c) (now (img .entry))) waiting) (itemsIn aRow (now (rec .entry)) calls) ⌝ }
+{
+    let mut todo = calls;
+    while 0 < todo.count {
+        let r = record::rows::take_row(rec, todo);
+        let a = r.other;
+        let t = r.tokens;
+        if call_granted(img, c, waiting, rec, a, t) {
+            todo = r.rest;
+        } else {
+            return false;
+        }
+    }
+    true
+}
+
+// Each need of the record is on the card.
+fn needs_served(img: &[u8], c: Card, rec: &[u8], needs: Items) -> bool
+    requires laid { ⌜ Laid (layoutOf c) (now img) ⌝ }
+    requires stands { ⌜ Stands aRow (now rec) needs ⌝ }
+    ensures { λ r. ⌜ r ≡ every (served (layoutOf c) (decode (layoutOf c) (now (img .entry)))) (itemsIn aRow (now (rec .entry)) needs) ⌝ }
+{
+    let mut todo = needs;
+    while 0 < todo.count {
+        let r = record::rows::take_row(rec, todo);
+        let a = r.other;
+        let t = r.tokens;
+        if is_served(img, c, rec, a, t) {
+            todo = r.rest;
+        } else {
+            return false;
+        }
+    }
+    true
+}
+
+// At most `room` calls of the record are on services that are not on the card.
+fn unserved_fit(img: &[u8], c: Card, rec: &[u8], calls: Items, room: usize) -> bool
+    requires laid { ⌜ Laid (layoutOf c) (now img) ⌝ }
+    requires stands { ⌜ Stands aRow (now rec) calls ⌝ }
+    ensures { λ r. ⌜ r ≡ leb (count (λ x. not (served (layoutOf c) (decode (layoutOf c) (now (img .entry))) x)) (itemsIn aRow (now (rec .entry)) calls)) room ⌝ }
+{
+    let mut todo = calls;
+    let mut left = room;
+    while 0 < todo.count {
+        let r = record::rows::take_row(rec, todo);
+        let a = r.other;
+        let t = r.tokens;
+        todo = r.rest;
+        if is_served(img, c, rec, a, t) {
+            continue;
+        }
+        if left == 0 {
+            return false;
+        }
+        left -= 1;
+    }
+    true
+}
+
+// At most `room` grants of the record are to callers that are not on the card.
+fn strangers_fit(img: &[u8], c: Card, rec: &[u8], grants: Items, room: usize) -> bool
+    requires laid { ⌜ Laid (layoutOf c) (now img) ⌝ }
+    requires stands { ⌜ Stands aRow (now rec) grants ⌝ }
+    ensures { λ r. ⌜ r ≡ leb (count (λ x. not (present (layoutOf c) (decode (layoutOf c) (now (img .entry))) (x .aid))) (itemsIn aRow (now (rec .entry)) grants)) room ⌝ }
+{
+    let mut todo = grants;
+    let mut left = room;
+    while 0 < todo.count {
+        let r = record::rows::take_row(rec, todo);
+        let a = r.other;
+        todo = r.rest;
+        if is_present(img, c, rec, a) {
+            continue;
+        }
+        if left == 0 {
+            return false;
+        }
+        left -= 1;
+    }
+    true
+}
+
+// Unmet call r is on a service of the package `aid` with the services of the record.
+fn is_met(img: &[u8], c: Card, r: usize, aid: &[u8], rec: &[u8], provides: Items) -> bool
+    requires laid { ⌜ Laid (layoutOf c) (now img) ⌝ }
+    requires inside { ⌜ r < length (decode (layoutOf c) (now img) .unmet) ⌝ }
+    requires stands { ⌜ Stands tokens (now rec) provides ⌝ }
+    ensures { λ b. ⌜ b ≡ meets (now (aid .entry)) (itemsIn tokens (now (rec .entry)) provides) (unmetRow (decode (layoutOf c) (now (img .entry))) r) ⌝ }
+{
+    let mut todo = provides;
+    while 0 < todo.count {
+        let s = record::rows::take_tokens(rec, todo);
+        let t = s.tokens;
+        if image::lists::asks_for(img, c, r, aid, t.interface, t.method) {
+            return true;
+        }
+        todo = s.rest;
+    }
+    false
+}
+
+// Which unmet calls are on services of the package `aid` with the services of the record.
+pub fn met_rows(img: &[u8], c: Card, aid: &[u8], rec: &[u8], provides: Items) -> u32
+    requires laid { ⌜ Laid (layoutOf c) (now img) ⌝ }
+    requires stands { ⌜ Stands tokens (now rec) provides ⌝ }
+    ensures { λ m. ⌜ m ≡ maskOf (meets (now (aid .entry)) (itemsIn tokens (now (rec .entry)) provides)) (decode (layoutOf c) (now (img .entry)) .unmet) ⌝ }
+{
+    let mut r = image::lists::unmet_count(img, c);
+    let mut mask: u32 = 0;
+    while r > 0 {
+        r -= 1;
+        let passes = is_met(img, c, r, aid, rec, provides);
+        mask = mask * 2 + (passes as u32);
+    }
+    mask
+}
+
+// Bit r of the mask is set.
+pub fn has_row(mask: u32, r: usize) -> bool
+    requires { ⌜ r < 32 ⌝ }
+    ensures { λ b. ⌜ b ≡ bit mask r ⌝ }
+{
+    (mask >> r) & 1 == 1
+}
+
+// A grant of the record is what unmet call r of package i needs of the package `aid`.
+fn grant_fits(img: &[u8], c: Card, r: usize, aid: &[u8], rec: &[u8], a: Aid, t: Tokens) -> bool
+    requires laid { ⌜ Laid (layoutOf c) (now img) ⌝ }
+    requires inside { ⌜ r < length (decode (layoutOf c) (now img) .unmet) ⌝ }
+    requires caller { ⌜ unmetRow (decode (layoutOf c) (now img)) r .caller < layoutOf c .packages ⌝ }
+    requires fits { ⌜ AidFits (now rec) a ⌝ }
+    ensures { λ b. ⌜ b ≡ grantFits (layoutOf c) (decode (layoutOf c) (now (img .entry))) (now (aid .entry)) (unmetRow (decode (layoutOf c) (now (img .entry))) r) (rowIn (now (rec .entry)) a t) ⌝ }
+{
+    if !image::lists::asks_for(img, c, r, aid, t.interface, t.method) {
+        return false;
+    }
+    let i = image::lists::unmet_caller(img, c, r);
+    let other = bytes_of(rec, a);
+    image::read::is_package(img, c, i, other)
+}
+
+// Some grant of the record is what unmet call r needs of the package `aid`.
+fn row_granted(img: &[u8], c: Card, r: usize, aid: &[u8], rec: &[u8], grants: Items) -> bool
+    requires laid { ⌜ Laid (layoutOf c) (now img) ⌝ }
+    requires inside { ⌜ r < length (decode (layoutOf c) (now img) .unmet) ⌝ }
+    requires caller { ⌜ unmetRow (decode (layoutOf c) (now img)) r .caller < layoutOf c .packages ⌝ }
+    requires stands { ⌜ Stands aRow (now rec) grants ⌝ }
+    ensures { λ b. ⌜ b ≡ exists (grantFits (layoutOf c) (decode (layoutOf c) (now (img .entry))) (now (aid .entry)) (unmetRow (decode (layoutOf c) (now (img .entry))) r)) (itemsIn aRow (now (rec .entry)) grants) ⌝ }
+{
+    let mut todo = grants;
+    while 0 < todo.count {
+        let s = record::rows::take_row(rec, todo);
+        let a = s.other;
+        let t = s.tokens;
+        if grant_fits(img, c, r, aid, rec, a, t) {
+            return true;
+        }
+        todo = s.rest;
+    }
+    false
+}
+
+// Unmet call r is granted by the package `aid`, where the mask names it.
+fn named_granted(
+    img: &[u8],
+    c: Card,
+    r: usize,
+    aid: &[u8],
+    rec: &[u8],
+    grants: Items,
+    met: u32,
+) -> bool
+    requires laid { ⌜ Laid (layoutOf c) (now img) ⌝ }
+    requires inside { ⌜ r < length (decode (layoutOf c) (now img) .unmet) ⌝ }
+    requires caller { ⌜ unmetRow (decode (layoutOf c) (now img)) r .caller < layoutOf c .packages ⌝ }
+    requires stands { ⌜ Stands aRow (now rec) grants ⌝ }
+    ensures { λ b. ⌜ b ≡ implies (bit met r) (exists (grantFits (layoutOf c) (decode (layoutOf c) (now (img .entry))) (now (aid .entry)) (unmetRow (decode (layoutOf c) (now (img .entry))) r)) (itemsIn aRow (now (rec .entry)) grants)) ⌝ }
+{
+    if !has_row(met, r) {
+        return true;
+    }
+    row_granted(img, c, r, aid, rec, grants)
+}
+
+// Each unmet call of the mask is granted by the package `aid`.
+fn others_granted(img: &[u8], c: Card, aid: &[u8], rec: &[u8], grants: Items, met: u32) -> bool
+    requires sound { ⌜ T (sound (layoutOf c) (now img)) ⌝ }
+    requires stands { ⌜ Stands aRow (now rec) grants ⌝ }
+    ensures { λ b. ⌜ b ≡ othersGranted (layoutOf c) (decode (layoutOf c) (now (img .entry))) (now (aid .entry)) (itemsIn aRow (now (rec .entry)) grants) met ⌝ }
+{
+    let n = image::lists::unmet_count(img, c);
+    for r in 0..n {
+        if !named_granted(img, c, r, aid, rec, grants, met) {
+            return false;
+        }
+    }
+    true
+}
+
+// The list of unmet calls has room for those of the record, after the rows of the mask go.
+fn unmet_fits(img: &[u8], c: Card, rec: &[u8], calls: Items, met: u32) -> bool
+    requires laid { ⌜ Laid (layoutOf c) (now img) ⌝ }
+    requires stands { ⌜ Stands aRow (now rec) calls ⌝ }
+    ensures { λ b. ⌜ b ≡ unmetFit (layoutOf c) (decode (layoutOf c) (now (img .entry))) met (itemsIn aRow (now (rec .entry)) calls) ⌝ }
+{
+    let most = geometry::capacity(c);
+    let old = image::lists::unmet_count(img, c);
+    let gone = image::lists::mask_count(met);
+    let all = most + gone;
+    let room = all - old;
+    unserved_fit(img, c, rec, calls, room)
+}
+
+// The list of waiting grants has room for those of the record, after the rows of the mask go.
+fn waiting_fits(img: &[u8], c: Card, rec: &[u8], grants: Items, waiting: u32) -> bool
+    requires laid { ⌜ Laid (layoutOf c) (now img) ⌝ }
+    requires stands { ⌜ Stands aRow (now rec) grants ⌝ }
+    ensures { λ b. ⌜ b ≡ waitingFit (layoutOf c) (decode (layoutOf c) (now (img .entry))) waiting (itemsIn aRow (now (rec .entry)) grants) ⌝ }
+{
+    let most = geometry::capacity(c);
+    let old = image::lists::waiting_count(img, c);
+    let gone = image::lists::mask_count(waiting);
+    let all = most + gone;
+    let room = all - old;
+    strangers_fit(img, c, rec, grants, room)
+}
+
+// The cause from 8 to 11 against loading the package `aid`; 0 where there is none.
+pub fn cause(
+    img: &[u8],
+    c: Card,
+    aid: &[u8],
+    rec: &[u8],
+    calls: Items,
+    grants: Items,
+    needs: Items,
+    met: u32,
+    waiting: u32,
+) -> u8
+    requires sound { ⌜ T (sound (layoutOf c) (now img)) ⌝ }
+    requires stands { ⌜ Stands aRow (now rec) calls × Stands aRow (now rec) grants × Stands aRow (now rec) needs ⌝ }
+    ensures { λ r. ⌜ r ≡ loadCause (layoutOf c) (decode (layoutOf c) (now (img .entry))) (now (aid .entry))
+        (itemsIn aRow (now (rec .entry)) calls) (itemsIn aRow (now (rec .entry)) grants) (itemsIn aRow (now (rec .entry)) needs) met waiting ⌝ }
+{
+    if !calls_granted(img, c, waiting, rec, calls) {
+        return 8;
+    }
+    if !others_granted(img, c, aid, rec, grants, met) {
+        return 8;
+    }
+    if !needs_served(img, c, rec, needs) {
+        return 9;
+    }
+    if !unmet_fits(img, c, rec, calls, met) {
+        return 10;
+    }
+    if !waiting_fits(img, c, rec, grants, waiting) {
+        return 11;
+    }
+    0
+}
+
+// Decides whether the package `aid` is loaded with the lists of the record.
+pub fn decide(
+    img: &[u8],
+    c: Card,
+    aid: &[u8],
+    rec: &[u8],
+    provides: Items,
+    calls: Items,
+    grants: Items,
+    needs: Items,
+) -> Decided
+    requires asked { ⌜ Asked (layoutOf c) (now img) (now aid)
+        (load (itemsIn tokens (now rec) provides) (itemsIn aRow (now rec) calls) (itemsIn aRow (now rec) grants) (itemsIn aRow (now rec) needs)) ⌝ }
+    requires listed { ⌜ Stands tokens (now rec) provides ⌝ }
+    requires stands { ⌜ Stands aRow (now rec) calls × Stands aRow (now rec) grants × Stands aRow (now rec) needs ⌝ }
+    ensures { λ r. ⌜ Decides (layoutOf c) (now (img .entry)) (now (aid .entry)) (itemsIn tokens (now (rec .entry)) provides)
+        (itemsIn aRow (now (rec .entry)) calls) (itemsIn aRow (now (rec .entry)) grants) (itemsIn aRow (now (rec .entry)) needs) r ⌝ }
+{
+    let n = geometry::packages(c);
+    let old = image::read::find_package(img, c, aid);
+    if old < n {
+        return Decided {
+            number: 4,
+            at: n,
+            met: 0,
+            waiting: 0,
+        };
+    }
+    let at = image::read::free_number(img, c);
+    if at >= n {
+        return Decided {
+            number: 7,
+            at: n,
+            met: 0,
+            waiting: 0,
+        };
+    }
+    let met = met_rows(img, c, aid, rec, provides);
+    let waiting = image::lists::waiting_for(img, c, aid);
+    let number = cause(img, c, aid, rec, calls, grants, needs, met, waiting);
+    Decided {
+        number,
+        at,
+        met,
+        waiting,
+    }
+}

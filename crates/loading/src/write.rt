@@ -1,0 +1,253 @@
+// Kind 1: the writes of a load that was accepted.
+ghost use mathlib.Core.Path.{_≡_};
+ghost use mathlib.Core.Bool.{not};
+ghost use mathlib.Core.Option.{none};
+ghost use Prim.Native.Nat.{_+_, _≤_, _<_};
+ghost use lib.Dec.{T};
+ghost use lib.ListN.{length};
+ghost use Rattle.policy.specs.Lists.{every, isSome};
+ghost use Rattle.policy.specs.Record.{tokens, aRow, load};
+ghost use Rattle.policy.specs.Tables.{decode};
+ghost use Rattle.policy.specs.Lookup.{numberOf, serviceOf, serverOf};
+ghost use Rattle.policy.specs.Draft.{addCallAt, addGrantAt, addNeedAt, loadAt};
+ghost use Rattle.policy.specs.ShortCheck.{count};
+ghost use Rattle.geometry.specs.Geometry.{layoutOf};
+ghost use Rattle.image.specs.Laid.{Laid};
+ghost use Rattle.image.specs.Wrote.{Wrote};
+ghost use Rattle.image.specs.Read.{waitingRow};
+ghost use Rattle.record.specs.Meaning.{AidFits, Stands, aidIn, rowIn, itemsIn, tokOf};
+ghost use Rattle.engine.specs.Asked.{Asked};
+ghost use Rattle.engine.specs.Services.{CallersIn};
+ghost use Rattle.loading.specs.Loads.{served, present, Accepts, withoutRows};
+ghost use Rattle.loading.specs.Writes.{named, openedOne, openedAll, GrantsIn, dueOne, due, calledAll, serviceNumber, grantedAll, neededAll};
+use crate::decide;
+use crate::decide::Decided;
+use geometry::Card;
+use geometry::Table;
+use record::Aid;
+use record::Items;
+use record::Tokens;
+
+// Package n is used, with this AID.
+fn name(img: &mut [u8], c: Card, n: usize, aid: &[u8])
+    requires laid { ⌜ Laid (layoutOf c) (now img) ⌝ }
+    requires inside { ⌜ n < layoutOf c .packages ⌝ }
+    requires short { ⌜ length (now aid) ≤ 16 ⌝ }
+    ensures { λ _. ⌜ Wrote (layoutOf c) (now (img .exit)) (named n (now (aid .entry)) (decode (layoutOf c) (now (img .entry)))) ⌝ }
+{
+    let row = image::read::used_row(img, c);
+    let with = bits::with_bit(row, n);
+    image::write::set_used(img, c, with);
+    image::write::put_aid(img, c, n, aid);
+}
+
+// Package n provides service k with these tokens; the unmet calls on it become bits.
+fn open(img: &mut [u8], c: Card, n: usize, aid: &[u8], k: usize, t: Tokens)
+    requires laid { ⌜ Laid (layoutOf c) (now img) ⌝ }
+    requires by { ⌜ CallersIn (layoutOf c) (decode (layoutOf c) (now img) .unmet) ⌝ }
+    requires numbers { ⌜ (n < layoutOf c .packages) × (k < layoutOf c .services) ⌝ }
+    ensures { λ _. ⌜ Wrote (layoutOf c) (now (img .exit)) (openedOne n (now (aid .entry)) k (tokOf t) (decode (layoutOf c) (now (img .entry)))) ⌝ }
+{
+    engine::services::meet_calls(img, c, aid, t.interface, t.method, n, k);
+    engine::services::open_service(img, c, n, k, t.interface, t.method);
+}
+
+// Package n provides the services of the record: they take 0, 1, 2 in record order.
+fn open_all(img: &mut [u8], c: Card, n: usize, aid: &[u8], rec: &[u8], provides: Items)
+    requires laid { ⌜ Laid (layoutOf c) (now img) ⌝ }
+    requires by { ⌜ CallersIn (layoutOf c) (decode (layoutOf c) (now img) .unmet) ⌝ }
+    requires stands { ⌜ Stands tokens (now rec) provides ⌝ }
+    requires numbers { ⌜ (n < layoutOf c .packages) × (length (itemsIn tokens (now rec) provides) ≤ layoutOf c .services) ⌝ }
+    ensures { λ _. ⌜ Wrote (layoutOf c) (now (img .exit))
+        (openedAll n (now (aid .entry)) 0 (itemsIn tokens (now (rec .entry)) provides) (decode (layoutOf c) (now (img .entry)))) ⌝ }
+{
+    let mut todo = provides;
+    let mut k = 0;
+    while 0 < todo.count {
+        let s = record::rows::take_tokens(rec, todo);
+        let t = s.tokens;
+        open(img, c, n, aid, k, t);
+        todo = s.rest;
+        k += 1;
+    }
+}
+
+// Waiting grant r, if the mask names it, becomes a bit, to package n.
+fn settle_row(img: &mut [u8], c: Card, n: usize, waiting: u32, r: usize)
+    requires laid { ⌜ Laid (layoutOf c) (now img) ⌝ }
+    requires inside { ⌜ r < length (decode (layoutOf c) (now img) .waiting) ⌝ }
+    requires numbers { ⌜ (waitingRow (decode (layoutOf c) (now img)) r .callee < layoutOf c .packages)
+        × (waitingRow (decode (layoutOf c) (now img)) r .service < layoutOf c .services) × (n < layoutOf c .packages) ⌝ }
+    ensures { λ _. ⌜ Wrote (layoutOf c) (now (img .exit)) (dueOne waiting n r (decode (layoutOf c) (now (img .entry)))) ⌝ }
+{
+    if decide::has_row(waiting, r) {
+        let j = image::lists::waiting_callee(img, c, r);
+        let k = image::lists::waiting_service(img, c, r);
+        image::write::set_bit(img, c, Table::Grants, j, n, k);
+    }
+}
+
+// The waiting grants of the mask become bits, to package n.
+fn settle(img: &mut [u8], c: Card, n: usize, waiting: u32)
+    requires laid { ⌜ Laid (layoutOf c) (now img) ⌝ }
+    requires by { ⌜ GrantsIn (layoutOf c) (decode (layoutOf c) (now img) .waiting) ⌝ }
+    requires inside { ⌜ n < layoutOf c .packages ⌝ }
+    ensures { λ _. ⌜ Wrote (layoutOf c) (now (img .exit)) (due waiting n (decode (layoutOf c) (now (img .entry)))) ⌝ }
+{
+    let m = image::lists::waiting_count(img, c);
+    for r in 0..m {
+        settle_row(img, c, n, waiting, r);
+    }
+}
+
+// The unmet calls and the waiting grants of the masks go.
+fn drop_listed(img: &mut [u8], c: Card, met: u32, waiting: u32)
+    requires { ⌜ Laid (layoutOf c) (now img) ⌝ }
+    ensures { λ _. ⌜ Wrote (layoutOf c) (now (img .exit)) (withoutRows met waiting (decode (layoutOf c) (now (img .entry)))) ⌝ }
+{
+    image::write::drop_unmet(img, c, met);
+    image::write::drop_waiting(img, c, waiting);
+}
+
+// A call of package n: a bit where its service is on the card, else an unmet call.
+fn call(img: &mut [u8], c: Card, n: usize, rec: &[u8], a: Aid, t: Tokens)
+    requires laid { ⌜ Laid (layoutOf c) (now img) ⌝ }
+    requires fits { ⌜ AidFits (now rec) a ⌝ }
+    requires inside { ⌜ n < layoutOf c .packages ⌝ }
+    requires room { ⌜ (serverOf (layoutOf c) (decode (layoutOf c) (now img)) (rowIn (now rec) a t) ≡ none
+        → length (decode (layoutOf c) (now img) .unmet) < layoutOf c .capacity) ⌝ }
+    ensures { λ _. ⌜ Wrote (layoutOf c) (now (img .exit)) (addCallAt (layoutOf c) (decode (layoutOf c) (now (img .entry))) n (rowIn (now (rec .entry)) a t)
+        (serverOf (layoutOf c) (decode (layoutOf c) (now (img .entry))) (rowIn (now (rec .entry)) a t)) .tables) ⌝ }
+{
+    let size = geometry::packages(c);
+    let p = decide::server(img, c, rec, a, t);
+    if p.callee < size {
+        image::write::set_bit(img, c, Table::Calls, n, p.callee, p.service);
+        return;
+    }
+    let other = decide::bytes_of(rec, a);
+    image::write::append_unmet(img, c, other, t.interface, t.method, n);
+}
+
+// The calls of the record are those of package n.
+fn call_all(img: &mut [u8], c: Card, n: usize, rec: &[u8], calls: Items)
+    requires laid { ⌜ Laid (layoutOf c) (now img) ⌝ }
+    requires stands { ⌜ Stands aRow (now rec) calls ⌝ }
+    requires inside { ⌜ n < layoutOf c .packages ⌝ }
+    requires room { ⌜ length (decode (layoutOf c) (now img) .unmet)
+        + count (λ x. not (served (layoutOf c) (decode (layoutOf c) (now img)) x)) (itemsIn aRow (now rec) calls) ≤ layoutOf c .capacity ⌝ }
+    ensures { λ _. ⌜ Wrote (layoutOf c) (now (img .exit)) (calledAll (layoutOf c) n (itemsIn aRow (now (rec .entry)) calls) (decode (layoutOf c) (now (img .entry)))) ⌝ }
+{
+    let mut todo = calls;
+    while 0 < todo.count {
+        let r = record::rows::take_row(rec, todo);
+        let a = r.other;
+        let t = r.tokens;
+        call(img, c, n, rec, a, t);
+        todo = r.rest;
+    }
+}
+
+// A grant of package n, which provides its service: a bit where the caller is installed, else it waits.
+fn grant(img: &mut [u8], c: Card, n: usize, rec: &[u8], a: Aid, t: Tokens)
+    requires laid { ⌜ Laid (layoutOf c) (now img) ⌝ }
+    requires fits { ⌜ AidFits (now rec) a ⌝ }
+    requires inside { ⌜ n < layoutOf c .packages ⌝ }
+    requires provided { ⌜ T (isSome (serviceOf (layoutOf c) (decode (layoutOf c) (now img)) n (tokOf t))) ⌝ }
+    requires room { ⌜ (numberOf (layoutOf c) (decode (layoutOf c) (now img)) (aidIn (now rec) a) ≡ none
+        → length (decode (layoutOf c) (now img) .waiting) < layoutOf c .capacity) ⌝ }
+    ensures { λ _. ⌜ Wrote (layoutOf c) (now (img .exit)) (addGrantAt (layoutOf c) (decode (layoutOf c) (now (img .entry))) n (aidIn (now (rec .entry)) a)
+        (serviceNumber (layoutOf c) (decode (layoutOf c) (now (img .entry))) n (tokOf t))
+        (numberOf (layoutOf c) (decode (layoutOf c) (now (img .entry))) (aidIn (now (rec .entry)) a)) .tables) ⌝ }
+{
+    let k = image::read::find_service(img, c, n, t.interface, t.method);
+    engine::services::grant(img, c, rec, a, n, k);
+}
+
+// The grants of the record are those of package n.
+fn grant_all(img: &mut [u8], c: Card, n: usize, rec: &[u8], grants: Items)
+    requires laid { ⌜ Laid (layoutOf c) (now img) ⌝ }
+    requires stands { ⌜ Stands aRow (now rec) grants ⌝ }
+    requires inside { ⌜ n < layoutOf c .packages ⌝ }
+    requires provided { ⌜ T (every (λ x. isSome (serviceOf (layoutOf c) (decode (layoutOf c) (now img)) n (x .tok))) (itemsIn aRow (now rec) grants)) ⌝ }
+    requires room { ⌜ length (decode (layoutOf c) (now img) .waiting)
+        + count (λ x. not (present (layoutOf c) (decode (layoutOf c) (now img)) (x .aid))) (itemsIn aRow (now rec) grants) ≤ layoutOf c .capacity ⌝ }
+    ensures { λ _. ⌜ Wrote (layoutOf c) (now (img .exit)) (grantedAll (layoutOf c) n (itemsIn aRow (now (rec .entry)) grants) (decode (layoutOf c) (now (img .entry)))) ⌝ }
+{
+    let mut todo = grants;
+    while 0 < todo.count {
+        let r = record::rows::take_row(rec, todo);
+        let a = r.other;
+        let t = r.tokens;
+        grant(img, c, n, rec, a, t);
+        todo = r.rest;
+    }
+}
+
+// A need of package n: its service is on the card.
+fn need(img: &mut [u8], c: Card, n: usize, rec: &[u8], a: Aid, t: Tokens)
+    requires laid { ⌜ Laid (layoutOf c) (now img) ⌝ }
+    requires fits { ⌜ AidFits (now rec) a ⌝ }
+    requires inside { ⌜ n < layoutOf c .packages ⌝ }
+    requires there { ⌜ T (served (layoutOf c) (decode (layoutOf c) (now img)) (rowIn (now rec) a t)) ⌝ }
+    ensures { λ _. ⌜ Wrote (layoutOf c) (now (img .exit)) (addNeedAt (layoutOf c) (decode (layoutOf c) (now (img .entry))) n (rowIn (now (rec .entry)) a t)
+        (serverOf (layoutOf c) (decode (layoutOf c) (now (img .entry))) (rowIn (now (rec .entry)) a t)) .tables) ⌝ }
+{
+    let p = decide::server(img, c, rec, a, t);
+    image::write::set_bit(img, c, Table::Needs, n, p.callee, p.service);
+}
+
+// The needs of the record are those of package n.
+fn need_all(img: &mut [u8], c: Card, n: usize, rec: &[u8], needs: Items)
+    requires laid { ⌜ Laid (layoutOf c) (now img) ⌝ }
+    requires stands { ⌜ Stands aRow (now rec) needs ⌝ }
+    requires inside { ⌜ n < layoutOf c .packages ⌝ }
+    requires there { ⌜ T (every (served (layoutOf c) (decode (layoutOf c) (now img))) (itemsIn aRow (now rec) needs)) ⌝ }
+    ensures { λ _. ⌜ Wrote (layoutOf c) (now (img .exit)) (neededAll (layoutOf c) n (itemsIn aRow (now (rec .entry)) needs) (decode (layoutOf c) (now (img .entry)))) ⌝ }
+{
+    let mut todo = needs;
+    while 0 < todo.count {
+        let r = record::rows::take_row(rec, todo);
+        let a = r.other;
+        let t = r.tokens;
+        need(img, c, n, rec, a, t);
+        todo = r.rest;
+    }
+}
+
+// All writes of an accepted load: the package and its services first, so that the other packages' rows and its own find them.
+pub fn put(
+    img: &mut [u8],
+    c: Card,
+    d: Decided,
+    aid: &[u8],
+    rec: &[u8],
+    provides: Items,
+    calls: Items,
+    grants: Items,
+    needs: Items,
+)
+    requires asked { ⌜ Asked (layoutOf c) (now img) (now aid)
+        (load (itemsIn tokens (now rec) provides) (itemsIn aRow (now rec) calls) (itemsIn aRow (now rec) grants) (itemsIn aRow (now rec) needs)) ⌝ }
+    requires listed { ⌜ Stands tokens (now rec) provides ⌝ }
+    requires stands { ⌜ Stands aRow (now rec) calls × Stands aRow (now rec) grants × Stands aRow (now rec) needs ⌝ }
+    requires accepts { ⌜ Accepts (layoutOf c) (now img) (now aid) (itemsIn tokens (now rec) provides)
+        (itemsIn aRow (now rec) calls) (itemsIn aRow (now rec) grants) (itemsIn aRow (now rec) needs) d ⌝ }
+    ensures { λ _. ⌜ Wrote (layoutOf c) (now (img .exit)) (loadAt (layoutOf c) (decode (layoutOf c) (now (img .entry))) (d .at)
+        (record {
+          aid = now (aid .entry);
+          provides = itemsIn tokens (now (rec .entry)) provides;
+          calls = itemsIn aRow (now (rec .entry)) calls;
+          grants = itemsIn aRow (now (rec .entry)) grants;
+          needs = itemsIn aRow (now (rec .entry)) needs;
+        }) .tables) ⌝ }
+{
+    let n = d.at;
+    name(img, c, n, aid);
+    open_all(img, c, n, aid, rec, provides);
+    settle(img, c, n, d.waiting);
+    drop_listed(img, c, d.met, d.waiting);
+    call_all(img, c, n, rec, calls);
+    grant_all(img, c, n, rec, grants);
+    need_all(img, c, n, rec, needs);
+}
