@@ -32,23 +32,13 @@ pub struct Decided {
     pub waiting: u32,
 }
 
-// The bytes of an AID of the record.
-pub fn bytes_of(rec: &[u8], a: Aid) -> &[u8]
-    requires { ⌜ AidFits (now rec) a ⌝ }
-    ensures { λ r. ⌜ now r ≡ aidIn (now (rec .entry)) a ⌝ }
-{
-    let at = a.at;
-    let end = at + a.len;
-    &rec[at..end]
-}
-
 // Where the service of a row of the record stands; the numbers past the last where it stands nowhere.
 pub fn server(img: &[u8], c: Card, rec: &[u8], a: Aid, t: Tokens) -> Place
     requires laid { ⌜ Laid (layoutOf c) (now img) ⌝ }
     requires fits { ⌜ AidFits (now rec) a ⌝ }
     ensures { λ r. ⌜ r ≡ placeOr (layoutOf c) (serverOf (layoutOf c) (decode (layoutOf c) (now (img .entry))) (rowIn (now (rec .entry)) a t)) ⌝ }
 {
-    let other = bytes_of(rec, a);
+    let other = record::aid_bytes(rec, a);
     image::read::find_server(img, c, other, t.interface, t.method)
 }
 
@@ -70,7 +60,7 @@ fn is_present(img: &[u8], c: Card, rec: &[u8], a: Aid) -> bool
     ensures { λ r. ⌜ r ≡ present (layoutOf c) (decode (layoutOf c) (now (img .entry))) (aidIn (now (rec .entry)) a) ⌝ }
 {
     let n = geometry::packages(c);
-    let other = bytes_of(rec, a);
+    let other = record::aid_bytes(rec, a);
     let i = image::read::find_package(img, c, other);
     i < n
 }
@@ -232,7 +222,7 @@ fn grant_fits(img: &[u8], c: Card, r: usize, aid: &[u8], rec: &[u8], a: Aid, t: 
         return false;
     }
     let i = image::lists::unmet_caller(img, c, r);
-    let other = bytes_of(rec, a);
+    let other = record::aid_bytes(rec, a);
     image::read::is_package(img, c, i, other)
 }
 

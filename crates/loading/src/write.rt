@@ -125,7 +125,7 @@ fn call(img: &mut [u8], c: Card, n: usize, rec: &[u8], a: Aid, t: Tokens)
         image::write::set_bit(img, c, Table::Calls, n, p.callee, p.service);
         return;
     }
-    let other = decide::bytes_of(rec, a);
+    let other = record::aid_bytes(rec, a);
     image::write::append_unmet(img, c, other, t.interface, t.method, n);
 }
 

@@ -4,7 +4,7 @@ ghost use Prim.Native.Nat.{_+_, _-_, _≤_, _<_};
 ghost use lib.ListN.{length, drop, getD};
 ghost use Rattle.policy.specs.Record.{aid, tokens, aRow, many, aLoad, aService, change, firstAid};
 ghost use Rattle.geometry.specs.Geometry.{layoutOf};
-ghost use Rattle.record.specs.Meaning.{Takes, reader, widthOf, mostOf, listReader, Counts, Lists, Places, Served, Good, RowStands, tokOf, tokAt, Bodies, rowKind, Parses};
+ghost use Rattle.record.specs.Meaning.{AidFits, aidIn, Takes, reader, widthOf, mostOf, listReader, Counts, Lists, Places, Served, Good, RowStands, tokOf, tokAt, Bodies, rowKind, Parses};
 use geometry::Card;
 
 pub mod proper;
@@ -445,6 +445,16 @@ pub fn read_record(rec: &[u8], c: Card) -> Read
     Read::Whole(Record { aid, kind })
 }
 
+// The bytes of an AID that was read, as a part of the record.
+pub fn aid_bytes(rec: &[u8], a: Aid) -> &[u8]
+    requires { ⌜ AidFits (now rec) a ⌝ }
+    ensures { λ r. ⌜ now r ≡ aidIn (now (rec .entry)) a ⌝ }
+{
+    let at = a.at;
+    let end = at + a.len;
+    &rec[at..end]
+}
+
 // The first AID's bytes, or an empty part of a malformed record.
 pub fn aid_part(rec: &[u8], c: Card) -> &[u8]
     ensures { λ r. ⌜ now r ≡ firstAid (layoutOf c) (now (rec .entry)) ⌝ }
@@ -453,7 +463,5 @@ pub fn aid_part(rec: &[u8], c: Card) -> &[u8]
         return &rec[..0];
     };
     let a = r.aid;
-    let at = a.at;
-    let end = at + a.len;
-    &rec[at..end]
+    aid_bytes(rec, a)
 }

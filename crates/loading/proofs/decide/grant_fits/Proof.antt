@@ -21,8 +21,8 @@ returns c =
 unmet-caller-requires : tie.Need-unmet-caller-requires
 unmet-caller-requires c κs = search checks
 
-bytes-of-requires : tie.Need-bytes-of-requires
-bytes-of-requires c κs = search checks
+aid-bytes-requires : tie.Need-aid-bytes-requires
+aid-bytes-requires c κs = search checks
 
 is-package-requires : tie.Need-is-package-requires
 is-package-requires c κs = (c .before .before .before .before .before .before .before .pre .0, rw (c .before .unmet-caller .ensures) (c .before .before .before .before .before .before .before .pre .1 .1 .0))
@@ -31,7 +31,7 @@ returns-2 : tie.Need-returns-2
 returns-2 c =
     let x = c .before .before .before .before .before .before .before .before .args in
     let t = decode (layoutOf (x .c)) (now (x .img)) in
-    grant-seen (layoutOf (x .c)) t (now (x .aid)) (unmetRow t (x .r)) (rowIn (now (x .rec)) (x .a) (x .t)) _ (c .before .before .before .before .asks-for .ensures) _ _ _ (c .before .before .before .if1 .left) (c .before .before .unmet-caller .ensures) (c .before .bytes-of .ensures) (c .is-package .ensures)
+    grant-seen (layoutOf (x .c)) t (now (x .aid)) (unmetRow t (x .r)) (rowIn (now (x .rec)) (x .a) (x .t)) _ (c .before .before .before .before .asks-for .ensures) _ _ _ (c .before .before .before .if1 .left) (c .before .before .unmet-caller .ensures) (c .before .aid-bytes .ensures) (c .is-package .ensures)
 
 pub grant-fits-spec : {M : Type 1} → statement M
 grant-fits-spec =
@@ -40,6 +40,6 @@ grant-fits-spec =
     asks-for-requires
     returns
     unmet-caller-requires
-    bytes-of-requires
+    aid-bytes-requires
     is-package-requires
     returns-2)

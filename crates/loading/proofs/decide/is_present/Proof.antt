@@ -6,8 +6,8 @@ use Rattle.loading.proofs.decide.is_present.Tie as tie
 packages-requires : tie.Need-packages-requires
 packages-requires c κs = search checks
 
-bytes-of-requires : tie.Need-bytes-of-requires
-bytes-of-requires c κs = search checks
+aid-bytes-requires : tie.Need-aid-bytes-requires
+aid-bytes-requires c κs = search checks
 
 find-package-requires : tie.Need-find-package-requires
 find-package-requires c κs = search checks
@@ -20,6 +20,6 @@ is-present-spec =
     tie.close
     (tie.spec
     packages-requires
-    bytes-of-requires
+    aid-bytes-requires
     find-package-requires
     returns)

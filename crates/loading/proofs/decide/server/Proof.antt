@@ -10,8 +10,8 @@ use denote.Ref.{now}
 use Rattle.loading.proofs.decide.server.Statement.{statement}
 use Rattle.loading.proofs.decide.server.Tie as tie
 
-bytes-of-requires : tie.Need-bytes-of-requires
-bytes-of-requires c κs = search needs
+aid-bytes-requires : tie.Need-aid-bytes-requires
+aid-bytes-requires c κs = search needs
 
 find-server-requires : tie.Need-find-server-requires
 find-server-requires c κs = search needs
@@ -19,12 +19,12 @@ find-server-requires c κs = search needs
 returns : tie.Need-returns
 returns c =
     let x = c .before .before .before .before .args in
-    c .find-server .ensures ∙ ap (λ (z : Aid). placeOr (layoutOf (x .c)) (serverOf (layoutOf (x .c)) (decode (layoutOf (x .c)) (now (x .img))) (asked z (x .t .interface) (x .t .method)))) (c .before .bytes-of .ensures)
+    c .find-server .ensures ∙ ap (λ (z : Aid). placeOr (layoutOf (x .c)) (serverOf (layoutOf (x .c)) (decode (layoutOf (x .c)) (now (x .img))) (asked z (x .t .interface) (x .t .method)))) (c .before .aid-bytes .ensures)
 
 pub server-spec : {M : Type 1} → statement M
 server-spec =
     tie.close
     (tie.spec
-    bytes-of-requires
+    aid-bytes-requires
     find-server-requires
     returns)

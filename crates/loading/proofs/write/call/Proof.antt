@@ -18,8 +18,8 @@ same-length c = search one-row
 returns : tie.Need-returns
 returns c = search one-row
 
-bytes-of-requires : tie.Need-bytes-of-requires
-bytes-of-requires c κs = search one-row
+aid-bytes-requires : tie.Need-aid-bytes-requires
+aid-bytes-requires c κs = search one-row
 
 append-unmet-requires : tie.Need-append-unmet-requires
 append-unmet-requires c κs = (search one-row, (c .before .before .before .before .before .before .before .before .before .pre .1 .1 .1 (search one-row), (search one-row, search one-row)))
@@ -39,7 +39,7 @@ call-spec =
     set-bit-requires
     same-length
     returns
-    bytes-of-requires
+    aid-bytes-requires
     append-unmet-requires
     same-length-2
     returns-2)

@@ -1,10 +1,10 @@
--- `loading::decide::bytes_of` meets its contract.
+-- `record::aid_bytes` meets its contract.
 use native.Mathlib.Omega.{arith}
 use borrow.Author.Needs.{needs}
 use native.Mathlib.Nat.{add-sub-cancel-left}
 use mathlib.Core.Path.{refl}
-use Rattle.loading.proofs.decide.bytes_of.Statement.{statement}
-use Rattle.loading.proofs.decide.bytes_of.Tie as tie
+use Rattle.record.proofs.aid_bytes.Statement.{statement}
+use Rattle.record.proofs.aid_bytes.Tie as tie
 
 add-end : tie.Need-add-end
 add-end c = search needs
@@ -21,8 +21,8 @@ part-result-end c = search needs
 returns : tie.Need-returns
 returns c = rw add-sub-cancel-left refl
 
-pub bytes-of-spec : {M : Type 1} → statement M
-bytes-of-spec =
+pub aid-bytes-spec : {M : Type 1} → statement M
+aid-bytes-spec =
     tie.close
     (tie.spec
     add-end
