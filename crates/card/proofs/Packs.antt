@@ -1,0 +1,48 @@
+-- What an outcome's parts give as one number, and where a record's first AID stands. Assumes nothing.
+use Prim.Native.Nat.{ℕ, _≤_, _<_}
+use native.Mathlib.Omega.{arith}
+use mathlib.Core.Path.{_≡_, refl, sym, ap, _∙_, subst}
+use mathlib.Core.List.{List, [], _∷_}
+use mathlib.Core.Option.{Option, none, some}
+use lib.Dec.{T, leb, leb→le}
+use lib.ListN.{length}
+use Rattle.policy.specs.Contract.{Aid, validAid}
+use Rattle.policy.specs.Layout.{Layout}
+use Rattle.policy.specs.Record.{Request, parse, firstAid}
+use Rattle.policy.specs.Judge.{Out}
+use Rattle.policy.specs.Settled.{Gives}
+use Rattle.policy.proofs.Sets.{and-r}
+use Rattle.policy.proofs.ParseFacts.{first-aid-part}
+use Rattle.card.specs.Packed.{joined, packed, aidPlace}
+
+pub packs : {o : Out} {number second r : ℕ} {bytes : List ℕ} → Gives o number second bytes → r ≡ joined number second → (r ≡ packed o) × (bytes ≡ o .bytes)
+packs g e = (e ∙ (λ i. joined (sym (g .answered) i) (sym (g .second-is) i)), sym (g .bytes-are))
+
+-- ---- the place of an AID
+pub placed : (a : Aid) → (length a ≡ 0 → ⊥) → aidPlace a ≡ joined 5 (length a)
+placed [] z = absurd (z refl)
+placed (b ∷ a) z = refl
+
+-- a part of a record that is its first AID
+module _ (L : Layout) (s : List ℕ) {part : List ℕ} (e : part ≡ firstAid L s) where
+  -- it has no more than 16 bytes
+  pub aid-short : length part ≤ 16
+  aid-short = go (parse L s) refl
+    where
+      go : (o : Option Request) → parse L s ≡ o → length part ≤ 16
+      go none p = let h = ap (λ (a : Aid). length a) (e ∙ first-aid-part L s .0 p) in omega arith
+      go (some q) p =
+          let h = first-aid-part L s .1 q p in
+          let a = ap (λ (a : Aid). length a) (e ∙ h .0) in
+          let b = leb→le (length (q .aid)) 16 (and-r (leb 5 (length (q .aid))) (leb (length (q .aid)) 16) (h .2)) in
+          omega arith
+
+  pub no-aid : length part ≡ 0 → 0 ≡ aidPlace (firstAid L s)
+  no-aid z = go part z ∙ ap (λ (a : Aid). aidPlace a) e
+    where
+      go : (a : Aid) → length a ≡ 0 → 0 ≡ aidPlace a
+      go [] z = refl
+      go (b ∷ a) z = absurd (omega arith)
+
+  pub some-aid : {r : ℕ} → (length part ≡ 0 → ⊥) → r ≡ joined 5 (length part) → r ≡ aidPlace (firstAid L s)
+  some-aid z h = h ∙ sym (placed part z) ∙ ap (λ (a : Aid). aidPlace a) e

@@ -1,0 +1,5 @@
+pub mod Writers
+pub mod Placed
+pub mod Turns
+pub mod Rows
+pub mod Records

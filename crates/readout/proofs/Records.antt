@@ -1,0 +1,204 @@
+-- The record of a package: its parts, its length and its bytes; and what the four ways through read_out give. Assumes nothing.
+use Prim.Native.Nat.{ℕ, _+_, _*_, _/_, _%_, _≤_, _<_}
+use native.Mathlib.Omega.{arith}
+use native.Mathlib.Nat.{zero-add}
+use mathlib.Core.Path.{_≡_, refl, sym, ap, ap₂, _∙_, subst}
+use mathlib.Core.Bool.{Bool, true, false, not, _&&_, cond}
+use mathlib.Core.List.{List, [], _∷_, _++_}
+use lib.Dec.{T, eqb, leb, ltb}
+use lib.ListN.{length, take, drop, length-append}
+use borrow.Author.Tests.{ltb-true, le-ltb, lt-ltb, le-leb, lt-leb, not-true, not-false}
+use Rattle.policy.specs.Lists.{flat, upto}
+use Rattle.policy.specs.Contract.{Aid, Row}
+use Rattle.policy.specs.Layout.{Layout}
+use Rattle.policy.specs.Tables.{Tables, bit, rowOf, writeNumber, decode}
+use Rattle.policy.specs.Lookup.{contractAt, wanted, grantAt}
+use Rattle.policy.specs.Sound.{sound}
+use Rattle.policy.specs.Judge.{Out, refusal, aidBytes, rowBytes, loadRecord, readOut}
+use Rattle.policy.specs.Settled.{Gives}
+use Rattle.policy.proofs.Sets.{T-true, true-T, and-l, length-flat-le, length-from, upto-in}
+use Rattle.policy.proofs.Bits.{bit-rowOf, length-number}
+use Rattle.rows.specs.Area.{over}
+use Rattle.geometry.specs.declared.Card.{Card}
+use Rattle.geometry.specs.declared.Card.the-variants.{Small}
+use Rattle.geometry.specs.declared.Table.{Table}
+use Rattle.geometry.specs.declared.Table.the-variants.{Calls, Grants, Needs}
+use Rattle.geometry.specs.Geometry.{layoutOf, aidAt}
+use Rattle.image.specs.Laid.{Room, Laid, tableOf}
+use Rattle.image.specs.Read.{aidIn, noUnmet, unmetRow, noWaiting, waitingRow}
+use Rattle.image.proofs.Laid.{sound-laid}
+use Rattle.engine.proofs.Callers.{in-row}
+use Rattle.readout.specs.Parts.{Put, Short, given, bitRow, bitBytes, columnBytes, tableBytes, tableRows, unmetBytes, waitingBytes, tokBytes, provideBytes, callBytes, grantBytes, needBytes, rowLists, bodyBytes}
+use Rattle.readout.proofs.Writers.{Shorts, three-short, two-put}
+use Rattle.readout.proofs.Placed.{aid-here}
+use Rattle.readout.proofs.Rows.{calls-are, grants-are, needs-are, provides-are}
+
+-- ---- how long the parts are at most
+given-most : (b : Bool) (l : List ℕ) (most : ℕ) → length l ≤ most → length (given b l) ≤ most
+given-most true l most h = h
+given-most false l most h = omega arith
+
+row-most : (r : Row) → length (r .aid) ≤ 16 → length (rowBytes r) ≤ 19
+row-most r h = omega (arith, length-append (r .aid) (r .tok .itf ∷ r .tok .mth ∷ []))
+
+below-most : (f : ℕ → List ℕ) (m most : ℕ) → ((i : ℕ) → i < m → length (f i) ≤ most) → length (flat f (upto m)) ≤ m * most
+below-most f m most h = subst (λ (x : ℕ). length (flat f (upto m)) ≤ x * most) (length-from 0 m) (length-flat-le f most (upto m) (λ i k. h i (upto-in m k)))
+
+module _ (L : Layout) (t : Tables) (room : Room L t) (n : ℕ) where
+  table-most : (tb : Table) → length (tableBytes L t n tb) ≤ L .packages * (L .services * 19)
+  table-most tb = below-most (columnBytes L t n tb) (L .packages) (L .services * 19)
+      (λ j _. below-most (bitBytes L t n tb j) (L .services) 19 (λ k _. given-most (tableOf tb t n j k) (rowBytes (bitRow L t n tb j k)) 19 (row-most (bitRow L t n tb j k) (room .aid-short j))))
+
+  unmet-most : length (flat (unmetBytes L t n) (upto (length (t .unmet)))) ≤ length (t .unmet) * 19
+  unmet-most = below-most (unmetBytes L t n) (length (t .unmet)) 19
+      (λ r l. given-most (eqb (unmetRow t r .caller) n) (rowBytes (wanted (unmetRow t r))) 19 (row-most (wanted (unmetRow t r)) (room .unmet-short (unmetRow t r) (in-row (t .unmet) r noUnmet l))))
+
+  waiting-most : length (flat (waitingBytes L t n) (upto (length (t .waiting)))) ≤ length (t .waiting) * 19
+  waiting-most = below-most (waitingBytes L t n) (length (t .waiting)) 19
+      (λ r l. given-most (eqb (waitingRow t r .callee) n) (rowBytes (grantAt t (waitingRow t r))) 19 (row-most (grantAt t (waitingRow t r)) (room .waiting-short (waitingRow t r) (in-row (t .waiting) r noWaiting l))))
+
+  tok-most : length (flat (tokBytes L t n) (upto (L .services))) ≤ L .services * 2
+  tok-most = below-most (tokBytes L t n) (L .services) 2 (λ k _. given-most (t .provides n k) _ 2 (omega arith))
+
+  -- a count, and at most x and y bytes
+  counted-most : (count : ℕ) (a b whole : List ℕ) → writeNumber (L .countWidth) count [] ++ (a ++ b) ≡ whole → length whole ≡ L .countWidth + (length a + length b)
+  counted-most count a b whole e =
+      let p = length-append (writeNumber (L .countWidth) count []) (a ++ b) in
+      let q = length-append a b in
+      let w = length-number (L .countWidth) count [] in
+      sym (ap length e) ∙ omega arith
+
+  abbrev most : ℕ
+  most = L .packages * (L .services * 19)
+
+  calls-most : length (callBytes L t n) ≤ L .countWidth + (most + L .capacity * 19)
+  calls-most = omega (
+    arith,
+    counted-most (length (contractAt L t n .calls)) (tableBytes L t n Calls) (flat (unmetBytes L t n) (upto (length (t .unmet)))) (callBytes L t n) (calls-are L t n _ refl),
+    table-most Calls,
+    unmet-most,
+    room .unmet-fits,
+  )
+
+  grants-most : length (grantBytes L t n) ≤ L .countWidth + (most + L .capacity * 19)
+  grants-most = omega (
+    arith,
+    counted-most (length (contractAt L t n .grants)) (tableBytes L t n Grants) (flat (waitingBytes L t n) (upto (length (t .waiting)))) (grantBytes L t n) (grants-are L t n _ refl),
+    table-most Grants,
+    waiting-most,
+    room .waiting-fits,
+  )
+
+  needs-most : length (needBytes L t n) ≤ L .countWidth + most
+  needs-most =
+      let p = sym (ap length (needs-are L t n (length (tableRows L t n Needs)) refl)) in
+      let q = length-append (writeNumber (L .countWidth) (length (tableRows L t n Needs)) []) (tableBytes L t n Needs) in
+      omega (arith, length-number (L .countWidth) (length (tableRows L t n Needs)) [], table-most Needs)
+
+  provides-most : length (provideBytes L t n) ≤ 1 + L .services * 2
+  provides-most = let p = sym (ap length (provides-are L t n _ _ refl refl)) in omega (arith, tok-most)
+
+  body-most : length (bodyBytes L t n) ≤ 17 + (1 + L .services * 2) + (L .countWidth + (most + L .capacity * 19)) + (L .countWidth + (most + L .capacity * 19)) + (L .countWidth + most)
+  unfolding contractAt
+  body-most =
+      let a = length-append (aidBytes (t .aid n)) (provideBytes L t n ++ rowLists L t n) in
+      let b = length-append (provideBytes L t n) (rowLists L t n) in
+      let d = length-append (callBytes L t n) (grantBytes L t n ++ needBytes L t n) in
+      let e = length-append (grantBytes L t n) (needBytes L t n) in
+      omega (arith, room .aid-short n, provides-most, calls-most, grants-most, needs-most)
+
+pub body-short : (c : Card) (img : List ℕ) → Laid (layoutOf c) img → (n : ℕ) → Short 4 (bodyBytes (layoutOf c) (decode (layoutOf c) img) n)
+body-short Small img h n = omega (arith, body-most (layoutOf Small) (decode (layoutOf Small) img) (h .room) n)
+
+module _ (c : Card) (img : List ℕ) (n : ℕ) where
+  abbrev L : Layout
+  L = layoutOf c
+
+  abbrev t : Tables
+  t = decode (layoutOf c) img
+
+  -- ---- an installed package's number
+  pub unnumbered : (m : ℕ) → m ≡ layoutOf c .packages → m ≤ n → false ≡ ltb n (layoutOf c .packages) && decode (layoutOf c) img .used n
+  unnumbered m e h = sym (ap (λ (b : Bool). b && t .used n) (le-ltb n (L .packages) (omega arith)))
+
+  pub numbered : (m row : ℕ) (b : Bool) → m ≡ layoutOf c .packages → n < m → row ≡ rowOf (layoutOf c .packages) (decode (layoutOf c) img .used) → b ≡ bit row n
+      → b ≡ ltb n (layoutOf c .packages) && decode (layoutOf c) img .used n
+  numbered m row b e h p d =
+      let l : n < L .packages = omega arith in
+      d ∙ ap (λ (x : ℕ). bit x n) p ∙ bit-rowOf (L .packages) (t .used) n l ∙ sym (ap (λ (x : Bool). x && t .used n) (lt-ltb n (L .packages) l))
+
+  -- ---- the body's parts
+  pub lists-short : (at : ℕ) → Short at (rowLists (layoutOf c) (decode (layoutOf c) img) n)
+      → Shorts at (callBytes (layoutOf c) (decode (layoutOf c) img) n) (grantBytes (layoutOf c) (decode (layoutOf c) img) n) (needBytes (layoutOf c) (decode (layoutOf c) img) n)
+  lists-short at h = three-short at (callBytes L t n) (grantBytes L t n) (needBytes L t n) (rowLists L t n) refl h
+
+  module _ (ok : T (sound (layoutOf c) img)) (p : n < layoutOf c .packages) (from : ℕ) (q : from ≡ aidAt (layoutOf c) n) where
+    pub body-are : aidBytes (aidIn img from) ++ (provideBytes (layoutOf c) (decode (layoutOf c) img) n ++ rowLists (layoutOf c) (decode (layoutOf c) img) n)
+        ≡ bodyBytes (layoutOf c) (decode (layoutOf c) img) n
+    unfolding contractAt
+    body-are = ap (λ (a : Aid). aidBytes a ++ (provideBytes L t n ++ rowLists L t n)) (aid-here c img (sound-laid L ok) n from p q)
+
+    pub parts-short : (at : ℕ) → Short at (bodyBytes (layoutOf c) (decode (layoutOf c) img) n)
+        → Shorts at (aidBytes (aidIn img from)) (provideBytes (layoutOf c) (decode (layoutOf c) img) n) (rowLists (layoutOf c) (decode (layoutOf c) img) n)
+    parts-short at h = three-short at (aidBytes (aidIn img from)) (provideBytes L t n) (rowLists L t n) (bodyBytes L t n) body-are h
+
+  -- ---- the whole record
+  abbrev whole : List ℕ
+  whole = loadRecord L (contractAt L t n)
+
+  record-length : length whole ≡ 4 + length (bodyBytes L t n)
+  unfolding loadRecord
+  record-length = omega arith
+
+  pub measured : T (sound (layoutOf c) img) → (r : ℕ) → r ≡ 4 + length (bodyBytes (layoutOf c) (decode (layoutOf c) img) n)
+      → (r ≡ length (loadRecord (layoutOf c) (contractAt (layoutOf c) (decode (layoutOf c) img) n))) × (r < 65536)
+  measured ok r e = (e ∙ sym record-length, omega (arith, body-short c img (sound-laid L ok) n))
+
+  module _ (len v : ℕ) (el : len ≡ length (loadRecord (layoutOf c) (contractAt (layoutOf c) (decode (layoutOf c) img) n))) (ev : v ≡ layoutOf c .version) where
+    abbrev front : List ℕ
+    front = (len / 256 % 256) ∷ (len % 256) ∷ v ∷ 1 ∷ []
+
+    is-whole : front ++ bodyBytes L t n ≡ whole
+    unfolding loadRecord
+    is-whole = ap₂ (λ (x y : ℕ). (x / 256 % 256) ∷ (x % 256) ∷ y ∷ 1 ∷ bodyBytes L t n) (el ∙ record-length) ev
+
+    pub written : (m r : ℕ) (old mid new : List ℕ) → len ≤ length old → Put 0 ((len / 256 % 256) ∷ (len % 256) ∷ v ∷ 1 ∷ []) old m mid
+        → Put m (bodyBytes (layoutOf c) (decode (layoutOf c) img) n) mid r new → length mid ≡ length old
+        → new ≡ loadRecord (layoutOf c) (contractAt (layoutOf c) (decode (layoutOf c) img) n) ++ drop len old
+    written m r old mid new h u w same =
+        two-put 0 front (bodyBytes L t n) whole is-whole m r old mid new u w same .leaves (omega arith)
+        ∙ ap (λ (x : ℕ). whole ++ drop x old) (zero-add (length whole) ∙ sym el)
+
+  -- ---- the answers
+  module _ (old : List ℕ) where
+    abbrev outcome : Bool → Bool → Bool → Out
+    outcome s u f =
+        cond s (cond u (cond f (record { answered = 0; second = length whole; bytes = whole ++ drop (length whole) old }) (refusal 12 0 old)) (refusal 5 0 old)) (refusal 1 0 old)
+
+    gives : (s u f : Bool) (a b : ℕ) (new : List ℕ) → sound L img ≡ s → ltb n (L .packages) && t .used n ≡ u → leb (length whole) (length old) ≡ f
+        → Gives (outcome s u f) a b new → Gives (readOut L img n old) a b new
+    unfolding readOut
+    gives s u f a b new p q r h = subst (λ (o : Out). Gives o a b new) (λ i. outcome (sym p i) (sym q i) (sym r i)) h
+
+    module _ (s : Bool) (es : s ≡ sound (layoutOf c) img) where
+      pub gives-unsound : not s ≡ true → Gives (readOut (layoutOf c) img n old) 1 0 old
+      gives-unsound g = gives _ _ _ 1 0 old (sym es ∙ not-true s g) refl refl (record { answered = refl; second-is = refl; bytes-are = refl })
+
+      pub is-sound : not s ≡ false → T (sound (layoutOf c) img)
+      is-sound g = true-T (sym es ∙ not-false s g)
+
+      module _ (u : Bool) (eu : u ≡ ltb n (layoutOf c .packages) && decode (layoutOf c) img .used n) (gs : not s ≡ false) where
+        pub gives-absent : not u ≡ true → Gives (readOut (layoutOf c) img n old) 5 0 old
+        gives-absent g = gives _ _ _ 5 0 old (sym es ∙ not-false s gs) (sym eu ∙ not-true u g) refl (record { answered = refl; second-is = refl; bytes-are = refl })
+
+        pub is-inside : not u ≡ false → n < layoutOf c .packages
+        is-inside g = ltb-true n (L .packages) (T-true (ltb n (L .packages)) (and-l (ltb n (L .packages)) (t .used n) (true-T (sym eu ∙ not-false u g))))
+
+        module _ (gu : not u ≡ false) (len : ℕ) (el : len ≡ length (loadRecord (layoutOf c) (contractAt (layoutOf c) (decode (layoutOf c) img) n))) where
+          pub gives-no-room : length old < len → Gives (readOut (layoutOf c) img n old) 12 0 old
+          gives-no-room h = gives _ _ _ 12 0 old (sym es ∙ not-false s gs) (sym eu ∙ not-false u gu) (lt-leb (length whole) (length old) (omega arith)) (record { answered = refl; second-is = refl; bytes-are = refl })
+
+          pub gives-record : len ≤ length old → (new : List ℕ) → new ≡ loadRecord (layoutOf c) (contractAt (layoutOf c) (decode (layoutOf c) img) n) ++ drop len old → Gives (readOut (layoutOf c) img n old) 0 len new
+          gives-record h new e =
+              gives _ _ _ 0 len new (sym es ∙ not-false s gs) (sym eu ∙ not-false u gu) (le-leb (length whole) (length old) (omega arith))
+              (record { answered = refl; second-is = sym el; bytes-are = ap (λ (x : ℕ). whole ++ drop x old) (sym el) ∙ sym e })

@@ -1,0 +1,3 @@
+mod Answered
+mod Reading
+mod Reached
