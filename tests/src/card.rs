@@ -80,23 +80,23 @@ impl Card for Engine {
     }
 
     fn check(&self, image: &[u8]) -> Verdict {
-        crate::engine::check(image)
+        crate::engine::exact::check(image)
     }
 
     fn empty(&self, image: &mut [u8]) -> Verdict {
-        crate::engine::empty(image)
+        crate::engine::exact::empty(image)
     }
 
     fn judge(&self, image: &mut [u8], record: &[u8]) -> Verdict {
-        crate::engine::judge(image, record)
+        crate::engine::exact::judge(image, record)
     }
 
     fn read_out(&self, image: &[u8], number: u32, out: &mut [u8]) -> Verdict {
-        crate::engine::read_out(image, number, out)
+        crate::engine::exact::read_out(image, number, out)
     }
 
     fn aid<'a>(&self, record: &'a [u8]) -> &'a [u8] {
-        crate::engine::aid(record)
+        crate::engine::exact::aid(record)
     }
 }
 

@@ -8,6 +8,7 @@ pub mod machine;
 pub mod card;
 #[cfg(feature = "engine")]
 pub mod engine;
+pub mod refusal;
 
 // The comparison.
 pub mod compare;
