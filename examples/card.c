@@ -1,0 +1,76 @@
+/* A host in C: makes an empty card, judges three records and reads a contract out.
+ * examples/run builds it, runs it and compares what it prints with examples/card.out. */
+
+#include <stddef.h>
+#include <stdint.h>
+#include <stdio.h>
+
+#include "card.h"
+
+enum { IMAGE_BYTES = 1094, LONGEST_RECORD_BYTES = 4145 };
+
+/* The package F000000001 provides the service 0.0 and grants it to F000000002. */
+static const uint8_t handicap_log[] = {
+    0, 24, 1, 1, 5, 0xF0, 0, 0, 0, 1, 1, 0, 0, 0, 1, 5, 0xF0, 0, 0, 0, 2, 0, 0, 0};
+
+/* F000000003 calls the service, which is not granted to it. */
+static const uint8_t bar_purse[] = {
+    0, 22, 1, 1, 5, 0xF0, 0, 0, 0, 3, 0, 1, 5, 0xF0, 0, 0, 0, 1, 0, 0, 0, 0};
+
+/* F000000002 calls the service and needs it. */
+static const uint8_t organiser[] = {
+    0, 30, 1, 1, 5, 0xF0, 0, 0, 0, 2, 0, 1, 5, 0xF0, 0, 0, 0, 1, 0, 0,
+    0, 1, 5, 0xF0, 0, 0, 0, 1, 0, 0};
+
+/* A result is the answer times 65,536 plus the second number. */
+static uint32_t answer_of(uint32_t result) { return result >> 16; }
+static uint32_t second_of(uint32_t result) { return result & 0xFFFF; }
+
+static void print_bytes(const uint8_t *bytes, uint32_t count) {
+    for (uint32_t at = 0; at < count; at++) {
+        printf("%s%02X", at == 0 ? "" : " ", bytes[at]);
+    }
+    printf("\n");
+}
+
+/* Judges a record and prints what the card says. */
+static void judge(uint8_t *image, const uint8_t *record, size_t length) {
+    uint32_t aid = card_aid(record, length);
+    uint32_t result = card_judge(image, IMAGE_BYTES, record, length);
+    if (answer_of(result) == 0) {
+        printf("accepted, package %u, AID ", (unsigned)second_of(result));
+    } else {
+        printf("refused, cause %u, AID ", (unsigned)answer_of(result));
+    }
+    /* The AID's place in the record, and its length. */
+    print_bytes(record + answer_of(aid), second_of(aid));
+}
+
+int main(void) {
+    static uint8_t image[IMAGE_BYTES];
+    static uint8_t contract[LONGEST_RECORD_BYTES];
+
+    if (answer_of(card_empty(image, sizeof image)) != 0) {
+        fprintf(stderr, "no empty image is written\n");
+        return 1;
+    }
+    judge(image, handicap_log, sizeof handicap_log);
+    judge(image, bar_purse, sizeof bar_purse);
+    judge(image, organiser, sizeof organiser);
+
+    uint32_t checked = card_check(image, sizeof image);
+    if (answer_of(checked) != 0) {
+        fprintf(stderr, "the image is not sound\n");
+        return 1;
+    }
+    printf("packages on the card: %u\n", (unsigned)second_of(checked));
+
+    uint32_t read = card_read_out(image, sizeof image, 1, contract, sizeof contract);
+    if (answer_of(read) != 0) {
+        fprintf(stderr, "package 1 is not read out: %u\n", (unsigned)answer_of(read));
+        return 1;
+    }
+    printf("contract of package 1: ");
+    print_bytes(contract, second_of(read));
+    return 0;
+}
