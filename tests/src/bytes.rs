@@ -1,7 +1,7 @@
 //! The byte engine: judges records on an image of 1,094 bytes, in place, by the placing rules.
 //! It shares no code with `machine`. Every entry gives the answer and the second number.
 
-mod layout;
+pub mod layout;
 mod lists;
 mod package;
 mod read_out;

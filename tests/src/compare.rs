@@ -156,7 +156,7 @@ impl<'a> Compare<'a> {
         expect!(verdict.answer == 0 && length <= size, "{}", place());
         expect!(buffer[length..] == FILL[length..size], "{} and writes past the record", place());
         buffer.truncate(length);
-        let Some(read) = record::read(&buffer) else {
+        let Ok(read) = record::read(&buffer) else {
             return Err(format!("{} and a malformed record {}", place(), to_hex(&buffer)));
         };
         let Change::Load(lists) = &read.change else {
@@ -173,8 +173,8 @@ impl<'a> Compare<'a> {
         for card in self.cards {
             let part = card.aid(bytes);
             let same = match &read {
-                Some(read) => part == read.aid.bytes() && std::ptr::eq(part.as_ptr(), &bytes[5]),
-                None => part.is_empty(),
+                Ok(read) => part == read.aid.bytes() && std::ptr::eq(part.as_ptr(), &bytes[5]),
+                Err(_) => part.is_empty(),
             };
             expect!(same, "{}: the AID's part of the record is {}", card.name(), to_hex(part));
         }
@@ -254,7 +254,7 @@ fn judge_alike(
     }
     let verdict = first.ok_or("no engine")?;
     if answer == 0 {
-        let named = record::read(bytes).map(|record| record.aid);
+        let named = record::read(bytes).ok().map(|record| record.aid);
         let numbered = if kind == Kind::Known(2) { &before } else { &*image };
         expect!(tables::aid_at(numbered, verdict.second) == named, "{verdict:?} has not the package's number");
     } else {

@@ -160,8 +160,8 @@ fn left_over_read(image: &mut [u8], record: &[u8]) -> Verdict {
 /// Looks at the record before the image.
 fn judges_unsound(image: &mut [u8], record: &[u8]) -> Verdict {
     match crate::machine::record::read(record) {
-        None => Verdict::new(2, 255),
-        Some(_) => Bytes.judge(image, record),
+        Err(_) => Verdict::new(2, 255),
+        Ok(_) => Bytes.judge(image, record),
     }
 }
 

@@ -26,6 +26,9 @@ pub mod cases;
 // What is timed.
 pub mod full_card;
 
+// Records and images as text, for hosts and testers.
+pub mod host;
+
 pub mod hex;
 pub mod random;
 pub mod write;

@@ -24,8 +24,8 @@ impl Machine {
     /// Judges a record and keeps its change if it is accepted. The answer is the first cause that
     /// applies, or 0.
     pub fn judge(&mut self, bytes: &[u8]) -> u32 {
-        let Some(record) = record::read(bytes) else { return 2 };
-        if record::contradicts(&record) {
+        let Ok(record) = record::read(bytes) else { return 2 };
+        if record::contradiction(&record).is_some() {
             return 3;
         }
         if let Some(cause) = self.cause_before(&record) {

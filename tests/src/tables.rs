@@ -5,46 +5,47 @@
 
 use crate::machine::{Aid, Contract, Machine, Row, Tokens};
 
-struct Tables {
-    packages: [Option<Package>; 8],
-    /// The bits set, in the order of `places`.
-    calls: Vec<Bit>,
-    grants: Vec<Bit>,
-    needs: Vec<Bit>,
-    unmet: Vec<Unmet>,
-    waiting: Vec<Waiting>,
+/// What an image's tables say.
+pub struct Tables {
+    pub packages: [Option<Package>; 8],
+    /// The bits set, by callee, caller and service.
+    pub calls: Vec<Bit>,
+    pub grants: Vec<Bit>,
+    pub needs: Vec<Bit>,
+    pub unmet: Vec<Unmet>,
+    pub waiting: Vec<Waiting>,
 }
 
-struct Package {
-    aid: Aid,
-    services: [Option<Tokens>; 8],
+pub struct Package {
+    pub aid: Aid,
+    pub services: [Option<Tokens>; 8],
 }
 
+/// A service that one package calls, is granted or needs of another.
 #[derive(Clone, Copy, PartialEq, Eq, PartialOrd, Ord)]
-struct Bit {
-    callee: usize,
-    caller: usize,
-    service: usize,
+pub struct Bit {
+    pub callee: usize,
+    pub caller: usize,
+    pub service: usize,
 }
 
 #[derive(PartialEq, Eq, PartialOrd, Ord)]
-struct Unmet {
-    callee: Aid,
-    tokens: Tokens,
-    caller: usize,
+pub struct Unmet {
+    pub callee: Aid,
+    pub tokens: Tokens,
+    pub caller: usize,
 }
 
 #[derive(PartialEq, Eq, PartialOrd, Ord)]
-struct Waiting {
-    caller: Aid,
-    callee: usize,
-    service: usize,
+pub struct Waiting {
+    pub caller: Aid,
+    pub callee: usize,
+    pub service: usize,
 }
 
 /// The contracts that an image stands for; `None` when it is not sound.
 pub fn contracts(image: &[u8]) -> Option<Machine> {
-    let tables = Tables::read(image)?;
-    (tables.write() == image && tables.hold()).then(|| tables.machine())
+    Tables::of(image).map(|tables| tables.machine())
 }
 
 /// The AID at a package number of a sound image; `None` when the number is not used.
@@ -54,6 +55,11 @@ pub fn aid_at(image: &[u8], number: u32) -> Option<Aid> {
 }
 
 impl Tables {
+    /// The tables of a sound image.
+    pub fn of(image: &[u8]) -> Option<Tables> {
+        Tables::read(image).filter(|tables| tables.write() == image && tables.hold())
+    }
+
     fn read(image: &[u8]) -> Option<Tables> {
         if image.len() != 1094 {
             return None;
@@ -95,7 +101,8 @@ impl Tables {
         Some(Tables { packages, calls, grants, needs, unmet, waiting })
     }
 
-    fn write(&self) -> Vec<u8> {
+    /// The image with these tables.
+    pub fn write(&self) -> Vec<u8> {
         let mut image = vec![0; 1094];
         image[..3].copy_from_slice(&[0x04, 0x46, 0x01]);
         for (number, package) in self.packages.iter().enumerate() {
@@ -188,7 +195,7 @@ impl Tables {
     }
 
     /// The row with the AID of package `other` and the tokens of a service of package `provider`.
-    fn row(&self, other: usize, provider: usize, service: usize) -> Row {
+    pub fn row(&self, other: usize, provider: usize, service: usize) -> Row {
         let package = |n: usize| self.packages[n].as_ref().unwrap();
         Row { other: package(other).aid, tokens: package(provider).services[service].unwrap() }
     }

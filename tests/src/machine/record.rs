@@ -2,8 +2,13 @@
 
 use super::contract::{Aid, Contract, Row, Tokens};
 use std::collections::BTreeSet;
+use std::fmt;
 
 const VERSION: u8 = 1;
+/// The most rows of each list.
+pub const MOST_PROVIDES: u8 = 8;
+pub const MOST_ROWS: u8 = 72;
+pub const MOST_CALLERS: u8 = 32;
 
 #[derive(Clone, Debug, PartialEq, Eq)]
 pub struct Record {
@@ -45,99 +50,204 @@ impl Lists {
     }
 }
 
-/// Reads a record. `None` is cause 2: a wrong length, version, kind, count or AID length, or bytes
-/// missing or left over.
-pub fn read(bytes: &[u8]) -> Option<Record> {
-    let mut rest = Rest(bytes);
-    let length = usize::from(rest.byte()?) * 256 + usize::from(rest.byte()?);
-    if length != bytes.len() || rest.byte()? != VERSION {
-        return None;
+/// Where and why a record is malformed: cause 2.
+#[derive(Clone, Copy, Debug, PartialEq, Eq)]
+pub struct Malformed {
+    /// The byte of the record.
+    pub at: usize,
+    pub why: Why,
+}
+
+#[derive(Clone, Copy, Debug, PartialEq, Eq)]
+pub enum Why {
+    /// The length field is not the count of bytes.
+    Length {
+        written: usize,
+        bytes: usize,
+    },
+    Version(u8),
+    Kind(u8),
+    Count {
+        written: u8,
+        most: u8,
+    },
+    AidLength(u8),
+    /// The record ends before its parts do.
+    Missing,
+    /// So many bytes after the last part.
+    LeftOver(usize),
+}
+
+/// Reads a record, or says where it is malformed.
+pub fn read(bytes: &[u8]) -> Result<Record, Malformed> {
+    let mut rest = Rest { bytes, at: 0 };
+    let written = usize::from(rest.byte()?) * 256 + usize::from(rest.byte()?);
+    if written != bytes.len() {
+        return Err(Malformed { at: 0, why: Why::Length { written, bytes: bytes.len() } });
+    }
+    let version = rest.byte()?;
+    if version != VERSION {
+        return Err(Malformed { at: 2, why: Why::Version(version) });
     }
     let kind = rest.byte()?;
+    if !(1..=10).contains(&kind) {
+        return Err(Malformed { at: 3, why: Why::Kind(kind) });
+    }
     let aid = rest.aid()?;
     let change = match kind {
         1 => Change::Load(Lists {
-            provides: rest.list(8, Rest::tokens)?,
-            calls: rest.list(72, Rest::row)?,
-            grants: rest.list(72, Rest::row)?,
-            needs: rest.list(72, Rest::row)?,
+            provides: rest.list(MOST_PROVIDES, Rest::tokens)?,
+            calls: rest.list(MOST_ROWS, Rest::row)?,
+            grants: rest.list(MOST_ROWS, Rest::row)?,
+            needs: rest.list(MOST_ROWS, Rest::row)?,
         }),
         2 => Change::Remove,
-        3 => Change::AddService(rest.tokens()?, rest.list(32, Rest::aid)?),
+        3 => Change::AddService(rest.tokens()?, rest.list(MOST_CALLERS, Rest::aid)?),
         4 => Change::RemoveService(rest.tokens()?),
         5 => Change::AddCall(rest.row()?),
         6 => Change::RemoveCall(rest.row()?),
         7 => Change::AddGrant(rest.row()?),
         8 => Change::RemoveGrant(rest.row()?),
         9 => Change::AddNeed(rest.row()?),
-        10 => Change::RemoveNeed(rest.row()?),
-        _ => return None,
+        _ => Change::RemoveNeed(rest.row()?),
     };
-    rest.0.is_empty().then_some(Record { aid, change })
+    match bytes.len() - rest.at {
+        0 => Ok(Record { aid, change }),
+        left => Err(Malformed { at: rest.at, why: Why::LeftOver(left) }),
+    }
 }
 
-/// Cause 3: the record contradicts itself or names its own AID as the other end.
-pub fn contradicts(record: &Record) -> bool {
+/// A part of a record, with its place in its list from 0 on.
+#[derive(Clone, Copy, Debug, PartialEq, Eq, PartialOrd, Ord)]
+pub enum Part {
+    Provides(usize),
+    Calls(usize),
+    Grants(usize),
+    Needs(usize),
+    /// The callers of kind 3.
+    Callers(usize),
+    /// The row of kinds 5 to 10.
+    Row(usize),
+}
+
+/// Why a part contradicts its record.
+#[derive(Clone, Copy, Debug, PartialEq, Eq)]
+pub enum Clash {
+    Repeated,
+    OwnAid,
+    NotCalled,
+    NotProvided,
+}
+
+/// Cause 3: a part of the record that contradicts the rest, or names its own AID as the other end.
+pub fn contradiction(record: &Record) -> Option<(Part, Clash)> {
     let own = |other: &Aid| *other == record.aid;
+    let own_row = |row: &Row| own(&row.other);
     match &record.change {
-        Change::Load(lists) => {
-            let all_rows = || lists.calls.iter().chain(&lists.grants).chain(&lists.needs);
-            repeats(&lists.provides)
-                || repeats(&lists.calls)
-                || repeats(&lists.grants)
-                || repeats(&lists.needs)
-                || all_rows().any(|row| own(&row.other))
-                || lists.needs.iter().any(|need| !lists.calls.contains(need))
-                || lists.grants.iter().any(|grant| !lists.provides.contains(&grant.tokens))
-        }
-        Change::AddService(_, callers) => repeats(callers) || callers.iter().any(own),
-        Change::Remove | Change::RemoveService(_) => false,
+        Change::Load(Lists { provides, calls, grants, needs }) => None
+            .or(found(Part::Provides, Clash::Repeated, repeated(provides)))
+            .or(found(Part::Calls, Clash::Repeated, repeated(calls)))
+            .or(found(Part::Grants, Clash::Repeated, repeated(grants)))
+            .or(found(Part::Needs, Clash::Repeated, repeated(needs)))
+            .or(found(Part::Calls, Clash::OwnAid, calls.iter().position(own_row)))
+            .or(found(Part::Grants, Clash::OwnAid, grants.iter().position(own_row)))
+            .or(found(Part::Needs, Clash::OwnAid, needs.iter().position(own_row)))
+            .or(found(Part::Needs, Clash::NotCalled, needs.iter().position(|need| !calls.contains(need))))
+            .or(found(Part::Grants, Clash::NotProvided, grants.iter().position(|row| !provides.contains(&row.tokens)))),
+        Change::AddService(_, callers) => found(Part::Callers, Clash::Repeated, repeated(callers)).or(found(
+            Part::Callers,
+            Clash::OwnAid,
+            callers.iter().position(own),
+        )),
+        Change::Remove | Change::RemoveService(_) => None,
         Change::AddCall(row)
         | Change::RemoveCall(row)
         | Change::AddGrant(row)
         | Change::RemoveGrant(row)
         | Change::AddNeed(row)
-        | Change::RemoveNeed(row) => own(&row.other),
+        | Change::RemoveNeed(row) => own_row(row).then_some((Part::Row(0), Clash::OwnAid)),
     }
 }
 
-fn repeats<T: Ord>(list: &[T]) -> bool {
-    list.iter().collect::<BTreeSet<_>>().len() != list.len()
+fn found(part: fn(usize) -> Part, clash: Clash, at: Option<usize>) -> Option<(Part, Clash)> {
+    at.map(|at| (part(at), clash))
 }
 
-/// The bytes not read yet.
-struct Rest<'a>(&'a [u8]);
+/// The place of the first item that stands earlier in the list too.
+fn repeated<T: Ord>(list: &[T]) -> Option<usize> {
+    let mut seen = BTreeSet::new();
+    list.iter().position(|item| !seen.insert(item))
+}
 
-impl Rest<'_> {
-    fn byte(&mut self) -> Option<u8> {
-        let (first, rest) = self.0.split_first()?;
-        self.0 = rest;
-        Some(*first)
+/// The record, and the place of the first byte not read yet.
+struct Rest<'a> {
+    bytes: &'a [u8],
+    at: usize,
+}
+
+impl<'a> Rest<'a> {
+    fn take(&mut self, count: usize) -> Result<&'a [u8], Malformed> {
+        let missing = Malformed { at: self.bytes.len(), why: Why::Missing };
+        let taken = self.bytes[self.at..].get(..count).ok_or(missing)?;
+        self.at += count;
+        Ok(taken)
     }
 
-    fn aid(&mut self) -> Option<Aid> {
+    fn byte(&mut self) -> Result<u8, Malformed> {
+        self.take(1).map(|byte| byte[0])
+    }
+
+    fn aid(&mut self) -> Result<Aid, Malformed> {
+        let at = self.at;
         let length = self.byte()?;
         if !(5..=16).contains(&length) {
-            return None;
+            return Err(Malformed { at, why: Why::AidLength(length) });
         }
-        let (bytes, rest) = self.0.split_at_checked(length.into())?;
-        self.0 = rest;
-        Some(Aid::new(bytes))
+        self.take(length.into()).map(Aid::new)
     }
 
-    fn tokens(&mut self) -> Option<Tokens> {
-        Some(Tokens { interface: self.byte()?, method: self.byte()? })
+    fn tokens(&mut self) -> Result<Tokens, Malformed> {
+        Ok(Tokens { interface: self.byte()?, method: self.byte()? })
     }
 
-    fn row(&mut self) -> Option<Row> {
-        Some(Row { other: self.aid()?, tokens: self.tokens()? })
+    fn row(&mut self) -> Result<Row, Malformed> {
+        Ok(Row { other: self.aid()?, tokens: self.tokens()? })
     }
 
-    fn list<T>(&mut self, most: u8, row: impl Fn(&mut Self) -> Option<T>) -> Option<Vec<T>> {
-        let count = self.byte()?;
-        if count > most {
-            return None;
+    fn list<T>(&mut self, most: u8, row: impl Fn(&mut Self) -> Result<T, Malformed>) -> Result<Vec<T>, Malformed> {
+        let at = self.at;
+        let written = self.byte()?;
+        if written > most {
+            return Err(Malformed { at, why: Why::Count { written, most } });
         }
-        (0..count).map(|_| row(self)).collect()
+        (0..written).map(|_| row(self)).collect()
+    }
+}
+
+impl fmt::Display for Why {
+    fn fmt(&self, f: &mut fmt::Formatter) -> fmt::Result {
+        match self {
+            Why::Length { written, bytes } => {
+                write!(f, "the length field says {written}, the record has {bytes} bytes")
+            }
+            Why::Version(version) => write!(f, "the version is {version}, not {VERSION}"),
+            Why::Kind(kind) => write!(f, "the kind is {kind}, not 1 to 10"),
+            Why::Count { written, most } => write!(f, "the count is {written}, at most {most} may stand here"),
+            Why::AidLength(length) => write!(f, "the AID's length is {length}, not 5 to 16"),
+            Why::Missing => write!(f, "the record ends here, and bytes are missing"),
+            Why::LeftOver(1) => write!(f, "1 byte is left over"),
+            Why::LeftOver(left) => write!(f, "{left} bytes are left over"),
+        }
+    }
+}
+
+impl fmt::Display for Clash {
+    fn fmt(&self, f: &mut fmt::Formatter) -> fmt::Result {
+        f.write_str(match self {
+            Clash::Repeated => "this stands in its list already",
+            Clash::OwnAid => "a package does not name its own AID here",
+            Clash::NotCalled => "what is needed is not among the calls",
+            Clash::NotProvided => "what is granted is not among the services provided",
+        })
     }
 }

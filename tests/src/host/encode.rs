@@ -1,0 +1,36 @@
+//! The bytes of a record.
+
+use crate::machine::record::{Change, Lists, Record};
+use crate::machine::{Row, Tokens};
+use crate::write;
+
+pub fn bytes(record: &Record) -> Vec<u8> {
+    let own = record.aid.bytes();
+    let update = |kind: u8, row: &Row| write::update(kind, own, row.other.bytes(), pair(&row.tokens));
+    match &record.change {
+        Change::Load(Lists { provides, calls, grants, needs }) => {
+            let provides: Vec<write::Tokens> = provides.iter().map(pair).collect();
+            write::load(own, &provides, &rows(calls), &rows(grants), &rows(needs))
+        }
+        Change::Remove => write::remove(own),
+        Change::AddService(tokens, callers) => {
+            let callers: Vec<Vec<u8>> = callers.iter().map(|caller| caller.bytes().to_vec()).collect();
+            write::add_service(own, pair(tokens), &callers)
+        }
+        Change::RemoveService(tokens) => write::remove_service(own, pair(tokens)),
+        Change::AddCall(row) => update(5, row),
+        Change::RemoveCall(row) => update(6, row),
+        Change::AddGrant(row) => update(7, row),
+        Change::RemoveGrant(row) => update(8, row),
+        Change::AddNeed(row) => update(9, row),
+        Change::RemoveNeed(row) => update(10, row),
+    }
+}
+
+fn pair(tokens: &Tokens) -> write::Tokens {
+    (tokens.interface, tokens.method)
+}
+
+fn rows(rows: &[Row]) -> Vec<write::Row> {
+    rows.iter().map(|row| (row.other.bytes().to_vec(), pair(&row.tokens))).collect()
+}

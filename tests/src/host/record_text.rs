@@ -1,0 +1,215 @@
+//! Records as text, a line for each row. The repository's README describes the form.
+
+use super::fault::{Fault, Place};
+use super::names::{tokens, tokens_word, Names};
+use super::words::{lines, Line, Word};
+use crate::machine::record::{contradiction, Change, Lists, Part, Record, MOST_CALLERS, MOST_PROVIDES, MOST_ROWS};
+use crate::machine::{Aid, Row, Tokens};
+use std::collections::BTreeMap;
+
+/// A record of a text, and where its parts stand.
+#[derive(Clone, Debug, PartialEq, Eq)]
+pub struct Placed {
+    pub record: Record,
+    pub place: Place,
+    parts: BTreeMap<Part, Place>,
+}
+
+impl Placed {
+    /// A fault where the record contradicts itself: a card answers 3 to it.
+    pub fn consistent(&self) -> Result<(), Fault> {
+        match contradiction(&self.record) {
+            None => Ok(()),
+            Some((part, clash)) => {
+                let place = self.parts.get(&part).copied().unwrap_or(self.place);
+                Err(Fault::text(place, format!("{clash} (a card answers 3)")))
+            }
+        }
+    }
+}
+
+/// What a text says: records in order, and names for AIDs.
+#[derive(Clone, Debug, Default, PartialEq, Eq)]
+pub struct Text {
+    pub records: Vec<Placed>,
+    pub names: Names,
+}
+
+/// Reads a text. Records that contradict themselves are read too.
+pub fn read(text: &str) -> Result<Text, Fault> {
+    let mut read = Text::default();
+    for mut line in lines(text) {
+        read.line(&mut line)?;
+        line.finish()?;
+    }
+    Ok(read)
+}
+
+/// A row as it stands after its verb.
+pub enum Said {
+    Provides(Tokens),
+    Calls(Row),
+    Grants(Row),
+    Needs(Row),
+}
+
+/// Reads what follows a row's verb; `None` when the word is no such verb.
+pub fn said(verb: Word, line: &mut Line, names: &Names) -> Result<Option<Said>, Fault> {
+    let other = |line: &mut Line, what: &str| names.aid(line.next(what)?);
+    let service = |line: &mut Line| tokens(line.next("a service, as 0.1,")?);
+    Ok(Some(match verb.text {
+        "provides" => Said::Provides(service(line)?),
+        "calls" => Said::Calls(Row { other: other(line, "the callee's AID")?, tokens: service(line)? }),
+        "needs" => Said::Needs(Row { other: other(line, "the callee's AID")?, tokens: service(line)? }),
+        "grants" => {
+            let tokens = service(line)?;
+            line.expect("to")?;
+            Said::Grants(Row { other: other(line, "the caller's AID")?, tokens })
+        }
+        _ => return Ok(None),
+    }))
+}
+
+impl Text {
+    fn line(&mut self, line: &mut Line) -> Result<(), Fault> {
+        let first = line.next("a word")?;
+        match first.text {
+            "name" => {
+                let name = line.next("a name")?;
+                let aid = self.names.aid(line.next("an AID")?)?;
+                self.names.give(name, aid)
+            }
+            "load" => {
+                let lists = Lists { provides: vec![], calls: vec![], grants: vec![], needs: vec![] };
+                self.begin(first.place, line, |_, _| Ok(Change::Load(lists)))
+            }
+            "unload" => self.begin(first.place, line, |_, _| Ok(Change::Remove)),
+            "add" => self.begin(first.place, line, |names, line| {
+                Ok(match one_row(names, line)? {
+                    Said::Provides(tokens) => Change::AddService(tokens, Vec::new()),
+                    Said::Calls(row) => Change::AddCall(row),
+                    Said::Grants(row) => Change::AddGrant(row),
+                    Said::Needs(row) => Change::AddNeed(row),
+                })
+            }),
+            "remove" => self.begin(first.place, line, |names, line| {
+                Ok(match one_row(names, line)? {
+                    Said::Provides(tokens) => Change::RemoveService(tokens),
+                    Said::Calls(row) => Change::RemoveCall(row),
+                    Said::Grants(row) => Change::RemoveGrant(row),
+                    Said::Needs(row) => Change::RemoveNeed(row),
+                })
+            }),
+            "to" => self.caller(first, line),
+            _ => match said(first, line, &self.names)? {
+                Some(row) => self.load_row(first, row),
+                None => Err(first.fault(format!(
+                    "'{}' begins no line: there are load, unload, add, remove and name, \
+                     the rows provides, calls, grants and needs, and to",
+                    first.text
+                ))),
+            },
+        }
+    }
+
+    /// Begins a record with its AID.
+    fn begin(
+        &mut self,
+        place: Place,
+        line: &mut Line,
+        change: impl FnOnce(&Names, &mut Line) -> Result<Change, Fault>,
+    ) -> Result<(), Fault> {
+        let aid = self.names.aid(line.next("the package's AID")?)?;
+        let change = change(&self.names, line)?;
+        let parts = BTreeMap::from([(Part::Row(0), place)]);
+        self.records.push(Placed { record: Record { aid, change }, place, parts });
+        Ok(())
+    }
+
+    /// A row of the load above.
+    fn load_row(&mut self, verb: Word, row: Said) -> Result<(), Fault> {
+        let Some(Placed { record: Record { change: Change::Load(lists), .. }, parts, .. }) = self.records.last_mut()
+        else {
+            return Err(verb.fault(format!("'{}' is a row of a load, and no load stands above it", verb.text)));
+        };
+        let part = match row {
+            Said::Provides(tokens) => Part::Provides(put(&mut lists.provides, tokens, MOST_PROVIDES, verb)?),
+            Said::Calls(row) => Part::Calls(put(&mut lists.calls, row, MOST_ROWS, verb)?),
+            Said::Grants(row) => Part::Grants(put(&mut lists.grants, row, MOST_ROWS, verb)?),
+            Said::Needs(row) => Part::Needs(put(&mut lists.needs, row, MOST_ROWS, verb)?),
+        };
+        parts.insert(part, verb.place);
+        Ok(())
+    }
+
+    /// A caller of the service that is added above.
+    fn caller(&mut self, verb: Word, line: &mut Line) -> Result<(), Fault> {
+        let caller = self.names.aid(line.next("the caller's AID")?)?;
+        match self.records.last_mut() {
+            Some(Placed { record: Record { change: Change::AddService(_, callers), .. }, parts, .. }) => {
+                parts.insert(Part::Callers(put(callers, caller, MOST_CALLERS, verb)?), verb.place);
+                Ok(())
+            }
+            _ => Err(verb.fault("'to' follows 'add AID provides SERVICE', and none stands above it")),
+        }
+    }
+}
+
+fn one_row(names: &Names, line: &mut Line) -> Result<Said, Fault> {
+    let verb = line.next("provides, calls, grants or needs")?;
+    let none = || verb.fault(format!("provides, calls, grants or needs is expected, not '{}'", verb.text));
+    said(verb, line, names)?.ok_or_else(none)
+}
+
+/// Puts an item at the end of its list, and gives its place there.
+fn put<T>(list: &mut Vec<T>, item: T, most: u8, verb: Word) -> Result<usize, Fault> {
+    if list.len() == usize::from(most) {
+        return Err(verb.fault(format!("a record has at most {most} lines with '{}'", verb.text)));
+    }
+    list.push(item);
+    Ok(list.len() - 1)
+}
+
+/// A record as text, which reads as that record again.
+pub fn write(record: &Record, names: &Names) -> String {
+    let aid = |aid: &Aid| names.word(*aid);
+    let own = aid(&record.aid);
+    match &record.change {
+        Change::Load(lists) => {
+            let provides = lists.provides.iter().map(|tokens| provides(*tokens));
+            let calls = lists.calls.iter().map(|row| calls(row, names));
+            let grants = lists.grants.iter().map(|row| grants(row, names));
+            let needs = lists.needs.iter().map(|row| needs(row, names));
+            let rows = provides.chain(calls).chain(grants).chain(needs).map(|row| format!("    {row}\n"));
+            format!("load {own}\n{}", rows.collect::<String>())
+        }
+        Change::Remove => format!("unload {own}\n"),
+        Change::AddService(tokens, callers) => {
+            let callers = callers.iter().map(|caller| format!("    to {}\n", aid(caller)));
+            format!("add {own} {}\n{}", provides(*tokens), callers.collect::<String>())
+        }
+        Change::RemoveService(tokens) => format!("remove {own} {}\n", provides(*tokens)),
+        Change::AddCall(row) => format!("add {own} {}\n", calls(row, names)),
+        Change::RemoveCall(row) => format!("remove {own} {}\n", calls(row, names)),
+        Change::AddGrant(row) => format!("add {own} {}\n", grants(row, names)),
+        Change::RemoveGrant(row) => format!("remove {own} {}\n", grants(row, names)),
+        Change::AddNeed(row) => format!("add {own} {}\n", needs(row, names)),
+        Change::RemoveNeed(row) => format!("remove {own} {}\n", needs(row, names)),
+    }
+}
+
+fn provides(tokens: Tokens) -> String {
+    format!("provides {}", tokens_word(tokens))
+}
+
+pub fn calls(row: &Row, names: &Names) -> String {
+    format!("calls {} {}", names.word(row.other), tokens_word(row.tokens))
+}
+
+pub fn grants(row: &Row, names: &Names) -> String {
+    format!("grants {} to {}", tokens_word(row.tokens), names.word(row.other))
+}
+
+pub fn needs(row: &Row, names: &Names) -> String {
+    format!("needs {} {}", names.word(row.other), tokens_word(row.tokens))
+}
