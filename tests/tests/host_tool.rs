@@ -1,0 +1,172 @@
+//! The program `cardtool`: its commands on good and bad input, options, messages and exit codes.
+
+use second::host::tool::{run, Failure, BAD_INPUT, BAD_USE};
+use std::path::PathBuf;
+
+/// What the program writes, or why it fails.
+fn tool(arguments: &str, input: &[u8]) -> Result<Vec<u8>, Failure> {
+    let arguments: Vec<String> = arguments.split_whitespace().map(str::to_string).collect();
+    let mut output = Vec::new();
+    run(&arguments, &mut &input[..], &mut output).map(|()| output)
+}
+
+fn text(arguments: &str, input: &str) -> String {
+    let output = tool(arguments, input.as_bytes()).unwrap_or_else(|failure| panic!("{}", failure.words));
+    String::from_utf8(output).expect("a text")
+}
+
+fn fails(arguments: &str, input: &[u8], code: u8, words: &str) {
+    let failure = tool(arguments, input).expect_err(words);
+    assert_eq!((failure.code, failure.words.as_str()), (code, words), "{arguments}");
+}
+
+/// A file of this test alone.
+fn file(name: &str) -> PathBuf {
+    PathBuf::from(env!("CARGO_TARGET_TMPDIR")).join(name)
+}
+
+const STORY: &str = "\
+load F000000001
+    provides 0.0
+    grants 0.0 to F000000002
+load F000000003
+    calls F000000001 0.0
+load F000000002
+    calls F000000001 0.0
+    needs F000000001 0.0
+unload F000000001
+";
+
+#[test]
+fn the_papers_session() {
+    let hex = text("encode", STORY);
+    let expected = "\
+00 18 01 01 05 F0 00 00 00 01 01 00 00 00 01 05 F0 00 00 00 02 00 00 00
+00 16 01 01 05 F0 00 00 00 03 00 01 05 F0 00 00 00 01 00 00 00 00
+00 1E 01 01 05 F0 00 00 00 02 00 01 05 F0 00 00 00 01 00 00 00 01 05 F0 00 00 00 01 00 00
+00 0A 01 02 05 F0 00 00 00 01
+";
+    assert_eq!(hex, expected);
+    assert_eq!(text("decode", &hex), STORY);
+    assert_eq!(
+        text("judge", STORY),
+        "1 load F000000001: accepted, package 0\n\
+         2 load F000000003: refused, 8: a met call would stand without its grant\n\
+         3 load F000000002: accepted, package 1\n\
+         4 unload F000000001: refused, 9: a need would be unmet\n"
+    );
+}
+
+#[test]
+fn raw_bytes_in_and_out() {
+    let raw = tool("encode --raw", STORY.as_bytes()).expect("bytes");
+    assert_eq!(raw.len(), 24 + 22 + 30 + 10);
+    assert_eq!(tool("decode --raw", &raw), Ok(STORY.as_bytes().to_vec()));
+    let image = text("show", "04 46 01 \n 1094:");
+    assert_eq!(image, "# 0 packages, 0 unmet calls, 0 waiting grants\n");
+    let raw = tool("build --raw", image.as_bytes()).expect("an image");
+    assert_eq!(raw.len(), 1094);
+    assert_eq!(tool("show --raw -", &raw), Ok(image.into_bytes()));
+}
+
+#[test]
+fn files_and_names() {
+    let (story, names, hex, image) = (file("story"), file("names"), file("hex"), file("image"));
+    std::fs::write(&story, STORY).expect("a file");
+    std::fs::write(&names, "name log F000000001").expect("a file");
+    let [story, names, hex, image] = [story, names, hex, image].map(|file| file.display().to_string());
+    assert_eq!(text(&format!("encode {story} --out {hex}"), ""), "");
+    let named = STORY.replace("F000000001", "log");
+    assert_eq!(text(&format!("decode --names {names} {hex}"), ""), format!("name log F000000001\n{named}"));
+    text(&format!("judge {story} --save {image}"), "");
+    let shown = text(&format!("show {image} --names {names}"), "");
+    assert!(shown.contains("package 1 F000000002\n    calls log 0.0\n"), "{shown}");
+    let dump = std::fs::read_to_string(&image).expect("a file");
+    assert_eq!(text("build", &text("show", &dump)), dump);
+    assert_eq!(text("dump", &dump), dump);
+    // A removal on the saved image.
+    assert_eq!(
+        text(&format!("judge --image {image}"), "unload F000000002"),
+        "1 unload F000000002: accepted, package 1\n"
+    );
+    fails(
+        &format!("judge --image {story}"),
+        b"",
+        BAD_INPUT,
+        &format!("{story}: line 1, column 1: 'l' is no hexadecimal digit"),
+    );
+}
+
+#[test]
+fn bad_input_is_1_with_its_place() {
+    fails(
+        "encode",
+        b"load F0",
+        BAD_INPUT,
+        "standard input: line 1, column 6: an AID has 5 to 16 bytes, this one has 1",
+    );
+    fails("encode", b"load\xFF", BAD_INPUT, "standard input: line 1, column 5: these bytes are not text in UTF-8");
+    fails(
+        "decode",
+        b"00 02",
+        BAD_INPUT,
+        "standard input: line 1, column 6: byte 2: the record ends here, and bytes are missing",
+    );
+    fails(
+        "decode --raw",
+        b"\x00",
+        BAD_INPUT,
+        "standard input: byte 0: record 1: one byte is left, and a length has two",
+    );
+    fails(
+        "decode --raw",
+        b"\x00\x05\x01",
+        BAD_INPUT,
+        "standard input: byte 0: record 1: the length field says 5, 3 bytes are left",
+    );
+    fails(
+        "decode --raw",
+        b"\x00\x00\x01",
+        BAD_INPUT,
+        "standard input: byte 0: record 1: the length field says 0, 3 bytes are left",
+    );
+    let second = b"\x00\x0A\x01\x02\x05\xF0\x00\x00\x00\x01\x00\x04\x01\x0B";
+    fails("decode --raw", second, BAD_INPUT, "standard input: byte 13: record 2: the kind is 11, not 1 to 10");
+    fails("show", b"04 46", BAD_INPUT, "standard input: byte 2: an image has 1094 bytes, here are 2");
+    fails("dump", b"04 46", BAD_INPUT, "standard input: byte 2: an image has 1094 bytes, here are 2");
+    fails("show", b"04 46 02 01\n1094:", BAD_INPUT, "standard input: byte 2: the header has 01 here, not 02\nstandard input: byte 4: the AID of package 0 has the length 0, not 5 to 16");
+    fails("build", b"package 9", BAD_INPUT, "standard input: line 1, column 9: '9' is not a number from 0 to 7");
+}
+
+#[test]
+fn records_that_contradict_themselves_are_written_as_they_are_on_request() {
+    let bad = "unload F000000001\nadd F000000001 needs F000000001 0.0\n";
+    let words = "standard input: line 2, column 1: a package does not name its own AID here (a card answers 3)";
+    fails("encode", bad.as_bytes(), BAD_INPUT, words);
+    let hex = text("encode --as-is", bad);
+    assert_eq!(text("decode", &hex), bad);
+    assert!(text("judge", bad)
+        .contains("2 add F000000001 needs F000000001 0.0: refused, 3: the record contradicts itself\n"));
+}
+
+#[test]
+fn bad_use_is_2() {
+    fails("code", b"", BAD_USE, "'code' is no command; there are encode, decode, show, build, dump, judge and --help");
+    fails("encode --names x", b"", BAD_USE, "'--names' is no option of encode; there are --raw, --as-is, --out");
+    fails("encode --out", b"", BAD_USE, "--out lacks its FILE");
+    fails("encode a b", b"", BAD_USE, "'b': one FILE can be read, and one stands before it");
+    for arguments in ["encode no-such-file", "decode --names no-such-file", "encode --out no-such-directory/file"] {
+        assert_eq!(tool(arguments, b"").expect_err(arguments).code, BAD_USE);
+    }
+    assert_eq!(tool("", b"").expect_err("no command").code, BAD_USE);
+}
+
+#[test]
+fn every_command_has_help() {
+    let help = text("--help", "");
+    for command in ["encode", "decode", "show", "build", "dump", "judge"] {
+        assert!(help.contains(&format!("\n  {command} ")), "{help}");
+        let own = text(&format!("{command} --help"), "");
+        assert!(own.starts_with(&format!("cardtool {command} ")) && own.contains("--out FILE"), "{own}");
+    }
+}
