@@ -64,7 +64,7 @@ fn aid_digits(aid: Aid) -> String {
 
 fn digits_aid(word: Word) -> Result<Aid, Fault> {
     let digits = word.text.len();
-    if digits % 2 != 0 {
+    if !digits.is_multiple_of(2) {
         return Err(word.fault(format!("an AID has two digits for each byte, here are {digits} digits")));
     }
     if !(5..=16).contains(&(digits / 2)) {

@@ -151,7 +151,7 @@ impl Look<'_> {
         let image = self.image;
         for (number, &at) in places[..count].iter().enumerate() {
             let same = |other: &usize| image[*other..][..size] == image[at..][..size];
-            if let Some(other) = places[..number].iter().position(|other| same(other)) {
+            if let Some(other) = places[..number].iter().position(same) {
                 self.say(at, format!("{what} {number} is {what} {other} again"));
             }
         }

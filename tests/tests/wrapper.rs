@@ -1,0 +1,64 @@
+//! The safe wrapper of the exported functions says what their numbers say.
+#![cfg(feature = "engine")]
+
+use second::card::{Verdict, IMAGE, LONGEST_RECORD};
+use second::cases::{all, H};
+use second::engine::{self, exact};
+use second::refusal::Refusal;
+use second::write::load;
+use std::collections::BTreeSet;
+
+/// What an answer and a second number mean.
+fn meaning(verdict: Verdict) -> Result<u32, u32> {
+    match verdict.answer {
+        0 => Ok(verdict.second),
+        cause => Err(cause),
+    }
+}
+
+#[test]
+fn judging_gives_the_numbers_of_every_case() {
+    let mut seen = BTreeSet::new();
+    for case in all() {
+        let mut image = [0; IMAGE];
+        assert_eq!(engine::empty(&mut image), Ok(()));
+        for step in &case.steps {
+            let judged = engine::judge(&mut image, &step.record);
+            assert_eq!(judged.map_err(Refusal::number), meaning(step.verdict), "{}", case.name);
+            assert_eq!(engine::check(&image).map_err(Refusal::number), meaning(exact::check(&image)));
+            seen.extend(judged.err());
+        }
+    }
+    assert!(seen.len() >= 6, "{seen:?}");
+}
+
+#[test]
+fn refusals_of_the_other_entries() {
+    let mut image = [0xA5; IMAGE + 1];
+    assert_eq!(engine::empty(&mut image), Err(Refusal::Unsound));
+    assert_eq!(image, [0xA5; IMAGE + 1]);
+    assert_eq!(engine::check(&image), Err(Refusal::Unsound));
+    assert_eq!(engine::judge(&mut image, &[]), Err(Refusal::Unsound));
+    let mut buffer = [0xA5; LONGEST_RECORD];
+    assert_eq!(engine::read_out(&image, 0, &mut buffer), Err(Refusal::Unsound));
+    assert_eq!(engine::empty(&mut image[..IMAGE]), Ok(()));
+    let image = &mut image[..IMAGE];
+    assert_eq!(engine::read_out(image, 0, &mut buffer), Err(Refusal::NotInstalled));
+    assert_eq!(engine::judge(image, &[]), Err(Refusal::Malformed));
+}
+
+#[test]
+fn a_contract_is_read_out_as_a_part_of_the_buffer() {
+    let record = load(H, &[(1, 2)], &[], &[], &[]);
+    let mut image = [0; IMAGE];
+    assert_eq!(engine::empty(&mut image), Ok(()));
+    assert_eq!(engine::judge(&mut image, &record), Ok(0));
+    let mut buffer = vec![0xA5; record.len() - 1];
+    assert_eq!(engine::read_out(&image, 0, &mut buffer), Err(Refusal::BufferShort));
+    assert_eq!(buffer, vec![0xA5; record.len() - 1]);
+    let mut buffer = vec![0xA5; record.len() + 3];
+    assert_eq!(engine::read_out(&image, 0, &mut buffer), Ok(&record[..]));
+    assert_eq!(buffer[record.len()..], [0xA5; 3]);
+    assert_eq!(engine::aid(&record), H);
+    assert_eq!(engine::aid(&record[1..]), []);
+}
