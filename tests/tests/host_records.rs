@@ -119,25 +119,39 @@ fn a_loose_layout_reads_alike() {
     }
 }
 
+/// Each kind as it is written, and its bytes.
 #[test]
-fn the_ten_kinds_read_as_their_bytes() {
+fn the_ten_kinds_and_their_bytes() {
+    let load = "\
+load F000000001
+    provides 3.4
+    calls F000000003 0.1
+    grants 3.4 to F000000002
+    needs F000000003 0.1
+";
+    let load_bytes = "\
+        00 28 01 01 05 F0 00 00 00 01 01 03 04 01 05 F0 00 00 00 03 00 01 \
+        01 05 F0 00 00 00 02 03 04 01 05 F0 00 00 00 03 00 01";
+    let service = "add F000000001 provides 3.4\n    to F000000002\n    to F000000003\n";
+    let service_bytes = "00 19 01 03 05 F0 00 00 00 01 03 04 02 05 F0 00 00 00 02 05 F0 00 00 00 03";
+    let row = "05 F0 00 00 00 01 05 F0 00 00 00 02 03 FF";
+    let update = |kind: &str| format!("00 12 01 {kind} {row}");
     let cases = [
-        (
-            "load F000000001\n provides 0.0\n grants 0.0 to F000000002",
-            "00 18 01 01 05 F0 00 00 00 01 01 00 00 00 01 05 F0 00 00 00 02 00 00 00",
-        ),
-        ("unload F000000001", "00 0A 01 02 05 F0 00 00 00 01"),
-        ("add F000000001 provides 3.4\n to F000000002", "00 13 01 03 05 F0 00 00 00 01 03 04 01 05 F0 00 00 00 02"),
-        ("remove F000000001 provides 3.4", "00 0C 01 04 05 F0 00 00 00 01 03 04"),
-        ("add F000000001 calls F000000002 3.255", "00 12 01 05 05 F0 00 00 00 01 05 F0 00 00 00 02 03 FF"),
-        ("remove F000000001 calls F000000002 3.4", "00 12 01 06 05 F0 00 00 00 01 05 F0 00 00 00 02 03 04"),
-        ("add F000000001 grants 3.4 to F000000002", "00 12 01 07 05 F0 00 00 00 01 05 F0 00 00 00 02 03 04"),
-        ("remove F000000001 grants 3.4 to F000000002", "00 12 01 08 05 F0 00 00 00 01 05 F0 00 00 00 02 03 04"),
-        ("add F000000001 needs F000000002 3.4", "00 12 01 09 05 F0 00 00 00 01 05 F0 00 00 00 02 03 04"),
-        ("remove F000000001 needs F000000002 3.4", "00 12 01 0A 05 F0 00 00 00 01 05 F0 00 00 00 02 03 04"),
+        (load, load_bytes.to_string()),
+        ("unload F000000001\n", "00 0A 01 02 05 F0 00 00 00 01".to_string()),
+        (service, service_bytes.to_string()),
+        ("remove F000000001 provides 3.4\n", "00 0C 01 04 05 F0 00 00 00 01 03 04".to_string()),
+        ("add F000000001 calls F000000002 3.255\n", update("05")),
+        ("remove F000000001 calls F000000002 3.255\n", update("06")),
+        ("add F000000001 grants 3.255 to F000000002\n", update("07")),
+        ("remove F000000001 grants 3.255 to F000000002\n", update("08")),
+        ("add F000000001 needs F000000002 3.255\n", update("09")),
+        ("remove F000000001 needs F000000002 3.255\n", update("0A")),
     ];
     for (text, bytes) in cases {
-        assert_eq!(to_hex(&encode::bytes(&only(text))), bytes, "{text}");
+        let record = only(text);
+        assert_eq!(to_hex(&encode::bytes(&record)), bytes, "{text}");
+        assert_eq!(record_text::write(&record, &Names::default()), text);
     }
 }
 
