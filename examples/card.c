@@ -7,8 +7,6 @@
 
 #include "card.h"
 
-enum { IMAGE_BYTES = 1094, LONGEST_RECORD_BYTES = 4145 };
-
 /* The package F000000001 provides the service 0.0 and grants it to F000000002. */
 static const uint8_t handicap_log[] = {
     0, 24, 1, 1, 5, 0xF0, 0, 0, 0, 1, 1, 0, 0, 0, 1, 5, 0xF0, 0, 0, 0, 2, 0, 0, 0};
@@ -22,10 +20,6 @@ static const uint8_t organiser[] = {
     0, 30, 1, 1, 5, 0xF0, 0, 0, 0, 2, 0, 1, 5, 0xF0, 0, 0, 0, 1, 0, 0,
     0, 1, 5, 0xF0, 0, 0, 0, 1, 0, 0};
 
-/* A result is the answer times 65,536 plus the second number. */
-static uint32_t answer_of(uint32_t result) { return result >> 16; }
-static uint32_t second_of(uint32_t result) { return result & 0xFFFF; }
-
 static void print_bytes(const uint8_t *bytes, uint32_t count) {
     for (uint32_t at = 0; at < count; at++) {
         printf("%s%02X", at == 0 ? "" : " ", bytes[at]);
@@ -36,21 +30,21 @@ static void print_bytes(const uint8_t *bytes, uint32_t count) {
 /* Judges a record and prints what the card says. */
 static void judge(uint8_t *image, const uint8_t *record, size_t length) {
     uint32_t aid = card_aid(record, length);
-    uint32_t result = card_judge(image, IMAGE_BYTES, record, length);
-    if (answer_of(result) == 0) {
-        printf("accepted, package %u, AID ", (unsigned)second_of(result));
+    uint32_t result = card_judge(image, CARD_IMAGE_SIZE, record, length);
+    if (CARD_ANSWER(result) == 0) {
+        printf("accepted, package %u, AID ", (unsigned)CARD_SECOND(result));
     } else {
-        printf("refused, cause %u, AID ", (unsigned)answer_of(result));
+        printf("refused, cause %u, AID ", (unsigned)CARD_ANSWER(result));
     }
     /* The AID's place in the record, and its length. */
-    print_bytes(record + answer_of(aid), second_of(aid));
+    print_bytes(record + CARD_ANSWER(aid), CARD_SECOND(aid));
 }
 
 int main(void) {
-    static uint8_t image[IMAGE_BYTES];
-    static uint8_t contract[LONGEST_RECORD_BYTES];
+    static uint8_t image[CARD_IMAGE_SIZE];
+    static uint8_t contract[CARD_RECORD_SIZE];
 
-    if (answer_of(card_empty(image, sizeof image)) != 0) {
+    if (CARD_ANSWER(card_empty(image, sizeof image)) != 0) {
         fprintf(stderr, "no empty image is written\n");
         return 1;
     }
@@ -59,18 +53,18 @@ int main(void) {
     judge(image, organiser, sizeof organiser);
 
     uint32_t checked = card_check(image, sizeof image);
-    if (answer_of(checked) != 0) {
+    if (CARD_ANSWER(checked) != 0) {
         fprintf(stderr, "the image is not sound\n");
         return 1;
     }
-    printf("packages on the card: %u\n", (unsigned)second_of(checked));
+    printf("packages on the card: %u\n", (unsigned)CARD_SECOND(checked));
 
     uint32_t read = card_read_out(image, sizeof image, 1, contract, sizeof contract);
-    if (answer_of(read) != 0) {
-        fprintf(stderr, "package 1 is not read out: %u\n", (unsigned)answer_of(read));
+    if (CARD_ANSWER(read) != 0) {
+        fprintf(stderr, "package 1 is not read out: %u\n", (unsigned)CARD_ANSWER(read));
         return 1;
     }
     printf("contract of package 1: ");
-    print_bytes(contract, second_of(read));
+    print_bytes(contract, CARD_SECOND(read));
     return 0;
 }
