@@ -90,11 +90,7 @@ impl Reading {
     fn line(&mut self, line: &mut Line) -> Result<(), Fault> {
         let first = line.next("a word")?;
         match first.text {
-            "name" => {
-                let name = line.next("a name")?;
-                let aid = self.names.aid(line.next("an AID")?)?;
-                self.names.give(name, aid)
-            }
+            "name" => self.names.line(line),
             "package" => self.begin(line),
             "service" => self.service(first, line),
             "unmet" | "waiting" => {

@@ -1,7 +1,7 @@
 //! AIDs and tokens as words, and names for AIDs.
 
 use super::fault::Fault;
-use super::words::Word;
+use super::words::{Line, Word};
 use crate::machine::{Aid, Tokens};
 use std::collections::BTreeMap;
 
@@ -13,6 +13,13 @@ pub struct Names {
 }
 
 impl Names {
+    /// Reads what follows `name` on a line: a name and its AID.
+    pub fn line(&mut self, line: &mut Line) -> Result<(), Fault> {
+        let name = line.next("a name")?;
+        let aid = self.aid(line.next("an AID")?)?;
+        self.give(name, aid)
+    }
+
     /// Gives an AID its name. An AID has one name, and a name one AID.
     pub fn give(&mut self, name: Word, aid: Aid) -> Result<(), Fault> {
         let text = name.text;

@@ -7,7 +7,7 @@ use crate::machine::record::{contradiction, Change, Lists, Part, Record, MOST_CA
 use crate::machine::{Aid, Row, Tokens};
 use std::collections::BTreeMap;
 
-/// A record of a text, and where its parts stand.
+/// A record of a text, its place, and where the rows of its lists stand.
 #[derive(Clone, Debug, PartialEq, Eq)]
 pub struct Placed {
     pub record: Record,
@@ -74,32 +74,23 @@ impl Text {
     fn line(&mut self, line: &mut Line) -> Result<(), Fault> {
         let first = line.next("a word")?;
         match first.text {
-            "name" => {
-                let name = line.next("a name")?;
-                let aid = self.names.aid(line.next("an AID")?)?;
-                self.names.give(name, aid)
-            }
+            "name" => self.names.line(line),
             "load" => {
-                let lists = Lists { provides: vec![], calls: vec![], grants: vec![], needs: vec![] };
-                self.begin(first.place, line, |_, _| Ok(Change::Load(lists)))
+                let aid = self.own(line)?;
+                self.begin(first, aid, Change::Load(Lists::default()))
             }
-            "unload" => self.begin(first.place, line, |_, _| Ok(Change::Remove)),
-            "add" => self.begin(first.place, line, |names, line| {
-                Ok(match one_row(names, line)? {
-                    Said::Provides(tokens) => Change::AddService(tokens, Vec::new()),
-                    Said::Calls(row) => Change::AddCall(row),
-                    Said::Grants(row) => Change::AddGrant(row),
-                    Said::Needs(row) => Change::AddNeed(row),
-                })
-            }),
-            "remove" => self.begin(first.place, line, |names, line| {
-                Ok(match one_row(names, line)? {
-                    Said::Provides(tokens) => Change::RemoveService(tokens),
-                    Said::Calls(row) => Change::RemoveCall(row),
-                    Said::Grants(row) => Change::RemoveGrant(row),
-                    Said::Needs(row) => Change::RemoveNeed(row),
-                })
-            }),
+            "unload" => {
+                let aid = self.own(line)?;
+                self.begin(first, aid, Change::Remove)
+            }
+            "add" => {
+                let (aid, row) = (self.own(line)?, one_row(line, &self.names)?);
+                self.begin(first, aid, added(row))
+            }
+            "remove" => {
+                let (aid, row) = (self.own(line)?, one_row(line, &self.names)?);
+                self.begin(first, aid, removed(row))
+            }
             "to" => self.caller(first, line),
             _ => match said(first, line, &self.names)? {
                 Some(row) => self.load_row(first, row),
@@ -112,17 +103,12 @@ impl Text {
         }
     }
 
-    /// Begins a record with its AID.
-    fn begin(
-        &mut self,
-        place: Place,
-        line: &mut Line,
-        change: impl FnOnce(&Names, &mut Line) -> Result<Change, Fault>,
-    ) -> Result<(), Fault> {
-        let aid = self.names.aid(line.next("the package's AID")?)?;
-        let change = change(&self.names, line)?;
-        let parts = BTreeMap::from([(Part::Row(0), place)]);
-        self.records.push(Placed { record: Record { aid, change }, place, parts });
+    fn own(&self, line: &mut Line) -> Result<Aid, Fault> {
+        self.names.aid(line.next("the package's AID")?)
+    }
+
+    fn begin(&mut self, verb: Word, aid: Aid, change: Change) -> Result<(), Fault> {
+        self.records.push(Placed { record: Record { aid, change }, place: verb.place, parts: BTreeMap::new() });
         Ok(())
     }
 
@@ -155,10 +141,29 @@ impl Text {
     }
 }
 
-fn one_row(names: &Names, line: &mut Line) -> Result<Said, Fault> {
+/// The row of a line that adds or removes one.
+fn one_row(line: &mut Line, names: &Names) -> Result<Said, Fault> {
     let verb = line.next("provides, calls, grants or needs")?;
     let none = || verb.fault(format!("provides, calls, grants or needs is expected, not '{}'", verb.text));
     said(verb, line, names)?.ok_or_else(none)
+}
+
+fn added(row: Said) -> Change {
+    match row {
+        Said::Provides(tokens) => Change::AddService(tokens, Vec::new()),
+        Said::Calls(row) => Change::AddCall(row),
+        Said::Grants(row) => Change::AddGrant(row),
+        Said::Needs(row) => Change::AddNeed(row),
+    }
+}
+
+fn removed(row: Said) -> Change {
+    match row {
+        Said::Provides(tokens) => Change::RemoveService(tokens),
+        Said::Calls(row) => Change::RemoveCall(row),
+        Said::Grants(row) => Change::RemoveGrant(row),
+        Said::Needs(row) => Change::RemoveNeed(row),
+    }
 }
 
 /// Puts an item at the end of its list, and gives its place there.

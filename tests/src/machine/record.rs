@@ -31,7 +31,7 @@ pub enum Change {
 }
 
 /// A contract as it is written, row after row.
-#[derive(Clone, Debug, PartialEq, Eq)]
+#[derive(Clone, Debug, Default, PartialEq, Eq)]
 pub struct Lists {
     pub provides: Vec<Tokens>,
     pub calls: Vec<Row>,
@@ -127,7 +127,7 @@ pub enum Part {
     /// The callers of kind 3.
     Callers(usize),
     /// The row of kinds 5 to 10.
-    Row(usize),
+    Row,
 }
 
 /// Why a part contradicts its record.
@@ -165,7 +165,7 @@ pub fn contradiction(record: &Record) -> Option<(Part, Clash)> {
         | Change::AddGrant(row)
         | Change::RemoveGrant(row)
         | Change::AddNeed(row)
-        | Change::RemoveNeed(row) => own_row(row).then_some((Part::Row(0), Clash::OwnAid)),
+        | Change::RemoveNeed(row) => own_row(row).then_some((Part::Row, Clash::OwnAid)),
     }
 }
 
