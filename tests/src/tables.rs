@@ -6,6 +6,7 @@
 use crate::machine::{Aid, Contract, Machine, Row, Tokens};
 
 /// What an image's tables say.
+#[derive(Default)]
 pub struct Tables {
     pub packages: [Option<Package>; 8],
     /// The bits set, by callee, caller and service.

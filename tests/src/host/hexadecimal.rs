@@ -55,18 +55,11 @@ pub fn records(text: &str) -> Result<Vec<Digits>, Fault> {
 /// colon. Bytes that are left out before an offset are zero.
 pub fn dump(text: &str) -> Result<Vec<u8>, Fault> {
     let mut bytes = Vec::new();
-    for line in lines(text) {
-        let (mut offsets, mut digits) = (Vec::new(), Digits { bytes: vec![], places: vec![], end: line.end });
-        for word in line.rest() {
-            match word.text.strip_suffix(':') {
-                Some(offset) if offsets.is_empty() && digits.bytes.is_empty() => offsets.push((word, offset)),
-                _ => digits.word(word)?,
-            }
+    for mut line in lines(text) {
+        if let Some(offset) = line.next_if(|word| word.ends_with(':')) {
+            skip(&mut bytes, offset)?;
         }
-        for (word, offset) in offsets {
-            skip(&mut bytes, word, offset)?;
-        }
-        bytes.extend(digits.bytes);
+        bytes.extend(Digits::of(line)?.bytes);
     }
     Ok(bytes)
 }
@@ -75,7 +68,8 @@ pub fn dump(text: &str) -> Result<Vec<u8>, Fault> {
 const MOST_BYTES: usize = 65_536;
 
 /// Fills with zeros up to an offset.
-fn skip(bytes: &mut Vec<u8>, word: Word, offset: &str) -> Result<(), Fault> {
+fn skip(bytes: &mut Vec<u8>, word: Word) -> Result<(), Fault> {
+    let offset = word.text.trim_end_matches(':');
     let digits = offset.chars().all(|c| c.is_ascii_digit());
     let number = digits.then(|| offset.parse().ok()).flatten().filter(|number| *number <= MOST_BYTES);
     let Some(number) = number else {

@@ -58,10 +58,7 @@ fn package_rows(tables: &Tables, number: usize, package: &Package, names: &Names
 
 /// Reads a text as the image that it describes, which is sound.
 pub fn read(text: &str) -> Result<Image, Fault> {
-    let [calls, grants, needs] = [const { Vec::new() }; 3];
-    let packages = [const { None }; 8];
-    let tables = Tables { packages, calls, grants, needs, unmet: Vec::new(), waiting: Vec::new() };
-    let mut reading = Reading { names: Names::default(), tables, package: None, rows: Vec::new() };
+    let mut reading = Reading::default();
     for mut line in lines(text) {
         reading.line(&mut line)?;
         line.finish()?;
@@ -78,6 +75,7 @@ enum Stated {
     Waiting(Aid, Row),
 }
 
+#[derive(Default)]
 struct Reading {
     names: Names,
     tables: Tables,
@@ -93,20 +91,23 @@ impl Reading {
             "name" => self.names.line(line),
             "package" => self.begin(line),
             "service" => self.service(first, line),
-            "unmet" | "waiting" => {
-                let own = self.names.aid(line.next("the package's AID")?)?;
-                let verb = line.next("a row")?;
-                let row = match (first.text, record_text::said(verb, line, &self.names)?) {
-                    ("unmet", Some(Said::Calls(row))) => Stated::Unmet(own, row),
-                    ("waiting", Some(Said::Grants(row))) => Stated::Waiting(own, row),
-                    ("unmet", _) => return Err(verb.fault(format!("'calls' is expected, not '{}'", verb.text))),
-                    _ => return Err(verb.fault(format!("'grants' is expected, not '{}'", verb.text))),
-                };
-                self.rows.push((first.place, row));
-                Ok(())
-            }
+            "unmet" => self.list_row(first, line, "calls"),
+            "waiting" => self.list_row(first, line, "grants"),
             _ => self.package_row(first, line),
         }
+    }
+
+    /// A row of a list: the package that it belongs to, and a call or a grant.
+    fn list_row(&mut self, first: Word, line: &mut Line, expected: &str) -> Result<(), Fault> {
+        let own = self.names.aid(line.next("the package's AID")?)?;
+        let verb = line.expect(expected)?;
+        let stated = match record_text::said(verb, line, &self.names)? {
+            Some(Said::Calls(row)) => Stated::Unmet(own, row),
+            Some(Said::Grants(row)) => Stated::Waiting(own, row),
+            _ => unreachable!("the verb is calls or grants"),
+        };
+        self.rows.push((first.place, stated));
+        Ok(())
     }
 
     fn begin(&mut self, line: &mut Line) -> Result<(), Fault> {

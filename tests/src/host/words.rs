@@ -28,11 +28,17 @@ impl<'a> Line<'a> {
         self.words.pop_front().ok_or_else(|| Fault::text(self.end, format!("{what} is missing")))
     }
 
+    /// The next word, if it is one that is wanted.
+    pub fn next_if(&mut self, wanted: impl Fn(&str) -> bool) -> Option<Word<'a>> {
+        self.words.front().filter(|word| wanted(word.text))?;
+        self.words.pop_front()
+    }
+
     /// The next word, which must be this one.
-    pub fn expect(&mut self, expected: &str) -> Result<(), Fault> {
+    pub fn expect(&mut self, expected: &str) -> Result<Word<'a>, Fault> {
         let word = self.next(&format!("'{expected}'"))?;
         match word.text == expected {
-            true => Ok(()),
+            true => Ok(word),
             false => Err(word.fault(format!("'{expected}' is expected, not '{}'", word.text))),
         }
     }
