@@ -8,10 +8,8 @@ use mathlib.Core.List.{List, [], _∷_, _++_}
 use lib.Dec.{T, eqb}
 use lib.ListN.{length, getD, take, drop}
 use borrow.Author.Tests.{eq-eqb, ne-eqb, not-true, not-false}
-use mir.Syntax.{w64}
-use mir.Val.{Fits}
-use Rattle.policy.specs.Contract.{Aid, Tok}
-use Rattle.policy.specs.Layout.{Layout, size, unmetAt, waitingAt}
+use Rattle.policy.specs.Contract.{Aid}
+use Rattle.policy.specs.Layout.{Layout, unmetAt, waitingAt}
 use Rattle.policy.specs.Tables.{Tables, bit, rowOf, writeTok, decode}
 use Rattle.policy.specs.Sound.{sound}
 use Rattle.policy.specs.Judge.{aidBytes}

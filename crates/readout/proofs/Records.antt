@@ -6,7 +6,7 @@ use mathlib.Core.Path.{_≡_, refl, sym, ap, ap₂, _∙_, subst}
 use mathlib.Core.Bool.{Bool, true, false, not, _&&_, cond}
 use mathlib.Core.List.{List, [], _∷_, _++_}
 use lib.Dec.{T, eqb, leb, ltb}
-use lib.ListN.{length, take, drop, length-append}
+use lib.ListN.{length, drop, length-append}
 use borrow.Author.Tests.{ltb-true, le-ltb, lt-ltb, le-leb, lt-leb, not-true, not-false}
 use Rattle.policy.specs.Lists.{flat, upto}
 use Rattle.policy.specs.Contract.{Aid, Row}
@@ -18,7 +18,6 @@ use Rattle.policy.specs.Judge.{Out, refusal, aidBytes, rowBytes, loadRecord, re
 use Rattle.policy.specs.Settled.{Gives}
 use Rattle.policy.proofs.Sets.{T-true, true-T, and-l, length-flat-le, length-from, upto-in}
 use Rattle.policy.proofs.Bits.{bit-rowOf, length-number}
-use Rattle.rows.specs.Area.{over}
 use Rattle.geometry.specs.declared.Card.{Card}
 use Rattle.geometry.specs.declared.Card.the-variants.{Small}
 use Rattle.geometry.specs.declared.Table.{Table}

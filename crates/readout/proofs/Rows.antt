@@ -1,10 +1,9 @@
 -- The parts of a record as code writes them are those of the definition. Assumes nothing.
-use Prim.Native.Nat.{ℕ, zero, suc, _+_, _*_, _≤_, _<_}
-use native.Mathlib.Omega.{arith}
-use mathlib.Core.Path.{_≡_, refl, sym, ap, ap₂, _∙_, subst}
+use Prim.Native.Nat.{ℕ, zero, suc, _+_, _≤_}
+use mathlib.Core.Path.{_≡_, refl, sym, ap, ap₂, _∙_}
 use mathlib.Core.Bool.{Bool, true, false, cond}
-use mathlib.Core.List.{List, [], _∷_, _++_, map, append-assoc}
-use lib.Dec.{T, eqb}
+use mathlib.Core.List.{List, [], _∷_, _++_, map}
+use lib.Dec.{eqb}
 use lib.ListN.{length, getD, length-append, length-map}
 use Rattle.policy.specs.Lists.{flat, keep, from, upto}
 use Rattle.policy.specs.Contract.{Row}
@@ -16,7 +15,7 @@ use Rattle.policy.proofs.Written.{number-append}
 use Rattle.geometry.specs.declared.Table.{Table}
 use Rattle.geometry.specs.declared.Table.the-variants.{Calls, Grants, Needs}
 use Rattle.image.specs.Laid.{tableOf}
-use Rattle.image.specs.Read.{maskOf, noUnmet, unmetRow, noWaiting, waitingRow}
+use Rattle.image.specs.Read.{maskOf, noUnmet, noWaiting}
 use Rattle.image.proofs.Swap.{flat-append}
 use Rattle.image.proofs.Masks.{mask-count}
 use Rattle.readout.specs.Parts.{Short, given, bitRow, bitBytes, tableBytes, tableRows, unmetBytes, waitingBytes, tokBytes, provideBytes, callBytes, grantBytes, needBytes}

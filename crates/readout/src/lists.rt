@@ -1,5 +1,4 @@
 // The rows of the two lists that are package n's, in list order; and the tokens of its services.
-ghost use mathlib.Core.Path.{_≡_};
 ghost use Prim.Native.Nat.{_<_};
 ghost use lib.Dec.{T};
 ghost use lib.ListN.{length};

@@ -1,6 +1,5 @@
 // Writers: each writes its bytes at a position where the buffer has room for them, and gives the position after them.
-ghost use mathlib.Core.Path.{_≡_};
-ghost use mathlib.Core.List.{[], _∷_, _++_};
+ghost use mathlib.Core.List.{[], _++_};
 ghost use Prim.Native.Nat.{_+_, _≤_, _<_};
 ghost use lib.ListN.{length, getD};
 ghost use Rattle.policy.specs.Tables.{writeNumber, writeTok};

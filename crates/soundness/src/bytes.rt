@@ -1,7 +1,7 @@
 // Bytes of an image: zeros, the same bytes, and the place of an AID.
 ghost use mathlib.Core.Path.{_≡_};
 ghost use Prim.Native.Nat.{_+_, _≤_, _<_};
-ghost use lib.ListN.{length};
+ghost use lib.ListN.{length, getD};
 ghost use Rattle.policy.specs.Lists.{every};
 ghost use Rattle.soundness.specs.Check.{isZero, zerosAt, sameAt, aidOk};
 
@@ -25,7 +25,7 @@ pub fn zeros_at(img: &[u8], at: usize, n: usize) -> bool
     zeros(&img[at..end])
 }
 
-// The n bytes from a on are those from b on. Most parts differ in their first byte already.
+// The n bytes from a on are those from b on.
 pub fn same_at(img: &[u8], a: usize, b: usize, n: usize) -> bool
     requires { ⌜ (0 < n) × (a + n ≤ length (now img)) × (b + n ≤ length (now img)) ⌝ }
     ensures { λ r. ⌜ r ≡ sameAt (now (img .entry)) a b n ⌝ }
@@ -38,6 +38,21 @@ pub fn same_at(img: &[u8], a: usize, b: usize, n: usize) -> bool
         same = same & (img[a + k] == img[b + k]);
     }
     same
+}
+
+// The AIDs in the places at a and b are the same. Most differ in their length or in their last byte.
+pub fn same_aid(img: &[u8], a: usize, b: usize) -> bool
+    requires { ⌜ (a + 17 ≤ length (now img)) × (b + 17 ≤ length (now img)) × (getD (now img) a 0 ≤ 16) ⌝ }
+    ensures { λ r. ⌜ r ≡ sameAt (now (img .entry)) a b 17 ⌝ }
+{
+    if img[a] != img[b] {
+        return false;
+    }
+    let last = img[a] as usize;
+    if img[a + last] != img[b + last] {
+        return false;
+    }
+    same_at(img, a, b, 17)
 }
 
 // A valid AID stands at at, with zeros to the end of its place.

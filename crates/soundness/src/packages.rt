@@ -1,7 +1,7 @@
 // Packages: AIDs that are valid and differ, tokens that differ, and zeros where no package or service stands.
 ghost use mathlib.Core.Path.{_≡_};
 ghost use Prim.Native.Nat.{_+_, _≤_, _<_};
-ghost use lib.ListN.{length};
+ghost use lib.ListN.{length, getD};
 ghost use Rattle.policy.specs.Layout.{size as sizeOf};
 ghost use Rattle.policy.specs.Tables.{bit};
 ghost use Rattle.geometry.specs.Geometry.{layoutOf};
@@ -35,15 +35,15 @@ pub fn provides(img: &[u8], c: Card, j: usize, k: usize) -> bool
 
 // Package n has the AID at at.
 fn is_aid(img: &[u8], c: Card, at: usize, n: usize) -> bool
-    requires { ⌜ (length (now img) ≡ sizeOf (layoutOf c)) × (at + 17 ≤ length (now img)) × (n < layoutOf c .packages) ⌝ }
+    requires { ⌜ (length (now img) ≡ sizeOf (layoutOf c)) × (at + 17 ≤ length (now img)) × (getD (now img) at 0 ≤ 16) × (n < layoutOf c .packages) ⌝ }
     ensures { λ r. ⌜ r ≡ isAid (layoutOf c) (now (img .entry)) at n ⌝ }
 {
-    bytes::same_at(img, at, geometry::aid_at(c, n), 17)
+    bytes::same_aid(img, at, geometry::aid_at(c, n))
 }
 
 // The lowest of the first n packages that has the AID at at; n where none has.
 pub fn number_below(img: &[u8], c: Card, n: usize, at: usize) -> usize
-    requires { ⌜ (length (now img) ≡ sizeOf (layoutOf c)) × (n ≤ layoutOf c .packages) × (at + 17 ≤ length (now img)) ⌝ }
+    requires { ⌜ (length (now img) ≡ sizeOf (layoutOf c)) × (n ≤ layoutOf c .packages) × (at + 17 ≤ length (now img)) × (getD (now img) at 0 ≤ 16) ⌝ }
     ensures { λ r. ⌜ r ≡ numberBelow (layoutOf c) (now (img .entry)) n at ⌝ }
 {
     for m in 0..n {

@@ -1,7 +1,4 @@
 -- `readout::sections::put_provides` meets its contract. Assumes nothing.
-use Prim.Native.Nat.{_%_}
-use native.Mathlib.Omega.{arith}
-use mathlib.Core.Path.{_≡_}
 use denote.Ref.{now}
 use borrow.Author.Needs.{needs}
 use Rattle.policy.specs.Tables.{decode}

@@ -4,7 +4,7 @@ use Prim.Native.Nat.{_≤_, _-_}
 use borrow.Author.Needs.{needs}
 use Rattle.policy.specs.Lists.{eqBytes}
 use Rattle.soundness.specs.Check.{partAt}
-use Rattle.soundness.proofs.Tests.{same-turn, same-end, same-fell}
+use Rattle.soundness.proofs.Tests.{same-turn, same-end, first-fell}
 use Rattle.soundness.proofs.bytes.same_at.Statement.{statement}
 use Rattle.soundness.proofs.bytes.same_at.Tie as tie
 
@@ -20,7 +20,7 @@ same-at-spec =
     (tie.spec Inv-loop μ-loop
     (λ c. search needs)
     (λ c. search needs)
-    (λ c. search (same-fell, needs))
+    (λ c. search (first-fell, needs))
     (λ c. search needs)
     (λ c. search needs)
     (λ c. search needs)
