@@ -177,6 +177,7 @@ fn each_fault_has_its_byte_and_words() {
         ("795=02", "byte 790: the caller is package 1, and the grant is said to wait"),
         ("807=08", "byte 807: the callee is package 8, which is not used"),
         ("808=02", "byte 808: package 0 does not provide service 2"),
+        ("808=08", "byte 808: package 0 does not provide service 8"),
     ];
     for (damage, message) in cases {
         let damaged = Damage::from_text(damage).expect(damage).done_to(&image);

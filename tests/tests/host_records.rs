@@ -236,6 +236,22 @@ fn contradictions_have_their_place() {
             "# x\nremove F000000001 calls F000000001 0.0",
             "line 2, column 1: a package does not name its own AID here (a card answers 3)",
         ),
+        (
+            "load F000000001\n provides 0.0\n grants 0.0 to F000000002\n grants 0.0 to F000000002",
+            "line 4, column 2: this stands in its list already (a card answers 3)",
+        ),
+        (
+            "load F000000001\n calls F000000002 0.0\n needs F000000002 0.0\n needs F000000002 0.0",
+            "line 4, column 2: this stands in its list already (a card answers 3)",
+        ),
+        (
+            "load F000000001\n provides 0.0\n grants 0.0 to F000000001",
+            "line 3, column 2: a package does not name its own AID here (a card answers 3)",
+        ),
+        (
+            "load F000000001\n needs F000000001 0.0",
+            "line 2, column 2: a package does not name its own AID here (a card answers 3)",
+        ),
     ];
     for (text, message) in cases {
         let read = record_text::read(text).expect(text);
