@@ -78,7 +78,7 @@ fn is_among(img: &[u8], c: Card, n: usize, rec: &[u8], callers: Items) -> bool
 {
     let mut todo = callers;
     while 0 < todo.count {
-        let r = record::rows::take_aid(rec, todo);
+        let r = record::steps::take_aid(rec, todo);
         let a = r.aid;
         if is_caller(img, c, n, rec, a) {
             return true;
@@ -148,7 +148,7 @@ fn callers_fit(img: &[u8], c: Card, rec: &[u8], callers: Items) -> bool
     let mut left = most - taken;
     let mut todo = callers;
     while 0 < todo.count {
-        let r = record::rows::take_aid(rec, todo);
+        let r = record::steps::take_aid(rec, todo);
         let a = r.aid;
         let new = is_new(img, c, rec, a) as usize;
         if left < new {
@@ -291,7 +291,7 @@ fn grant_all(img: &mut [u8], c: Card, rec: &[u8], callers: Items, j: usize, k: u
 {
     let mut todo = callers;
     while 0 < todo.count {
-        let r = record::rows::take_aid(rec, todo);
+        let r = record::steps::take_aid(rec, todo);
         let a = r.aid;
         grant(img, c, rec, a, j, k);
         todo = r.rest;

@@ -88,7 +88,7 @@ fn calls_granted(img: &[u8], c: Card, waiting: u32, rec: &[u8], calls: Items) ->
 {
     let mut todo = calls;
     while 0 < todo.count {
-        let r = record::rows::take_row(rec, todo);
+        let r = record::steps::take_row(rec, todo);
         let a = r.other;
         let t = r.tokens;
         if call_granted(img, c, waiting, rec, a, t) {
@@ -108,7 +108,7 @@ fn needs_served(img: &[u8], c: Card, rec: &[u8], needs: Items) -> bool
 {
     let mut todo = needs;
     while 0 < todo.count {
-        let r = record::rows::take_row(rec, todo);
+        let r = record::steps::take_row(rec, todo);
         let a = r.other;
         let t = r.tokens;
         if is_served(img, c, rec, a, t) {
@@ -129,7 +129,7 @@ fn unserved_fit(img: &[u8], c: Card, rec: &[u8], calls: Items, room: usize) -> b
     let mut todo = calls;
     let mut left = room;
     while 0 < todo.count {
-        let r = record::rows::take_row(rec, todo);
+        let r = record::steps::take_row(rec, todo);
         let a = r.other;
         let t = r.tokens;
         todo = r.rest;
@@ -153,7 +153,7 @@ fn strangers_fit(img: &[u8], c: Card, rec: &[u8], grants: Items, room: usize) ->
     let mut todo = grants;
     let mut left = room;
     while 0 < todo.count {
-        let r = record::rows::take_row(rec, todo);
+        let r = record::steps::take_row(rec, todo);
         let a = r.other;
         todo = r.rest;
         if is_present(img, c, rec, a) {
@@ -176,7 +176,7 @@ fn is_met(img: &[u8], c: Card, r: usize, aid: &[u8], rec: &[u8], provides: Items
 {
     let mut todo = provides;
     while 0 < todo.count {
-        let s = record::rows::take_tokens(rec, todo);
+        let s = record::steps::take_tokens(rec, todo);
         let t = s.tokens;
         if image::lists::asks_for(img, c, r, aid, t.interface, t.method) {
             return true;
@@ -236,7 +236,7 @@ fn row_granted(img: &[u8], c: Card, r: usize, aid: &[u8], rec: &[u8], grants: It
 {
     let mut todo = grants;
     while 0 < todo.count {
-        let s = record::rows::take_row(rec, todo);
+        let s = record::steps::take_row(rec, todo);
         let a = s.other;
         let t = s.tokens;
         if grant_fits(img, c, r, aid, rec, a, t) {

@@ -64,7 +64,7 @@ fn open_all(img: &mut [u8], c: Card, n: usize, aid: &[u8], rec: &[u8], provides:
     let mut todo = provides;
     let mut k = 0;
     while 0 < todo.count {
-        let s = record::rows::take_tokens(rec, todo);
+        let s = record::steps::take_tokens(rec, todo);
         let t = s.tokens;
         open(img, c, n, aid, k, t);
         todo = s.rest;
@@ -140,7 +140,7 @@ fn call_all(img: &mut [u8], c: Card, n: usize, rec: &[u8], calls: Items)
 {
     let mut todo = calls;
     while 0 < todo.count {
-        let r = record::rows::take_row(rec, todo);
+        let r = record::steps::take_row(rec, todo);
         let a = r.other;
         let t = r.tokens;
         call(img, c, n, rec, a, t);
@@ -176,7 +176,7 @@ fn grant_all(img: &mut [u8], c: Card, n: usize, rec: &[u8], grants: Items)
 {
     let mut todo = grants;
     while 0 < todo.count {
-        let r = record::rows::take_row(rec, todo);
+        let r = record::steps::take_row(rec, todo);
         let a = r.other;
         let t = r.tokens;
         grant(img, c, n, rec, a, t);
@@ -207,7 +207,7 @@ fn need_all(img: &mut [u8], c: Card, n: usize, rec: &[u8], needs: Items)
 {
     let mut todo = needs;
     while 0 < todo.count {
-        let r = record::rows::take_row(rec, todo);
+        let r = record::steps::take_row(rec, todo);
         let a = r.other;
         let t = r.tokens;
         need(img, c, n, rec, a, t);

@@ -33,9 +33,9 @@ use Rattle.record.specs.declared.Placed.the-variants as placed
 use Rattle.record.specs.declared.Service.{Service}
 use Rattle.record.specs.declared.Service.the-variants as service
 use Rattle.record.specs.declared.RowAt.{RowAt}
-use Rattle.record.specs.declared.rows.RowStep.{RowStep}
-use Rattle.record.specs.declared.rows.AidStep.{AidStep}
-use Rattle.record.specs.declared.rows.TokensStep.{TokensStep}
+use Rattle.record.specs.declared.steps.RowStep.{RowStep}
+use Rattle.record.specs.declared.steps.AidStep.{AidStep}
+use Rattle.record.specs.declared.steps.TokensStep.{TokensStep}
 
 -- ---- what a reader gives
 -- the value, or d where there is none

@@ -9,8 +9,8 @@ use geometry::Card;
 
 pub mod proper;
 pub mod reader;
-pub mod rows;
 pub mod same;
+pub mod steps;
 
 // How many bytes a reader took of the front of its part.
 pub enum Took {

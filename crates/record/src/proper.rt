@@ -18,7 +18,7 @@ pub fn has_tokens(rec: &[u8], t: Tokens, of: Items) -> bool
 {
     let mut todo = of;
     while 0 < todo.count {
-        let r = crate::rows::take_tokens(rec, todo);
+        let r = crate::steps::take_tokens(rec, todo);
         let u = r.tokens;
         if crate::same::same_tokens(t, u) {
             return true;
@@ -35,7 +35,7 @@ pub fn has_aid(rec: &[u8], a: Aid, of: Items) -> bool
 {
     let mut todo = of;
     while 0 < todo.count {
-        let r = crate::rows::take_aid(rec, todo);
+        let r = crate::steps::take_aid(rec, todo);
         let b = r.aid;
         if crate::same::same_aid(rec, a, b) {
             return true;
@@ -52,7 +52,7 @@ pub fn has_row(rec: &[u8], a: Aid, t: Tokens, of: Items) -> bool
 {
     let mut todo = of;
     while 0 < todo.count {
-        let r = crate::rows::take_row(rec, todo);
+        let r = crate::steps::take_row(rec, todo);
         let b = r.other;
         let u = r.tokens;
         if crate::same::same_row(rec, a, t, b, u) {
@@ -70,7 +70,7 @@ fn tokens_proper(rec: &[u8], of: Items) -> bool
 {
     let mut todo = of;
     while 0 < todo.count {
-        let r = crate::rows::take_tokens(rec, todo);
+        let r = crate::steps::take_tokens(rec, todo);
         let t = r.tokens;
         let rest = r.rest;
         if has_tokens(rec, t, rest) {
@@ -88,7 +88,7 @@ fn callers_proper(rec: &[u8], own: Aid, of: Items) -> bool
 {
     let mut todo = of;
     while 0 < todo.count {
-        let r = crate::rows::take_aid(rec, todo);
+        let r = crate::steps::take_aid(rec, todo);
         let b = r.aid;
         let rest = r.rest;
         if crate::same::same_aid(rec, b, own) {
@@ -109,7 +109,7 @@ fn rows_proper(rec: &[u8], own: Aid, of: Items) -> bool
 {
     let mut todo = of;
     while 0 < todo.count {
-        let r = crate::rows::take_row(rec, todo);
+        let r = crate::steps::take_row(rec, todo);
         let b = r.other;
         let t = r.tokens;
         let rest = r.rest;
@@ -131,7 +131,7 @@ fn all_called(rec: &[u8], needs: Items, calls: Items) -> bool
 {
     let mut todo = needs;
     while 0 < todo.count {
-        let r = crate::rows::take_row(rec, todo);
+        let r = crate::steps::take_row(rec, todo);
         let b = r.other;
         let t = r.tokens;
         if has_row(rec, b, t, calls) {
@@ -150,7 +150,7 @@ fn all_provided(rec: &[u8], grants: Items, provides: Items) -> bool
 {
     let mut todo = grants;
     while 0 < todo.count {
-        let r = crate::rows::take_row(rec, todo);
+        let r = crate::steps::take_row(rec, todo);
         let t = r.tokens;
         if has_tokens(rec, t, provides) {
             todo = r.rest;

@@ -12,14 +12,7 @@ pub fn same_bytes(a: &[u8], b: &[u8]) -> bool
     if a.len() != b.len() {
         return false;
     }
-    let mut i = 0;
-    while i < a.len() {
-        if a[i] != b[i] {
-            return false;
-        }
-        i += 1;
-    }
-    true
+    rows::same_at(a, 0, b)
 }
 
 // Two AIDs of one record.
@@ -27,11 +20,9 @@ pub fn same_aid(rec: &[u8], a: Aid, b: Aid) -> bool
     requires { ⌜ AidFits (now rec) a × AidFits (now rec) b ⌝ }
     ensures { λ r. ⌜ r ≡ eqAid (aidIn (now (rec .entry)) a) (aidIn (now (rec .entry)) b) ⌝ }
 {
-    let p = a.at;
-    let p_end = p + a.len;
-    let q = b.at;
-    let q_end = q + b.len;
-    same_bytes(&rec[p..p_end], &rec[q..q_end])
+    let p = crate::aid_bytes(rec, a);
+    let q = crate::aid_bytes(rec, b);
+    same_bytes(p, q)
 }
 
 pub fn same_tokens(t: Tokens, u: Tokens) -> bool

@@ -1,47 +1,54 @@
--- A loop that compares: bytes from an index on against those of a list.
-use Prim.Native.Nat.{ℕ, suc, _+_, _≤_, _<_}
-use native.Mathlib.Numerals.{add-one}
+-- A loop that compares, from the back: bytes from an index on against those of a list.
+use Prim.Native.Nat.{ℕ, suc, _+_, _-_, _≤_, _<_}
 use native.Mathlib.Omega.{arith}
-use mathlib.Core.Path.{_≡_, refl, sym, _∙_}
+use mathlib.Core.Path.{_≡_, refl, sym, ap, ap₂, _∙_, subst}
 use mathlib.Core.Bool.{true, false, _&&_}
 use mathlib.Core.List.{List}
 use lib.Dec.{eqb}
 use lib.ListN.{length, getD, drop, drop-of-length-le}
 use lib.Seq.{drop-cons}
-use borrow.Author.Tests.{eq-eqb, ne-eqb}
+use borrow.Author.Tests.{eq-eqb}
 use Rattle.policy.specs.Lists.{eqBytes}
+use Rattle.policy.proofs.Sets.{T-false, eqBytes→}
 use Rattle.rows.specs.Area.{part}
 use Rattle.rows.proofs.Over.{length-part, getD-part}
 
--- the first j bytes are the same
+-- the bytes from j on are the same
 pub record Alike (a : List ℕ) (at : ℕ) (b : List ℕ) (j : ℕ) : Type 0 where
   pub room : at + length b ≤ length a
   pub within : j ≤ length b
-  pub is : eqBytes (part at (length b) a) b ≡ eqBytes (drop j (part at (length b) a)) (drop j b)
+  pub is : eqBytes (drop j (part at (length b) a)) (drop j b) ≡ true
 
-pub alike-none : (a : List ℕ) (at : ℕ) (b : List ℕ) → at + length b ≤ length a → Alike a at b 0
-alike-none a at b h = record { room = h; within = omega arith; is = refl }
-
-module _ {a : List ℕ} {at : ℕ} {b : List ℕ} {j : ℕ} (s : Alike a at b j) where
+module _ (a : List ℕ) (at : ℕ) (b : List ℕ) (room : at + length b ≤ length a) where
   abbrev p : List ℕ
   p = part at (length b) a
 
   p-length : length p ≡ length b
-  p-length = length-part at (length b) a (s .room)
+  p-length = length-part at (length b) a room
 
-  -- byte j, and the rest
-  turn : j < length b → eqBytes p b ≡ eqb (getD a (at + j) 0) (getD b j 0) && eqBytes (drop (suc j) p) (drop (suc j) b)
-  turn h =
-      let i : j < length p = omega (arith, p-length) in
-      s .is ∙ rw (drop-cons p j 0 i, drop-cons b j 0 h, getD-part at (length b) a j h)
+  pub alike-none : Alike a at b (length b)
+  alike-none =
+      let h : length p ≤ length b = omega (arith, p-length) in
+      let i : length b ≤ length b = omega arith in
+      record { room = room; within = i; is = rw (drop-of-length-le p h, drop-of-length-le b i) }
 
-  pub alike-on : j < length b → getD a (at + j) 0 ≡ getD b j 0 → Alike a at b (j + 1)
-  alike-on h e = record { room = s .room; within = omega arith; is = turn h ∙ rw (eq-eqb (getD a (at + j) 0) (getD b j 0) e, add-one) }
+  pub alike-not : (k : ℕ) → k < length b → (getD a (at + k) 0 ≡ getD b k 0 → ⊥) → false ≡ eqBytes p b
+  alike-not k h e = sym (T-false (eqBytes p b) (λ t. e (sym (getD-part at (length b) a k h) ∙ ap (λ (z : List ℕ). getD z k 0) (eqBytes→ p b t))))
 
-  pub alike-not : j < length b → (getD a (at + j) 0 ≡ getD b j 0 → ⊥) → false ≡ eqBytes p b
-  alike-not h e = sym (turn h ∙ rw (ne-eqb (getD a (at + j) 0) (getD b j 0) e))
+  -- byte k, and the rest
+  back : (k : ℕ) → k < length b → eqBytes (drop (suc k) p) (drop (suc k) b) ≡ true → getD a (at + k) 0 ≡ getD b k 0 → eqBytes (drop k p) (drop k b) ≡ true
+  back k h q e =
+      rw (drop-cons p k 0 (omega (arith, p-length)), drop-cons b k 0 h, getD-part at (length b) a k h)
+      (ap₂ _&&_ (eq-eqb (getD a (at + k) 0) (getD b k 0) e) q)
 
-  pub alike-all : length b ≤ j → true ≡ eqBytes p b
-  alike-all h =
-      let i : length p ≤ j = omega (arith, p-length) in
-      sym (s .is ∙ rw (drop-of-length-le p i, drop-of-length-le b h))
+pub alike-on : {a : List ℕ} {at : ℕ} {b : List ℕ} {j : ℕ} (s : Alike a at b j) → 0 < j → getD a (at + (j - 1)) 0 ≡ getD b (j - 1) 0 → Alike a at b (j - 1)
+alike-on {a} {at} {b} {j} s h e =
+    let q : j ≡ suc (j - 1) = omega arith in
+    record {
+      room = s .room;
+      within = omega (arith, s .within);
+      is = back a at b (s .room) (j - 1) (omega (arith, s .within)) (subst (λ (z : ℕ). eqBytes (drop z (part at (length b) a)) (drop z b) ≡ true) q (s .is)) e;
+    }
+
+pub alike-all : {a : List ℕ} {at : ℕ} {b : List ℕ} {j : ℕ} (s : Alike a at b j) → (0 < j → ⊥) → true ≡ eqBytes (part at (length b) a) b
+alike-all {a} {at} {b} {j} s h = let q : j ≡ 0 = omega arith in sym (subst (λ (z : ℕ). eqBytes (drop z (part at (length b) a)) (drop z b) ≡ true) q (s .is))

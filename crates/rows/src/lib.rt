@@ -5,12 +5,14 @@ ghost use lib.ListN.{length, getD, replicate};
 ghost use Rattle.policy.specs.Lists.{eqBytes, flat};
 ghost use Rattle.rows.specs.Area.{part, over, rowsIn, IsArea, HasRoom, keepRows, appended, dropped};
 
-// Whether the bytes of a from index at on are those of b.
+// Whether the bytes of a from index at on are those of b. Most that differ do in the last one, so it goes from the back.
 pub fn same_at(a: &[u8], at: usize, b: &[u8]) -> bool
     requires { ⌜ at + length (now b) ≤ length (now a) ⌝ }
     ensures { λ r. ⌜ r ≡ eqBytes (part at (length (now (b .entry))) (now (a .entry))) (now (b .entry)) ⌝ }
 {
-    for j in 0..b.len() {
+    let mut j = b.len();
+    while 0 < j {
+        j -= 1;
         if a[at + j] != b[j] {
             return false;
         }

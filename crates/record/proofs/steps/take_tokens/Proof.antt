@@ -1,8 +1,8 @@
--- `record::rows::take_tokens` meets its contract.
+-- `record::steps::take_tokens` meets its contract.
 use Rattle.record.proofs.Taken.{tokens-inside, uncons-tokens}
 use borrow.Author.Needs.{needs}
-use Rattle.record.proofs.rows.take_tokens.Statement.{statement}
-use Rattle.record.proofs.rows.take_tokens.Tie as tie
+use Rattle.record.proofs.steps.take_tokens.Statement.{statement}
+use Rattle.record.proofs.steps.take_tokens.Tie as tie
 
 tokens-at-requires : tie.Need-tokens-at-requires
 tokens-at-requires c κs = tokens-inside (c .before .pre .0) (c .before .pre .1)

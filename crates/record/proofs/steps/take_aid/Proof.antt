@@ -1,11 +1,11 @@
--- `record::rows::take_aid` meets its contract.
+-- `record::steps::take_aid` meets its contract.
 use native.Mathlib.Omega.{arith}
 use denote.Ref.{now}
 use Rattle.record.proofs.Places.{AidHere, aid-here}
 use Rattle.record.proofs.Taken.{first-good, uncons-aid}
 use borrow.Author.Needs.{needs}
-use Rattle.record.proofs.rows.take_aid.Statement.{statement}
-use Rattle.record.proofs.rows.take_aid.Tie as tie
+use Rattle.record.proofs.steps.take_aid.Statement.{statement}
+use Rattle.record.proofs.steps.take_aid.Tie as tie
 
 here : (c : tie.Start) → AidHere (c .args .items .at) (now (c .args .rec))
 here c = aid-here (c .args .items .at) (now (c .args .rec)) (first-good (c .pre .0) (c .pre .1))

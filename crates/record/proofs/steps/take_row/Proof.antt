@@ -1,8 +1,8 @@
--- `record::rows::take_row` meets its contract: the row that stands first, and the rows after it.
+-- `record::steps::take_row` meets its contract: the row that stands first, and the rows after it.
 use borrow.Author.Needs.{needs}
 use Rattle.record.proofs.Taken.{first-good, uncons-row}
-use Rattle.record.proofs.rows.take_row.Statement.{statement}
-use Rattle.record.proofs.rows.take_row.Tie as tie
+use Rattle.record.proofs.steps.take_row.Statement.{statement}
+use Rattle.record.proofs.steps.take_row.Tie as tie
 
 sub-left : tie.Need-sub-left
 sub-left c = search needs
