@@ -13,21 +13,23 @@ use lib.Seq.{drop-cons}
 use native.Mathlib.Numerals.{add-one}
 use mir.Val.{boolByte}
 use Rattle.policy.specs.Lists.{implies, every, exists, keep, isSome}
-use Rattle.policy.specs.Contract.{Aid as Bytes}
+use Rattle.policy.specs.Contract.{Aid as Bytes, eqAid}
 use Rattle.policy.specs.Layout.{Layout}
 use Rattle.policy.specs.Record.{Reader}
-use Rattle.policy.specs.Tables.{Tables, decode}
+use Rattle.policy.specs.Tables.{Tables, Unmet, bit, decode}
 use Rattle.policy.specs.Lookup.{numberOf}
 use Rattle.policy.specs.ShortCheck.{notInstalled}
 use Rattle.policy.proofs.Sets.{T-eq, T-true, T-false, false-T}
 use Rattle.policy.specs.Sound.{sound}
 use Rattle.policy.proofs.SoundFacts.{sound-formed}
-use Rattle.image.specs.Read.{numberOr, noUnmet, unmetRow}
+use Rattle.image.specs.Read.{maskOf, numberOr, noUnmet, unmetRow}
+use Rattle.image.proofs.Masks.{mask-bit}
 use Rattle.image.proofs.Numbers.{package-none, package-some}
 use Rattle.record.specs.Meaning.{aidIn, itemsIn, Uncons}
 use Rattle.record.specs.declared.Aid.{Aid}
 use Rattle.record.specs.declared.Items.{Items}
 use Rattle.record.proofs.Loops.{Todo, todo-next, todo-cons}
+use Rattle.engine.specs.Services.{byCallers}
 
 -- the part of the record that an AID is
 pub part-aid : (s : List ℕ) (a : Aid) → take (a .at + a .len - a .at) (drop (a .at) s) ≡ aidIn s a
@@ -53,6 +55,14 @@ not-asking true b x e h = absurd (false-T (sym h) tt)
 pub asking-by : (r b x q : Bool) → r ≡ b → not r ≡ false → q ≡ x → q ≡ implies b x
 asking-by true b x q e h p = p ∙ ap (λ (z : Bool). not z || x) e
 asking-by false b x q e h p = absurd (false-T h tt)
+
+-- a row that a mask names
+pub named : {A : Type 0} (f : A → Bool) (l : List A) (m r : ℕ) (d : A) → m ≡ maskOf f l → r < length l → bit m r ≡ f (getD l r d)
+named f l m r d e h = ap (λ (x : ℕ). bit x r) e ∙ mask-bit f l r d h
+
+pub row-by : (t : Tables) (l : List Bytes) (f : Unmet → Bool) (m r : ℕ) (b : Bool) → m ≡ maskOf f (t .unmet) → r < length (t .unmet)
+    → b ≡ implies (bit m r) (exists (eqAid (t .aid (unmetRow t r .caller))) l) → b ≡ byCallers t l f (unmetRow t r)
+row-by t l f m r b e h q = q ∙ ap (λ (z : Bool). implies z (exists (eqAid (t .aid (unmetRow t r .caller))) l)) (named f (t .unmet) m r noUnmet e h)
 
 -- ---- a loop over the rows of a list: those from r on decide
 module _ {A : Type 0} (f : A → Bool) (l : List A) (d : A) where

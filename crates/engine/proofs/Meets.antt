@@ -13,20 +13,20 @@ use Rattle.policy.specs.Lists.{keep, isSome}
 use Rattle.policy.specs.Record.{aid}
 use Rattle.policy.specs.ShortCheck.{count, notInstalled}
 use Rattle.policy.specs.Layout.{Layout}
-use Rattle.policy.specs.Tables.{Tables, Unmet, decode}
+use Rattle.policy.specs.Tables.{Tables, Unmet, bit, decode}
 use Rattle.policy.specs.Lookup.{numberOf}
 use Rattle.policy.specs.Draft.{put3, withCalls, withGrants, addGrantAt}
 use Rattle.policy.proofs.Sets.{false-T, length-snoc}
 use Rattle.image.specs.Laid.{Laid, withWaiting}
 use Rattle.image.specs.Wrote.{Wrote}
-use Rattle.image.specs.Read.{numberOr, noUnmet, unmetRow}
+use Rattle.image.specs.Read.{maskOf, numberOr, noUnmet, unmetRow}
 use Rattle.image.proofs.Numbers.{package-none, package-some}
 use Rattle.record.specs.Meaning.{AidFits, itemsIn, Uncons}
 use Rattle.record.specs.declared.Items.{Items}
 use Rattle.record.proofs.Loops.{Todo, todo-end, todo-next}
 use Rattle.record.specs.declared.Aid.{Aid as Place}
 use Rattle.engine.specs.Services.{metOne, met, CallersIn, grantedTo}
-use Rattle.engine.proofs.Callers.{in-row}
+use Rattle.engine.proofs.Callers.{in-row, named}
 
 module _ (L : Layout) (f : Unmet → Bool) (j k : ℕ) (img : List ℕ) where
   abbrev t : Tables
@@ -43,36 +43,37 @@ module _ (L : Layout) (f : Unmet → Bool) (j k : ℕ) (img : List ℕ) where
       (subst (λ (m : ℕ). Wrote L img′ (withCalls (put3 m j k true (t .calls)) (t .unmet) t)) q w)
   is-met false u i e n q w = absurd (false-T n tt)
 
--- ---- a loop over them: those from r on are still to be met
-pub record Meeting (L : Layout) (f : Unmet → Bool) (j k : ℕ) (t₀ : Tables) (img : List ℕ) (r : ℕ) : Type 0 where
+-- ---- a loop over them: those from r on that the mask m names are still to be met
+pub record Meeting (L : Layout) (m j k : ℕ) (t₀ : Tables) (img : List ℕ) (r : ℕ) : Type 0 where
   pub laid : Laid L img
   pub rows : decode L img .unmet ≡ t₀ .unmet
-  pub rest : met f j k (drop r (t₀ .unmet)) (decode L img) ≡ met f j k (t₀ .unmet) t₀
+  pub rest : (f : Unmet → Bool) → m ≡ maskOf f (t₀ .unmet) → met f j k (drop r (t₀ .unmet)) (decode L img) ≡ met f j k (t₀ .unmet) t₀
 
-module _ (L : Layout) (f : Unmet → Bool) (j k : ℕ) (t₀ : Tables) {img : List ℕ} {r : ℕ} (m : Meeting L f j k t₀ img r) where
-  pub meeting-next : {img′ : List ℕ} → r < length (t₀ .unmet) → Wrote L img′ (metOne f j k (unmetRow (decode L img) r) (decode L img)) → Meeting L f j k t₀ img′ (r + 1)
+module _ (L : Layout) (m j k : ℕ) (t₀ : Tables) {img : List ℕ} {r : ℕ} (so : Meeting L m j k t₀ img r) where
+  pub meeting-next : {img′ : List ℕ} → r < length (t₀ .unmet) → Wrote L img′ (metOne (λ _. bit m r) j k (unmetRow (decode L img) r) (decode L img)) → Meeting L m j k t₀ img′ (r + 1)
   meeting-next {img′} h w = record {
     laid = w .laid;
-    rows = ap (λ (v : Tables). v .unmet) (w .tables) ∙ m .rows;
-    rest = ap (met f j k (drop (r + 1) (t₀ .unmet))) (w .tables)
-        ∙ ap (λ (l : List Unmet). met f j k (getD l r noUnmet ∷ drop (r + 1) (t₀ .unmet)) (decode L img)) (m .rows)
+    rows = ap (λ (v : Tables). v .unmet) (w .tables) ∙ so .rows;
+    rest = λ f e. ap (met f j k (drop (r + 1) (t₀ .unmet))) (w .tables)
+        ∙ ap (λ (l : List Unmet). met f j k (drop (r + 1) (t₀ .unmet)) (metOne (λ _. bit m r) j k (getD l r noUnmet) (decode L img))) (so .rows)
+        ∙ ap (λ (b : Bool). met f j k (drop (r + 1) (t₀ .unmet)) (metOne (λ _. b) j k (getD (t₀ .unmet) r noUnmet) (decode L img))) (named f (t₀ .unmet) m r noUnmet e h)
         ∙ ap (λ (l : List Unmet). met f j k l (decode L img)) (sym here)
-        ∙ m .rest;
+        ∙ so .rest f e;
   }
     where
       here : drop r (t₀ .unmet) ≡ getD (t₀ .unmet) r noUnmet ∷ drop (r + 1) (t₀ .unmet)
       here = rw (add-one r) (drop-cons (t₀ .unmet) r noUnmet h)
 
   pub meeting-inside : r < length (t₀ .unmet) → r < length (decode L img .unmet)
-  meeting-inside h = subst (λ (l : List Unmet). r < length l) (sym (m .rows)) h
+  meeting-inside h = subst (λ (l : List Unmet). r < length l) (sym (so .rows)) h
 
   pub meeting-caller : CallersIn L (t₀ .unmet) → r < length (t₀ .unmet) → unmetRow (decode L img) r .caller < L .packages
-  meeting-caller by h = subst (λ (l : List Unmet). getD l r noUnmet .caller < L .packages) (sym (m .rows)) (by (getD (t₀ .unmet) r noUnmet) (in-row (t₀ .unmet) r noUnmet h))
+  meeting-caller by h = subst (λ (l : List Unmet). getD l r noUnmet .caller < L .packages) (sym (so .rows)) (by (getD (t₀ .unmet) r noUnmet) (in-row (t₀ .unmet) r noUnmet h))
 
-  pub meeting-end : length (t₀ .unmet) ≤ r → Wrote L img (met f j k (t₀ .unmet) t₀)
-  meeting-end h = record {
-    laid = m .laid;
-    tables = ap (λ (l : List Unmet). met f j k l (decode L img)) (sym (drop-of-length-le (t₀ .unmet) {i = r} h)) ∙ m .rest;
+  pub meeting-end : length (t₀ .unmet) ≤ r → (f : Unmet → Bool) → m ≡ maskOf f (t₀ .unmet) → Wrote L img (met f j k (t₀ .unmet) t₀)
+  meeting-end h f e = record {
+    laid = so .laid;
+    tables = ap (λ (l : List Unmet). met f j k l (decode L img)) (sym (drop-of-length-le (t₀ .unmet) {i = r} h)) ∙ so .rest f e;
   }
 
 -- ---- one grant

@@ -1,5 +1,6 @@
 -- Kind 3 by what is found in the tables: a plan, and the outcome that it comes to.
 use Prim.Native.Nat.{ℕ, _+_, _<_}
+use mathlib.Core.Path.{_≡_}
 use mathlib.Core.Bool.{Bool, true, not, _&&_, cond}
 use mathlib.Core.List.{List, [], _∷_}
 use mathlib.Core.List.{List·Memᴰ as In}
@@ -12,12 +13,18 @@ use Rattle.policy.specs.Lookup.{numberOf, serviceOf, freeService}
 use Rattle.policy.specs.Draft.{put2, put3, withCalls, addGrantAt}
 use Rattle.policy.specs.ShortCheck.{count, fits, notInstalled}
 use Rattle.policy.specs.Judge.{Out, refusal}
+use Rattle.image.specs.Read.{maskOf}
 use Rattle.engine.specs.declared.services.Adding.{Adding}
 use Rattle.engine.specs.declared.services.Adding.the-variants.{Refuse, Add}
 
 -- an unmet call asks for the service of the AID a with tokens s
 abbrev pub asks : Aid → Tok → Unmet → Bool
 asks a s u = eqAid (u .callee) a && eqTok (u .tok) s
+
+-- the mask m names the rows that pass a test
+pub record Named (m : ℕ) (l : List Unmet) : Type 0 where
+  pub by : Unmet → Bool
+  pub is : m ≡ maskOf by l
 
 -- ---- the writes, one after another
 -- the unmet calls of l that pass are bits on service k of package j
@@ -49,6 +56,10 @@ opened j k s t = record {
   waiting = t .waiting;
 }
 
+-- an unmet call that passes f is by one of the callers l
+abbrev pub byCallers : Tables → List Aid → (Unmet → Bool) → Unmet → Bool
+byCallers t l f u = implies (f u) (exists (eqAid (t .aid (u .caller))) l)
+
 module _ (L : Layout) where
   -- service k of package j is granted to the AIDs of l
   abbrev pub grantedTo : ℕ → ℕ → List Aid → Tables → Tables
@@ -66,7 +77,7 @@ module _ (L : Layout) where
   module _ (t : Tables) (a : Aid) (s : Tok) (l : List Aid) where
     -- an unmet call on the service is by one of the callers
     abbrev pub rowGranted : Unmet → Bool
-    rowGranted u = implies (asks a s u) (exists (eqAid (t .aid (u .caller))) l)
+    rowGranted = byCallers t l (asks a s)
 
     abbrev pub addingPlan : Adding
     addingPlan =

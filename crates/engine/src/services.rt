@@ -1,13 +1,14 @@
 // Kind 3: a service with its grants. Unmet calls on it become bits; a grant waits where its caller is not installed.
 ghost use mathlib.Core.Path.{_≡_};
+ghost use mathlib.Core.Bool.{Bool};
 ghost use mathlib.Core.Option.{none};
 ghost use Prim.Native.Nat.{_+_, _≤_, _<_};
 ghost use lib.Dec.{T, leb};
 ghost use lib.ListN.{length};
-ghost use Rattle.policy.specs.Lists.{every, exists};
-ghost use Rattle.policy.specs.Contract.{eqAid};
+ghost use Rattle.policy.specs.Lists.{implies, every, exists};
+ghost use Rattle.policy.specs.Contract.{Aid as Bytes, eqAid};
 ghost use Rattle.policy.specs.Record.{aid, addService};
-ghost use Rattle.policy.specs.Tables.{decode};
+ghost use Rattle.policy.specs.Tables.{Unmet, bit, decode};
 ghost use Rattle.policy.specs.Lookup.{numberOf};
 ghost use Rattle.policy.specs.Sound.{sound};
 ghost use Rattle.policy.specs.Draft.{addGrantAt};
@@ -16,10 +17,10 @@ ghost use Rattle.policy.specs.Settled.{settled, Gives};
 ghost use Rattle.geometry.specs.Geometry.{layoutOf};
 ghost use Rattle.image.specs.Laid.{Laid};
 ghost use Rattle.image.specs.Wrote.{Wrote};
-ghost use Rattle.image.specs.Read.{numberOr, tokens, unmetRow};
+ghost use Rattle.image.specs.Read.{maskOf, numberOr, tokens, unmetRow};
 ghost use Rattle.record.specs.Meaning.{AidFits, Stands, aidIn, itemsIn};
 ghost use Rattle.engine.specs.Asked.{Asked};
-ghost use Rattle.engine.specs.Services.{asks, metOne, met, CallersIn, opened, grantedTo, added, rowGranted, addingPlan};
+ghost use Rattle.engine.specs.Services.{asks, Named, metOne, met, CallersIn, opened, grantedTo, added, byCallers, addingPlan};
 use crate::Verdict;
 use geometry::Card;
 use geometry::Table;
@@ -88,48 +89,39 @@ fn is_among(img: &[u8], c: Card, n: usize, rec: &[u8], callers: Items) -> bool
     false
 }
 
-// Whether unmet call r, if it asks for the new service, is by one of the callers.
-fn row_granted(
-    img: &[u8],
-    c: Card,
-    r: usize,
-    own: &[u8],
-    interface: u8,
-    method: u8,
-    rec: &[u8],
-    callers: Items,
-) -> bool
+// Bit r of the mask is set.
+pub fn has_row(mask: u32, r: usize) -> bool
+    requires { ⌜ r < 32 ⌝ }
+    ensures { λ b. ⌜ b ≡ bit mask r ⌝ }
+{
+    (mask >> r) & 1 == 1
+}
+
+// Whether unmet call r, if the mask names it, is by one of the callers.
+fn row_granted(img: &[u8], c: Card, asking: u32, r: usize, rec: &[u8], callers: Items) -> bool
     requires is_sound { ⌜ T (sound (layoutOf c) (now img)) ⌝ }
     requires inside { ⌜ r < length (decode (layoutOf c) (now img) .unmet) ⌝ }
     requires stands { ⌜ Stands aid (now rec) callers ⌝ }
-    ensures { λ b. ⌜ b ≡ rowGranted (layoutOf c) (decode (layoutOf c) (now (img .entry))) (now (own .entry)) (tokens interface method)
-        (itemsIn aid (now (rec .entry)) callers) (unmetRow (decode (layoutOf c) (now (img .entry))) r) ⌝ }
+    ensures { λ b. ⌜ b ≡ implies (bit asking r) (exists (eqAid (decode (layoutOf c) (now (img .entry)) .aid (unmetRow (decode (layoutOf c) (now (img .entry))) r .caller)))
+        (itemsIn aid (now (rec .entry)) callers)) ⌝ }
 {
-    if !image::lists::asks_for(img, c, r, own, interface, method) {
+    if !has_row(asking, r) {
         return true;
     }
     let n = image::lists::unmet_caller(img, c, r);
     is_among(img, c, n, rec, callers)
 }
 
-// Whether each unmet call on the new service is by one of the callers.
-fn all_granted(
-    img: &[u8],
-    c: Card,
-    own: &[u8],
-    interface: u8,
-    method: u8,
-    rec: &[u8],
-    callers: Items,
-) -> bool
+// Whether each unmet call of the mask is by one of the callers.
+fn all_granted(img: &[u8], c: Card, asking: u32, rec: &[u8], callers: Items) -> bool
     requires is_sound { ⌜ T (sound (layoutOf c) (now img)) ⌝ }
     requires stands { ⌜ Stands aid (now rec) callers ⌝ }
-    ensures { λ b. ⌜ b ≡ every (rowGranted (layoutOf c) (decode (layoutOf c) (now (img .entry))) (now (own .entry)) (tokens interface method)
-        (itemsIn aid (now (rec .entry)) callers)) (decode (layoutOf c) (now (img .entry)) .unmet) ⌝ }
+    ensures { λ b. ⌜ ((f : Unmet → Bool) → asking ≡ maskOf f (decode (layoutOf c) (now (img .entry)) .unmet)
+        → b ≡ every (byCallers (decode (layoutOf c) (now (img .entry))) (itemsIn aid (now (rec .entry)) callers) f) (decode (layoutOf c) (now (img .entry)) .unmet)) ⌝ }
 {
     let n = image::lists::unmet_count(img, c);
     for r in 0..n {
-        if !row_granted(img, c, r, own, interface, method, rec, callers) {
+        if !row_granted(img, c, asking, r, rec, callers) {
             return false;
         }
     }
@@ -160,10 +152,11 @@ fn callers_fit(img: &[u8], c: Card, rec: &[u8], callers: Items) -> bool
     true
 }
 
-// What kind 3 comes to.
+// What kind 3 comes to; the mask names the unmet calls on the new service.
 fn plan_adding(
     img: &[u8],
     c: Card,
+    asking: u32,
     own: &[u8],
     interface: u8,
     method: u8,
@@ -172,6 +165,7 @@ fn plan_adding(
 ) -> Adding
     requires is_sound { ⌜ T (sound (layoutOf c) (now img)) ⌝ }
     requires stands { ⌜ Stands aid (now rec) callers ⌝ }
+    requires asked { ⌜ asking ≡ maskOf (asks (now own) (tokens interface method)) (decode (layoutOf c) (now img) .unmet) ⌝ }
     ensures { λ r. ⌜ r ≡ addingPlan (layoutOf c) (decode (layoutOf c) (now (img .entry))) (now (own .entry)) (tokens interface method)
         (itemsIn aid (now (rec .entry)) callers) ⌝ }
 {
@@ -189,7 +183,7 @@ fn plan_adding(
     if k >= m {
         return Adding::Refuse { cause: 7 };
     }
-    if !all_granted(img, c, own, interface, method, rec, callers) {
+    if !all_granted(img, c, asking, rec, callers) {
         return Adding::Refuse { cause: 8 };
     }
     if !callers_fit(img, c, rec, callers) {
@@ -201,28 +195,34 @@ fn plan_adding(
     }
 }
 
-// Unmet call r, if it asks for service k of package j, becomes a call bit.
-fn meet_call(
-    img: &mut [u8],
-    c: Card,
-    r: usize,
-    own: &[u8],
-    interface: u8,
-    method: u8,
-    j: usize,
-    k: usize,
-)
+// Unmet call r, if the mask names it, becomes a call bit on service k of package j.
+fn meet_call(img: &mut [u8], c: Card, asking: u32, r: usize, j: usize, k: usize)
     requires laid { ⌜ Laid (layoutOf c) (now img) ⌝ }
     requires inside { ⌜ r < length (decode (layoutOf c) (now img) .unmet) ⌝ }
     requires numbers { ⌜ (unmetRow (decode (layoutOf c) (now img)) r .caller < layoutOf c .packages) × (j < layoutOf c .packages) × (k < layoutOf c .services) ⌝ }
-    ensures { λ _. ⌜ Wrote (layoutOf c) (now (img .exit)) (metOne (asks (now (own .entry)) (tokens interface method)) j k
-        (unmetRow (decode (layoutOf c) (now (img .entry))) r) (decode (layoutOf c) (now (img .entry)))) ⌝ }
+    ensures { λ _. ⌜ Wrote (layoutOf c) (now (img .exit)) (metOne (λ _. bit asking r) j k (unmetRow (decode (layoutOf c) (now (img .entry))) r)
+        (decode (layoutOf c) (now (img .entry)))) ⌝ }
 {
-    if !image::lists::asks_for(img, c, r, own, interface, method) {
+    if !has_row(asking, r) {
         return;
     }
     let i = image::lists::unmet_caller(img, c, r);
     image::write::set_bit(img, c, Table::Calls, i, j, k);
+}
+
+// The unmet calls of the mask become call bits on service k of package j.
+fn meet_rows(img: &mut [u8], c: Card, asking: u32, j: usize, k: usize)
+    requires laid { ⌜ Laid (layoutOf c) (now img) ⌝ }
+    requires by { ⌜ CallersIn (layoutOf c) (decode (layoutOf c) (now img) .unmet) ⌝ }
+    requires named { ⌜ Named asking (decode (layoutOf c) (now img) .unmet) ⌝ }
+    requires numbers { ⌜ (j < layoutOf c .packages) × (k < layoutOf c .services) ⌝ }
+    ensures { λ _. ⌜ ((f : Unmet → Bool) → asking ≡ maskOf f (decode (layoutOf c) (now (img .entry)) .unmet)
+        → Wrote (layoutOf c) (now (img .exit)) (met f j k (decode (layoutOf c) (now (img .entry)) .unmet) (decode (layoutOf c) (now (img .entry))))) ⌝ }
+{
+    let n = image::lists::unmet_count(img, c);
+    for r in 0..n {
+        meet_call(img, c, asking, r, j, k);
+    }
 }
 
 // The unmet calls that ask for service k of package j become call bits.
@@ -241,10 +241,8 @@ pub fn meet_calls(
     ensures { λ _. ⌜ Wrote (layoutOf c) (now (img .exit)) (met (asks (now (own .entry)) (tokens interface method)) j k
         (decode (layoutOf c) (now (img .entry)) .unmet) (decode (layoutOf c) (now (img .entry)))) ⌝ }
 {
-    let n = image::lists::unmet_count(img, c);
-    for r in 0..n {
-        meet_call(img, c, r, own, interface, method, j, k);
-    }
+    let asking = image::lists::asking(img, c, own, interface, method);
+    meet_rows(img, c, asking, j, k);
 }
 
 // Package j provides service k with these tokens.
@@ -298,11 +296,11 @@ fn grant_all(img: &mut [u8], c: Card, rec: &[u8], callers: Items, j: usize, k: u
     }
 }
 
-// Service k of package j is on the card: unmet calls on it become bits and leave their list, and the callers are granted it.
+// Service k of package j is on the card: unmet calls of the mask, on it, become bits and leave their list, and the callers are granted it.
 fn serve(
     img: &mut [u8],
     c: Card,
-    own: &[u8],
+    asking: u32,
     interface: u8,
     method: u8,
     rec: &[u8],
@@ -312,16 +310,16 @@ fn serve(
 )
     requires laid { ⌜ Laid (layoutOf c) (now img) ⌝ }
     requires by { ⌜ CallersIn (layoutOf c) (decode (layoutOf c) (now img) .unmet) ⌝ }
+    requires named { ⌜ Named asking (decode (layoutOf c) (now img) .unmet) ⌝ }
     requires stands { ⌜ Stands aid (now rec) callers ⌝ }
     requires numbers { ⌜ (j < layoutOf c .packages) × (k < layoutOf c .services) ⌝ }
     requires room { ⌜ length (decode (layoutOf c) (now img) .waiting)
         + count (notInstalled (layoutOf c) (decode (layoutOf c) (now img))) (itemsIn aid (now rec) callers) ≤ layoutOf c .capacity ⌝ }
-    ensures { λ _. ⌜ Wrote (layoutOf c) (now (img .exit)) (added (layoutOf c) j k (now (own .entry)) (tokens interface method) (itemsIn aid (now (rec .entry)) callers)
-        (decode (layoutOf c) (now (img .entry)))) ⌝ }
+    ensures { λ _. ⌜ ((own : Bytes) → asking ≡ maskOf (asks own (tokens interface method)) (decode (layoutOf c) (now (img .entry)) .unmet)
+        → Wrote (layoutOf c) (now (img .exit)) (added (layoutOf c) j k own (tokens interface method) (itemsIn aid (now (rec .entry)) callers) (decode (layoutOf c) (now (img .entry))))) ⌝ }
 {
-    meet_calls(img, c, own, interface, method, j, k);
-    let mask = image::lists::asking(img, c, own, interface, method);
-    image::write::drop_unmet(img, c, mask);
+    meet_rows(img, c, asking, j, k);
+    image::write::drop_unmet(img, c, asking);
     open_service(img, c, j, k, interface, method);
     grant_all(img, c, rec, callers, j, k);
 }
@@ -341,14 +339,15 @@ pub fn add_service(
     ensures { λ r. ⌜ Gives (settled (layoutOf c) (now (img .entry)) (now (own .entry)) (addService (tokens interface method) (itemsIn aid (now (rec .entry)) callers)))
         (r .number) (r .second) (now (img .exit)) ⌝ }
 {
-    let plan = plan_adding(img, c, own, interface, method, rec, callers);
+    let asking = image::lists::asking(img, c, own, interface, method);
+    let plan = plan_adding(img, c, asking, own, interface, method, rec, callers);
     match plan {
         Adding::Refuse { cause } => crate::refused(cause),
         Adding::Add { package, service } => {
             serve(
                 img,
                 c,
-                own,
+                asking,
                 interface,
                 method,
                 rec,

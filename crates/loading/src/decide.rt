@@ -202,14 +202,6 @@ pub fn met_rows(img: &[u8], c: Card, aid: &[u8], rec: &[u8], provides: Items) ->
     mask
 }
 
-// Bit r of the mask is set.
-pub fn has_row(mask: u32, r: usize) -> bool
-    requires { ⌜ r < 32 ⌝ }
-    ensures { λ b. ⌜ b ≡ bit mask r ⌝ }
-{
-    (mask >> r) & 1 == 1
-}
-
 // A grant of the record is what unmet call r of package i needs of the package `aid`.
 fn grant_fits(img: &[u8], c: Card, r: usize, aid: &[u8], rec: &[u8], a: Aid, t: Tokens) -> bool
     requires laid { ⌜ Laid (layoutOf c) (now img) ⌝ }
@@ -263,7 +255,7 @@ fn named_granted(
     requires stands { ⌜ Stands aRow (now rec) grants ⌝ }
     ensures { λ b. ⌜ b ≡ implies (bit met r) (exists (grantFits (layoutOf c) (decode (layoutOf c) (now (img .entry))) (now (aid .entry)) (unmetRow (decode (layoutOf c) (now (img .entry))) r)) (itemsIn aRow (now (rec .entry)) grants)) ⌝ }
 {
-    if !has_row(met, r) {
+    if !engine::services::has_row(met, r) {
         return true;
     }
     row_granted(img, c, r, aid, rec, grants)

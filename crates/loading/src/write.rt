@@ -80,7 +80,7 @@ fn settle_row(img: &mut [u8], c: Card, n: usize, waiting: u32, r: usize)
         × (waitingRow (decode (layoutOf c) (now img)) r .service < layoutOf c .services) × (n < layoutOf c .packages) ⌝ }
     ensures { λ _. ⌜ Wrote (layoutOf c) (now (img .exit)) (dueOne waiting n r (decode (layoutOf c) (now (img .entry)))) ⌝ }
 {
-    if decide::has_row(waiting, r) {
+    if engine::services::has_row(waiting, r) {
         let j = image::lists::waiting_callee(img, c, r);
         let k = image::lists::waiting_service(img, c, r);
         image::write::set_bit(img, c, Table::Grants, j, n, k);

@@ -1,42 +1,49 @@
 -- `engine::services::all_granted` meets its contract. Assumes nothing.
-use Prim.Native.Nat.{_-_, _≤_}
+use Prim.Native.Nat.{_-_, _≤_, _<_}
 use native.Mathlib.Omega.{arith}
 use mathlib.Core.Path.{_≡_, refl}
+use mathlib.Core.Bool.{Bool}
 use lib.ListN.{length, drop}
+use denote.Ref.{now}
 use Rattle.policy.specs.Lists.{every}
 use Rattle.policy.specs.Record.{aid}
-use Rattle.policy.specs.Tables.{decode}
+use Rattle.policy.specs.Tables.{Unmet, decode}
 use Rattle.geometry.specs.Geometry.{layoutOf}
-use Rattle.image.specs.Read.{tokens, noUnmet}
+use Rattle.image.specs.Read.{maskOf, noUnmet}
 use Rattle.image.proofs.Laid.{sound-laid}
 use Rattle.record.specs.Meaning.{itemsIn}
-use Rattle.engine.specs.Services.{rowGranted}
-use Rattle.engine.proofs.Callers.{rows-stop, rows-next, rows-end}
+use Rattle.engine.specs.Services.{byCallers}
+use Rattle.engine.proofs.Callers.{row-by, rows-stop, rows-next, rows-end}
 use borrow.Author.Needs.{needs}
 use Rattle.engine.proofs.services.all_granted.Statement.{statement}
 use Rattle.engine.proofs.services.all_granted.Tie as tie
 
 abbrev Inv-loop : tie.InvT-loop
-Inv-loop img c own interface method rec callers n r₀ r =
-    let f = rowGranted (layoutOf c) (decode (layoutOf c) img) own (tokens interface method) (itemsIn aid rec callers) in
-    (r ≤ length (decode (layoutOf c) img .unmet)) × (every f (drop r (decode (layoutOf c) img .unmet)) ≡ every f (decode (layoutOf c) img .unmet))
+Inv-loop img c asking rec callers n r₀ r =
+    let t = decode (layoutOf c) img in
+    (r ≤ length (t .unmet)) × ((f : Unmet → Bool) → asking ≡ maskOf f (t .unmet)
+    → every (byCallers t (itemsIn aid rec callers) f) (drop r (t .unmet)) ≡ every (byCallers t (itemsIn aid rec callers) f) (t .unmet))
 
 abbrev μ-loop : tie.MeasureT-loop
-μ-loop img c own interface method rec callers n r₀ r = n - r
+μ-loop img c asking rec callers n r₀ r = n - r
 
 unmet-count-requires : tie.Need-unmet-count-requires Inv-loop μ-loop
-unmet-count-requires c κs = let s = c .before .before .before in sound-laid (layoutOf (s .args .c)) (s .pre .0)
+unmet-count-requires c κs = let s = c .before .before in sound-laid (layoutOf (s .args .c)) (s .pre .0)
 
 loop-holds : tie.Need-loop-holds Inv-loop μ-loop
-loop-holds c = (omega arith, refl)
+loop-holds c = (omega arith, λ f e. refl)
 
 row-granted-requires : tie.Need-row-granted-requires Inv-loop μ-loop
-row-granted-requires c κs = let s = c .before .before .before .before .before .before in (s .pre .0, (omega (arith, c .loop-test .taken, c .before .before .unmet-count .ensures), s .pre .1))
+row-granted-requires c κs = let s = c .before .before .before .before .before in (s .pre .0, (omega (arith, c .loop-test .taken, c .before .before .unmet-count .ensures), s .pre .1))
 
 returns : tie.Need-returns Inv-loop μ-loop
-returns c =
+returns c = λ f e.
     let l = c .before .before .before .loop in
-    rows-stop _ _ noUnmet (l .r) _ (omega (arith, c .before .before .loop-test .taken, c .before .before .before .before .unmet-count .ensures)) (l .inv .1) (c .before .row-granted .ensures) (c .if1 .taken)
+    let x = c .before .before .before .before .before .before .before .args in
+    let t = decode (layoutOf (x .c)) (now (x .img)) in
+    let h : l .r < length (t .unmet) = omega (arith, c .before .before .loop-test .taken, c .before .before .before .before .unmet-count .ensures) in
+    rows-stop (byCallers t (itemsIn aid (now (x .rec)) (x .callers)) f) (t .unmet) noUnmet (l .r) _ h (l .inv .1 f e)
+    (row-by t (itemsIn aid (now (x .rec)) (x .callers)) f (x .asking) (l .r) _ e h (c .before .row-granted .ensures)) (c .if1 .taken)
 
 add-r : tie.Need-add-r Inv-loop μ-loop
 add-r c = search needs
@@ -46,13 +53,17 @@ loop-less c = search needs
 
 loop-again : tie.Need-loop-again Inv-loop μ-loop
 loop-again c =
-    let l = c .before .before .before .loop in (
+    let l = c .before .before .before .loop in
+    let x = c .before .before .before .before .before .before .before .args in
+    let t = decode (layoutOf (x .c)) (now (x .img)) in
+    let h : l .r < length (t .unmet) = omega (arith, c .before .before .loop-test .taken, c .before .before .before .before .unmet-count .ensures) in (
       omega (arith, c .before .before .loop-test .taken, c .before .before .before .before .unmet-count .ensures),
-      rows-next _ _ noUnmet (l .r) _ (omega (arith, c .before .before .loop-test .taken, c .before .before .before .before .unmet-count .ensures)) (l .inv .1) (c .before .row-granted .ensures) (c .if1 .left),
+      λ f e. rows-next (byCallers t (itemsIn aid (now (x .rec)) (x .callers)) f) (t .unmet) noUnmet (l .r) _ h (l .inv .1 f e)
+          (row-by t (itemsIn aid (now (x .rec)) (x .callers)) f (x .asking) (l .r) _ e h (c .before .row-granted .ensures)) (c .if1 .left),
     )
 
 returns-2 : tie.Need-returns-2 Inv-loop μ-loop
-returns-2 c = let l = c .before .loop in rows-end _ _ noUnmet (l .r) (omega (arith, c .loop-test .left, c .before .before .unmet-count .ensures)) (l .inv .1)
+returns-2 c = λ f e. let l = c .before .loop in rows-end _ _ noUnmet (l .r) (omega (arith, c .loop-test .left, c .before .before .unmet-count .ensures)) (l .inv .1 f e)
 
 pub all-granted-spec : {M : Type 1} → statement M
 all-granted-spec =

@@ -7,6 +7,7 @@ use Rattle.geometry.specs.Geometry.{layoutOf}
 use Rattle.image.specs.Read.{tokens}
 use Rattle.image.proofs.Laid.{sound-laid}
 use Rattle.record.specs.Meaning.{itemsIn}
+use Rattle.engine.specs.Services.{asks}
 use Rattle.engine.proofs.Added.{plan-absent, plan-had, plan-full, plan-ungranted, plan-crowded, plan-add, off, on}
 use borrow.Author.Needs.{needs}
 use Rattle.engine.proofs.services.plan_adding.Statement.{statement}
@@ -40,16 +41,16 @@ all-granted-requires : tie.Need-all-granted-requires
 all-granted-requires c κs = search needs
 
 returns-4 : tie.Need-returns-4
-returns-4 c = plan-ungranted (layoutOf (c .before .before .before .before .before .before .before .before .before .before .before .before .before .args .c)) (decode (layoutOf (c .before .before .before .before .before .before .before .before .before .before .before .before .before .args .c)) (now (c .before .before .before .before .before .before .before .before .before .before .before .before .before .args .img))) (now (c .before .before .before .before .before .before .before .before .before .before .before .before .before .args .own)) (tokens (c .before .before .before .before .before .before .before .before .before .before .before .before .before .args .interface) (c .before .before .before .before .before .before .before .before .before .before .before .before .before .args .method)) (itemsIn aid (now (c .before .before .before .before .before .before .before .before .before .before .before .before .before .args .rec)) (c .before .before .before .before .before .before .before .before .before .before .before .before .before .args .callers)) _ _ _ (c .before .before .before .before .before .before .before .before .before .packages .ensures) (c .before .before .before .before .before .before .before .before .services .ensures) (c .before .before .before .before .before .before .before .find-package .ensures) (c .before .before .before .before .before .before .if1 .left) _ (c .before .before .before .before .before .find-service .ensures) (c .before .before .before .before .if2 .left) _ (c .before .before .before .free-service .ensures) (c .before .before .if3 .left) _ (c .before .all-granted .ensures) (off _ (c .if4 .taken))
+returns-4 c = plan-ungranted (layoutOf (c .before .before .before .before .before .before .before .before .before .before .before .before .before .args .c)) (decode (layoutOf (c .before .before .before .before .before .before .before .before .before .before .before .before .before .args .c)) (now (c .before .before .before .before .before .before .before .before .before .before .before .before .before .args .img))) (now (c .before .before .before .before .before .before .before .before .before .before .before .before .before .args .own)) (tokens (c .before .before .before .before .before .before .before .before .before .before .before .before .before .args .interface) (c .before .before .before .before .before .before .before .before .before .before .before .before .before .args .method)) (itemsIn aid (now (c .before .before .before .before .before .before .before .before .before .before .before .before .before .args .rec)) (c .before .before .before .before .before .before .before .before .before .before .before .before .before .args .callers)) _ _ _ (c .before .before .before .before .before .before .before .before .before .packages .ensures) (c .before .before .before .before .before .before .before .before .services .ensures) (c .before .before .before .before .before .before .before .find-package .ensures) (c .before .before .before .before .before .before .if1 .left) _ (c .before .before .before .before .before .find-service .ensures) (c .before .before .before .before .if2 .left) _ (c .before .before .before .free-service .ensures) (c .before .before .if3 .left) _ (c .before .all-granted .ensures (asks (now (c .before .before .before .before .before .before .before .before .before .before .before .before .before .args .own)) (tokens (c .before .before .before .before .before .before .before .before .before .before .before .before .before .args .interface) (c .before .before .before .before .before .before .before .before .before .before .before .before .before .args .method))) (c .before .before .before .before .before .before .before .before .before .before .before .before .before .pre .1 .1)) (off _ (c .if4 .taken))
 
 callers-fit-requires : tie.Need-callers-fit-requires
-callers-fit-requires c κs = (sound-laid (layoutOf (c .before .before .before .before .before .before .before .before .before .before .before .before .before .args .c)) (c .before .before .before .before .before .before .before .before .before .before .before .before .before .pre .0), c .before .before .before .before .before .before .before .before .before .before .before .before .before .pre .1)
+callers-fit-requires c κs = (sound-laid (layoutOf (c .before .before .before .before .before .before .before .before .before .before .before .before .before .args .c)) (c .before .before .before .before .before .before .before .before .before .before .before .before .before .pre .0), c .before .before .before .before .before .before .before .before .before .before .before .before .before .pre .1 .0)
 
 returns-5 : tie.Need-returns-5
-returns-5 c = plan-crowded (layoutOf (c .before .before .before .before .before .before .before .before .before .before .before .before .before .before .before .args .c)) (decode (layoutOf (c .before .before .before .before .before .before .before .before .before .before .before .before .before .before .before .args .c)) (now (c .before .before .before .before .before .before .before .before .before .before .before .before .before .before .before .args .img))) (now (c .before .before .before .before .before .before .before .before .before .before .before .before .before .before .before .args .own)) (tokens (c .before .before .before .before .before .before .before .before .before .before .before .before .before .before .before .args .interface) (c .before .before .before .before .before .before .before .before .before .before .before .before .before .before .before .args .method)) (itemsIn aid (now (c .before .before .before .before .before .before .before .before .before .before .before .before .before .before .before .args .rec)) (c .before .before .before .before .before .before .before .before .before .before .before .before .before .before .before .args .callers)) _ _ _ (c .before .before .before .before .before .before .before .before .before .before .before .packages .ensures) (c .before .before .before .before .before .before .before .before .before .before .services .ensures) (c .before .before .before .before .before .before .before .before .before .find-package .ensures) (c .before .before .before .before .before .before .before .before .if1 .left) _ (c .before .before .before .before .before .before .before .find-service .ensures) (c .before .before .before .before .before .before .if2 .left) _ (c .before .before .before .before .before .free-service .ensures) (c .before .before .before .before .if3 .left) _ (c .before .before .before .all-granted .ensures) (on _ (c .before .before .if4 .left)) _ (c .before .callers-fit .ensures) (off _ (c .if5 .taken))
+returns-5 c = plan-crowded (layoutOf (c .before .before .before .before .before .before .before .before .before .before .before .before .before .before .before .args .c)) (decode (layoutOf (c .before .before .before .before .before .before .before .before .before .before .before .before .before .before .before .args .c)) (now (c .before .before .before .before .before .before .before .before .before .before .before .before .before .before .before .args .img))) (now (c .before .before .before .before .before .before .before .before .before .before .before .before .before .before .before .args .own)) (tokens (c .before .before .before .before .before .before .before .before .before .before .before .before .before .before .before .args .interface) (c .before .before .before .before .before .before .before .before .before .before .before .before .before .before .before .args .method)) (itemsIn aid (now (c .before .before .before .before .before .before .before .before .before .before .before .before .before .before .before .args .rec)) (c .before .before .before .before .before .before .before .before .before .before .before .before .before .before .before .args .callers)) _ _ _ (c .before .before .before .before .before .before .before .before .before .before .before .packages .ensures) (c .before .before .before .before .before .before .before .before .before .before .services .ensures) (c .before .before .before .before .before .before .before .before .before .find-package .ensures) (c .before .before .before .before .before .before .before .before .if1 .left) _ (c .before .before .before .before .before .before .before .find-service .ensures) (c .before .before .before .before .before .before .if2 .left) _ (c .before .before .before .before .before .free-service .ensures) (c .before .before .before .before .if3 .left) _ (c .before .before .before .all-granted .ensures (asks (now (c .before .before .before .before .before .before .before .before .before .before .before .before .before .before .before .args .own)) (tokens (c .before .before .before .before .before .before .before .before .before .before .before .before .before .before .before .args .interface) (c .before .before .before .before .before .before .before .before .before .before .before .before .before .before .before .args .method))) (c .before .before .before .before .before .before .before .before .before .before .before .before .before .before .before .pre .1 .1)) (on _ (c .before .before .if4 .left)) _ (c .before .callers-fit .ensures) (off _ (c .if5 .taken))
 
 returns-6 : tie.Need-returns-6
-returns-6 c = plan-add (layoutOf (c .before .before .before .before .before .before .before .before .before .before .before .before .before .before .before .args .c)) (decode (layoutOf (c .before .before .before .before .before .before .before .before .before .before .before .before .before .before .before .args .c)) (now (c .before .before .before .before .before .before .before .before .before .before .before .before .before .before .before .args .img))) (now (c .before .before .before .before .before .before .before .before .before .before .before .before .before .before .before .args .own)) (tokens (c .before .before .before .before .before .before .before .before .before .before .before .before .before .before .before .args .interface) (c .before .before .before .before .before .before .before .before .before .before .before .before .before .before .before .args .method)) (itemsIn aid (now (c .before .before .before .before .before .before .before .before .before .before .before .before .before .before .before .args .rec)) (c .before .before .before .before .before .before .before .before .before .before .before .before .before .before .before .args .callers)) _ _ _ (c .before .before .before .before .before .before .before .before .before .before .before .packages .ensures) (c .before .before .before .before .before .before .before .before .before .before .services .ensures) (c .before .before .before .before .before .before .before .before .before .find-package .ensures) (c .before .before .before .before .before .before .before .before .if1 .left) _ (c .before .before .before .before .before .before .before .find-service .ensures) (c .before .before .before .before .before .before .if2 .left) _ (c .before .before .before .before .before .free-service .ensures) (c .before .before .before .before .if3 .left) _ (c .before .before .before .all-granted .ensures) (on _ (c .before .before .if4 .left)) _ (c .before .callers-fit .ensures) (on _ (c .if5 .left))
+returns-6 c = plan-add (layoutOf (c .before .before .before .before .before .before .before .before .before .before .before .before .before .before .before .args .c)) (decode (layoutOf (c .before .before .before .before .before .before .before .before .before .before .before .before .before .before .before .args .c)) (now (c .before .before .before .before .before .before .before .before .before .before .before .before .before .before .before .args .img))) (now (c .before .before .before .before .before .before .before .before .before .before .before .before .before .before .before .args .own)) (tokens (c .before .before .before .before .before .before .before .before .before .before .before .before .before .before .before .args .interface) (c .before .before .before .before .before .before .before .before .before .before .before .before .before .before .before .args .method)) (itemsIn aid (now (c .before .before .before .before .before .before .before .before .before .before .before .before .before .before .before .args .rec)) (c .before .before .before .before .before .before .before .before .before .before .before .before .before .before .before .args .callers)) _ _ _ (c .before .before .before .before .before .before .before .before .before .before .before .packages .ensures) (c .before .before .before .before .before .before .before .before .before .before .services .ensures) (c .before .before .before .before .before .before .before .before .before .find-package .ensures) (c .before .before .before .before .before .before .before .before .if1 .left) _ (c .before .before .before .before .before .before .before .find-service .ensures) (c .before .before .before .before .before .before .if2 .left) _ (c .before .before .before .before .before .free-service .ensures) (c .before .before .before .before .if3 .left) _ (c .before .before .before .all-granted .ensures (asks (now (c .before .before .before .before .before .before .before .before .before .before .before .before .before .before .before .args .own)) (tokens (c .before .before .before .before .before .before .before .before .before .before .before .before .before .before .before .args .interface) (c .before .before .before .before .before .before .before .before .before .before .before .before .before .before .before .args .method))) (c .before .before .before .before .before .before .before .before .before .before .before .before .before .before .before .pre .1 .1)) (on _ (c .before .before .if4 .left)) _ (c .before .callers-fit .ensures) (on _ (c .if5 .left))
 
 pub plan-adding-spec : {M : Type 1} → statement M
 plan-adding-spec =

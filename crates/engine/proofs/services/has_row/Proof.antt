@@ -1,12 +1,12 @@
--- `loading::decide::has_row` meets its contract.
+-- `engine::services::has_row` meets its contract.
 use borrow.Author.Needs.{needs}
 use mathlib.Core.Path.{ap}
 use Prim.Native.Nat.{ℕ, _/_, _^_}
 use lib.Bits.{and-mask}
 use lib.Dec.{eqb}
 use Rattle.policy.specs.Tables.{bit}
-use Rattle.loading.proofs.decide.has_row.Statement.{statement}
-use Rattle.loading.proofs.decide.has_row.Tie as tie
+use Rattle.engine.proofs.services.has_row.Statement.{statement}
+use Rattle.engine.proofs.services.has_row.Tie as tie
 
 cast-result : tie.Need-cast-result
 cast-result c = search needs
