@@ -12,13 +12,14 @@ pub mod Turns
 pub mod Counts
 pub mod Causes
 pub mod Without
-pub mod Cleared
 pub mod Gone
 pub mod Remove
 pub mod Service
 pub mod Callers
 pub mod Added
+pub mod Marks
 pub mod Settling
+pub mod ItemTurns
 pub mod Meets
 pub mod Opens
 pub mod Serves

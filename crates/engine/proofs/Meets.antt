@@ -27,6 +27,7 @@ use Rattle.record.proofs.Loops.{Todo, todo-end, todo-next}
 use Rattle.record.specs.declared.Aid.{Aid as Place}
 use Rattle.engine.specs.Services.{metOne, met, CallersIn, grantedTo}
 use Rattle.engine.proofs.Callers.{in-row, named}
+use Rattle.engine.proofs.ItemTurns.{Turns, RoomBy, room-here, room-after}
 
 module _ (L : Layout) (f : Unmet → Bool) (j k : ℕ) (img : List ℕ) where
   abbrev t : Tables
@@ -98,45 +99,24 @@ module _ (L : Layout) (t : Tables) (j k : ℕ) (a : Aid) (n i : ℕ) (e : n ≡ 
   grant-waits {img} b h p w = subst (λ (o : Option ℕ). Wrote L img (addGrantAt L t j a k o .tables)) (sym (unknown h))
       (subst (λ (z : Aid). Wrote L img (withWaiting (t .waiting ++ (record { caller = z; callee = j; service = k } ∷ [])) t)) p w)
 
--- ---- the grants, one by one: those of todo are to come, and there is room for them
-pub record Granting (L : Layout) (j k : ℕ) (t₀ : Tables) (all : List Aid) (rec : List ℕ) (img : List ℕ) (todo : Items) : Type 0 where
-  pub laid : Laid L img
-  pub left : Todo aid rec todo (λ l. grantedTo L j k l (decode L img)) (grantedTo L j k all t₀)
-  pub room : length (decode L img .waiting) + count (notInstalled L (decode L img)) (itemsIn aid rec todo) ≤ L .capacity
+-- ---- the grants, one by one; a grant changes no lookup
+module _ (L : Layout) (j k : ℕ) where
+  abbrev pub GrantsAsk : List Aid → Tables → Type 0
+  GrantsAsk l t = length (t .waiting) + count (notInstalled L t) l ≤ L .capacity
 
-module _ (L : Layout) (j k : ℕ) (t : Tables) (x : Aid) (l : List Aid) (h : length (t .waiting) + count (notInstalled L t) (x ∷ l) ≤ L .capacity) where
-  abbrev later : List Aid
-  later = keep (notInstalled L t) l
-
-  abbrev RoomBy : Option ℕ → Type 0
-  RoomBy o = length (t .waiting) + length (cond (not (isSome o)) (x ∷ later) later) ≤ L .capacity
-
-  pub room-here : numberOf L t x ≡ none → length (t .waiting) < L .capacity
-  room-here e = go (subst RoomBy e h)
-    where
-      go : RoomBy none → length (t .waiting) < L .capacity
-      go q = omega (arith, q)
-
-  room-after : (o : Option ℕ) → RoomBy o → length (addGrantAt L t j x k o .tables .waiting) + count (notInstalled L (addGrantAt L t j x k o .tables)) l ≤ L .capacity
+  pub grants-still : (x : Aid) (l : List Aid) (t : Tables) (o : Option ℕ) → RoomBy (numberOf L t) x l (t .waiting) (L .capacity) o → GrantsAsk l (addGrantAt L t j x k o .tables)
   unfolding numberOf
-  room-after none q = subst (λ (n : ℕ). n + length later ≤ L .capacity) (sym (length-snoc (t .waiting) (record { caller = x; callee = j; service = k }))) (omega (arith, q))
-  room-after (some i) q = q
+  grants-still x l t none q = room-after (numberOf L t) x l (t .waiting) (L .capacity) (record { caller = x; callee = j; service = k }) q
+  grants-still x l t (some i) q = q
 
-module _ (L : Layout) (j k : ℕ) (t₀ : Tables) (all : List Aid) {rec img : List ℕ} {todo : Items} (g : Granting L j k t₀ all rec img todo) where
-  pub granting-end : todo .count ≤ 0 → Wrote L img (grantedTo L j k all t₀)
-  granting-end e = record { laid = g .laid; tables = todo-end (g .left) e }
-
-  module _ {x : Aid} {rest : Items} (u : Uncons aid rec todo x rest) where
-    room-of : length (decode L img .waiting) + count (notInstalled L (decode L img)) (x ∷ itemsIn aid rec rest) ≤ L .capacity
-    room-of = subst (λ (l : List Aid). length (decode L img .waiting) + count (notInstalled L (decode L img)) l ≤ L .capacity) (u .same) (g .room)
-
-    pub granting-room : numberOf L (decode L img) x ≡ none → length (decode L img .waiting) < L .capacity
-    granting-room = room-here L j k (decode L img) x (itemsIn aid rec rest) room-of
-
-    pub granting-next : {img′ : List ℕ} → Wrote L img′ (addGrantAt L (decode L img) j x k (numberOf L (decode L img) x) .tables) → Granting L j k t₀ all rec img′ rest
-    granting-next {img′} w = record {
-      laid = w .laid;
-      left = todo-next (g .left) u (λ l. grantedTo L j k l (decode L img′)) (ap (grantedTo L j k (itemsIn aid rec rest)) (sym (w .tables)));
-      room = subst (λ (v : Tables). length (v .waiting) + count (notInstalled L v) (itemsIn aid rec rest) ≤ L .capacity) (sym (w .tables))
-          (room-after L j k (decode L img) x (itemsIn aid rec rest) room-of (numberOf L (decode L img) x) room-of);
-    }
+  abbrev pub grants : Turns Aid
+  grants = record {
+    one = λ x t. addGrantAt L t j x k (numberOf L t x) .tables;
+    all = grantedTo L j k;
+    Asks = λ x t. numberOf L t x ≡ none → length (t .waiting) < L .capacity;
+    AllAsk = GrantsAsk;
+    none-is = λ t. refl;
+    first-is = λ x l t. refl;
+    here = λ x l t. room-here (numberOf L t) x l (t .waiting) (L .capacity);
+    still = λ x l t h. grants-still x l t (numberOf L t x) h;
+  }

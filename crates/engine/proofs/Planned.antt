@@ -1,7 +1,7 @@
 -- The plan of a record of kinds 5 to 10 comes to its outcome. Assumes nothing.
 use Prim.Native.Nat.{ℕ, zero, suc}
 use mathlib.Core.Path.{_≡_, refl, sym, ap, _∙_, subst}
-use mathlib.Core.Bool.{Bool, true, false, not, _&&_, _||_, cond}
+use mathlib.Core.Bool.{Bool, true, false, not, _&&_, _||_, cond, and-assoc}
 use mathlib.Core.List.{List, [], _∷_}
 use mathlib.Core.Option.{Option, none, some}
 use lib.Dec.{T, eqb, ltb}
@@ -53,7 +53,7 @@ module _ {A : Type 0} (eq : A → A → Bool) (x : A) (f : A → Bool) (same : f
   mask-drops : keepRows (maskOf f l) l ≡ keep (λ y. not (eq x y)) l
   mask-drops = keep-mask f l ∙ ap (λ (g : A → Bool). keep (λ y. not (g y)) l) same
 
-unmet-same : (u : Unmet) → (λ (v : Unmet). eqUnmet v u) ≡ eqUnmet u
+pub unmet-same : (u : Unmet) → (λ (v : Unmet). eqUnmet v u) ≡ eqUnmet u
 unmet-same u = λ z v. T-eq (eqUnmet v u) (eqUnmet u v) (flip v u) (flip u v) z
   where
     flip : (v w : Unmet) → T (eqUnmet v w) → T (eqUnmet w v)
@@ -61,22 +61,28 @@ unmet-same u = λ z v. T-eq (eqUnmet v u) (eqUnmet u v) (flip v u) (flip u v) z
 
 pub waiting-same : (j k : ℕ) (a : Aid)
     → (λ (w : Waiting). eqAid (w .caller) a && (eqb (w .callee) j && eqb (w .service) k)) ≡ eqWaiting (record { caller = a; callee = j; service = k })
-waiting-same j k a = λ z w. (regroup (eqAid (w .caller) a) (eqb (w .callee) j) (eqb (w .service) k) ∙ T-eq (eqWaiting w v) (eqWaiting v w) (flip w v) (flip v w)) z
+waiting-same j k a = λ z w. (sym (and-assoc (eqAid (w .caller) a) (eqb (w .callee) j) (eqb (w .service) k)) ∙ T-eq (eqWaiting w v) (eqWaiting v w) (flip w v) (flip v w)) z
   where
     v : Waiting
     v = record { caller = a; callee = j; service = k }
-
-    regroup : (x y z : Bool) → x && (y && z) ≡ (x && y) && z
-    regroup true y z = refl
-    regroup false y z = refl
 
     flip : (v w : Waiting) → T (eqWaiting v w) → T (eqWaiting w v)
     flip v w h = subst (λ (z : Waiting). T (eqWaiting z v)) (eqWaiting→ v w h) (eqWaiting-refl v)
 
 -- the answer of causes 4 to 7, or that of causes 8 to 11 where it is 0
-abbrev firstOf : ℕ → ℕ → ℕ
+abbrev pub firstOf : ℕ → ℕ → ℕ
 firstOf zero m = m
 firstOf (suc n) m = suc n
+
+pub settled-by : (L : Layout) (img : List ℕ) (a : Aid) (c : Change) → Asked L img a c → settled L img a c
+    ≡ judged L img (numberFor L (decode L img) a) (draft L (decode L img) a c .tables) (firstOf (answer (tableCauses L (decode L img) a c)) (answer (lookCauses L (shortLook L (decode L img) a c))))
+settled-by L img a c ask = go (answer (tableCauses L (decode L img) a c)) (answer (lookCauses L (shortLook L (decode L img) a c))) refl refl
+  where
+    go : (m n : ℕ) → answer (tableCauses L (decode L img) a c) ≡ m → answer (lookCauses L (shortLook L (decode L img) a c)) ≡ n
+        → settled L img a c ≡ judged L img (numberFor L (decode L img) a) (draft L (decode L img) a c .tables) (firstOf m n)
+    go zero zero e f = settled-accepted L img a c (ask .is-sound) (ask .valid) (ask .is-proper) e f
+    go zero (suc n) e f = settled-short L img a c (ask .is-sound) (ask .valid) (ask .is-proper) e n f
+    go (suc m) n e f = settled-refused L img a c m e
 
 module _ (L : Layout) (img : List ℕ) (a : Aid) (r : Row) where
   abbrev t : Tables
@@ -87,16 +93,6 @@ module _ (L : Layout) (img : List ℕ) (a : Aid) (r : Row) where
   outcome i six k d = judged L img i (d .tables) (firstOf (answer (6 when six ∷ [])) (answer (lookCauses L k)))
 
   module _ (c : Change) (ask : Asked L img a c) where
-    settled-by : settled L img a c
-        ≡ judged L img (numberFor L t a) (draft L t a c .tables) (firstOf (answer (tableCauses L t a c)) (answer (lookCauses L (shortLook L t a c))))
-    settled-by = go (answer (tableCauses L t a c)) (answer (lookCauses L (shortLook L t a c))) refl refl
-      where
-        go : (m n : ℕ) → answer (tableCauses L t a c) ≡ m → answer (lookCauses L (shortLook L t a c)) ≡ n
-            → settled L img a c ≡ judged L img (numberFor L t a) (draft L t a c .tables) (firstOf m n)
-        go zero zero e f = settled-accepted L img a c (ask .is-sound) (ask .valid) (ask .is-proper) e f
-        go zero (suc n) e f = settled-short L img a c (ask .is-sound) (ask .valid) (ask .is-proper) e n f
-        go (suc m) n e f = settled-refused L img a c m e
-
     -- by the number of the package: cause 6, the short check, the draft and the plan
     at-number : (six : Option ℕ → Bool) (k : Option ℕ → Look) (d : Option ℕ → Draft) (p : Option ℕ → Plan)
         → tableCauses L t a c ≡ (5 when absent L t a ∷ 6 when six (numberOf L t a) ∷ []) → shortLook L t a c ≡ k (numberOf L t a)
@@ -105,7 +101,7 @@ module _ (L : Layout) (img : List ℕ) (a : Aid) (r : Row) where
         → settled L img a c ≡ done L img r (p (numberOf L t a))
     unfolding numberFor
     at-number six k d p e f g five h =
-        settled-by ∙ (λ z. judged L img (numberFor L t a) (g z .tables) (firstOf (answer (e z)) (answer (lookCauses L (f z))))) ∙ go (numberOf L t a)
+        settled-by L img a c ask ∙ (λ z. judged L img (numberFor L t a) (g z .tables) (firstOf (answer (e z)) (answer (lookCauses L (f z))))) ∙ go (numberOf L t a)
       where
         go : (o : Option ℕ)
             → judged L img (orElse o (orElse (freeNumber L t) 255 (λ n. n)) (λ n. n)) (d o .tables)

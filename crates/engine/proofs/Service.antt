@@ -172,20 +172,13 @@ module _ (L : Layout) (low : L .services ≤ 16) (a : Aid) (j k : ℕ) (within :
 abbrev pub droppedIn : Table → ℕ → ℕ → Tables → Tables
 droppedIn tb j k z = withTable tb (withoutService tb j k (tableOf tb z)) z
 
-row-put : (p : ℕ → ℕ → Bool) (j k : ℕ) (g : ℕ → Bool) → g ≡ put k false (p j) → (λ (x y : ℕ). cond (eqb x j) (g y) (p x y)) ≡ put2 j k false p
-row-put p j k g e = λ i x y. (ap (λ (h : ℕ → Bool). cond (eqb x j) (h y) (p x y)) e ∙ go x y (eqb x j) refl) i
-  where
-    go : (x y : ℕ) (b : Bool) → eqb x j ≡ b → cond b (put k false (p j) y) (p x y) ≡ cond (b && eqb y k) false (p x y)
-    go x y true e = ap (λ (z : ℕ). put k false (p z) y) (sym (eqb→eq x j (subst T (sym e) tt)))
-    go x y false e = refl
-
-pub cleared-is : (t : Tables) (j k : ℕ) (g : ℕ → Bool) → g ≡ put k false (t .provides j)
+pub cleared-is : (t : Tables) (j k : ℕ) (g : ℕ → Bool) → (λ (x y : ℕ). cond (eqb x j) (g y) (t .provides x y)) ≡ put2 j k false (t .provides)
     → withProvides j g (withTok j k noTok (droppedIn Needs j k (droppedIn Grants j k (droppedIn Calls j k t)))) ≡ tablesWithoutService j k t
 cleared-is t j k g e = λ i. record {
   used = t .used;
   aid = t .aid;
   tok = put2 j k noTok (t .tok);
-  provides = row-put (t .provides) j k g e i;
+  provides = e i;
   calls = inColumn j k (t .calls);
   grants = inRow j k (t .grants);
   needs = inColumn j k (t .needs);

@@ -1,7 +1,7 @@
 -- The plan of kind 3 comes to its outcome: the writes, one after another, give the tables of the draft. Assumes nothing.
 use Prim.Native.Nat.{ℕ, zero, suc, _+_, _≤_, _<_}
 use mathlib.Core.Path.{_≡_, refl, sym, ap, _∙_, subst}
-use mathlib.Core.Bool.{Bool, true, false, not, _&&_, _||_, cond}
+use mathlib.Core.Bool.{Bool, true, false, not, _&&_, _||_, cond, and-assoc}
 use mathlib.Core.List.{List, [], _∷_, _++_, map, append-assoc, append-nil}
 use mathlib.Core.Option.{Option, none, some}
 use lib.Dec.{T, eqb, eqb→eq, leb→le}
@@ -29,15 +29,10 @@ use Rattle.engine.specs.Asked.{Asked}
 use Rattle.engine.specs.Services.{asks, metCalls, opened, grantedTo, served, added, rowGranted, addingPlan, addingDone}
 use Rattle.engine.specs.declared.services.Adding.{Adding}
 use Rattle.engine.specs.declared.services.Adding.the-variants.{Refuse, Add}
+use Rattle.engine.proofs.Planned.{firstOf, settled-by}
+use Rattle.engine.proofs.Marks.{eqb-flip, met-one}
 
--- ---- the unmet calls that become bits
-more-calls : (p q r b e : Bool) → cond (p && q && r) true b || (q && r && e) ≡ b || (q && r && (p || e))
-more-calls true true true true e = refl
-more-calls true true true false e = refl
-more-calls true true false b e = refl
-more-calls true false r b e = refl
-more-calls false q r b e = refl
-
+-- ---- the grants, each a bit or a row that waits
 no-more : (p q b : Bool) → b ≡ b || (p && q && false)
 no-more true true true = refl
 no-more true true false = refl
@@ -46,21 +41,6 @@ no-more true false false = refl
 no-more false q true = refl
 no-more false q false = refl
 
-met-calls : (f : Unmet → Bool) (j k : ℕ) (l : List Unmet) (b : ℕ → ℕ → ℕ → Bool) (x y z : ℕ)
-    → metCalls f j k l b x y z ≡ b x y z || (eqb y j && eqb z k && exists (λ u. f u && eqb x (u .caller)) l)
-met-calls f j k [] b x y z = no-more (eqb y j) (eqb z k) (b x y z)
-met-calls f j k (u ∷ l) b x y z =
-    met-calls f j k l (cond (f u) (put3 (u .caller) j k true b) b) x y z ∙ go (f u) (exists (λ u. f u && eqb x (u .caller)) l)
-  where
-    go : (v e : Bool) → cond v (put3 (u .caller) j k true b) b x y z || (eqb y j && eqb z k && e) ≡ b x y z || (eqb y j && eqb z k && (v && eqb x (u .caller) || e))
-    go true e = more-calls (eqb x (u .caller)) (eqb y j) (eqb z k) (b x y z) e
-    go false e = refl
-
-asks-same : (a : Aid) (s : Tok) (x : ℕ) → (λ (u : Unmet). asks a s u && eqb x (u .caller)) ≡ eqUnmet (record { callee = a; tok = s; caller = x })
-asks-same a s x = λ i u. (T-eq (eqAid (u .callee) a) (eqAid a (u .callee)) (λ h. eqAid-of (sym (eqAid→ (u .callee) a h))) (λ h. eqAid-of (sym (eqAid→ a (u .callee) h))) i
-    && T-eq (eqTok (u .tok) s) (eqTok s (u .tok)) (λ h. eqTok-of (sym (eqTok→ (u .tok) s h))) (λ h. eqTok-of (sym (eqTok→ s (u .tok) h))) i) && eqb x (u .caller)
-
--- ---- the grants, each a bit or a row that waits
 more-grants : (p q r b u v e : Bool) → q ≡ u && v → cond (p && q && r) true b || (p && r && (u && e)) ≡ b || (p && r && (u && (v || e)))
 more-grants false q r b u v e h = refl
 more-grants true q r b u v e h = ap (λ (z : Bool). cond (z && r) true b || (r && (u && e))) h ∙ go r b u v
@@ -138,26 +118,13 @@ module _ (L : Layout) (t : Tables) (names : Names L (t .used) (t .aid) (t .tok) 
       where
         calls : (x y z : ℕ) → metCalls (asks (t .aid j) s) j k (t .unmet) (t .calls) x y z
             ≡ t .calls x y z || (eqb y j && eqb z k && hasUnmet (record { callee = t .aid j; tok = s; caller = x }) (t .unmet))
-        calls x y z = met-calls (asks (t .aid j) s) j k (t .unmet) (t .calls) x y z ∙ ap (λ (f : Unmet → Bool). t .calls x y z || (eqb y j && eqb z k && exists f (t .unmet))) (asks-same (t .aid j) s x)
-
--- the answer of causes 4 to 7, or that of causes 8 to 11 where it is 0
-abbrev firstOf : ℕ → ℕ → ℕ
-firstOf zero m = m
-firstOf (suc n) m = suc n
+        calls x y z = met-one (t .aid j) j (t .unmet) x y k z s (t .calls)
+            ∙ ap (λ (c : Bool). t .calls x y z || c) (ap (λ (c : Bool). eqb y j && (c && hasUnmet (record { callee = t .aid j; tok = s; caller = x }) (t .unmet))) (eqb-flip k z)
+            ∙ sym (and-assoc (eqb y j) (eqb z k) (hasUnmet (record { callee = t .aid j; tok = s; caller = x }) (t .unmet))))
 
 module _ (L : Layout) (img : List ℕ) (a : Aid) where
   abbrev t : Tables
   t = decode L img
-
-  settled-by : (c : Change) → Asked L img a c → settled L img a c
-      ≡ judged L img (numberFor L t a) (draft L t a c .tables) (firstOf (answer (tableCauses L t a c)) (answer (lookCauses L (shortLook L t a c))))
-  settled-by c ask = go (answer (tableCauses L t a c)) (answer (lookCauses L (shortLook L t a c))) refl refl
-    where
-      go : (m n : ℕ) → answer (tableCauses L t a c) ≡ m → answer (lookCauses L (shortLook L t a c)) ≡ n
-          → settled L img a c ≡ judged L img (numberFor L t a) (draft L t a c .tables) (firstOf m n)
-      go zero zero e f = settled-accepted L img a c (ask .is-sound) (ask .valid) (ask .is-proper) e f
-      go zero (suc n) e f = settled-short L img a c (ask .is-sound) (ask .valid) (ask .is-proper) e n f
-      go (suc m) n e f = settled-refused L img a c m e
 
   module _ (s : Tok) (l : List Aid) where
     -- what the rows of the lists decide
@@ -186,7 +153,7 @@ module _ (L : Layout) (img : List ℕ) (a : Aid) where
 
     pub settled-adding : Asked L img a (addService s l) → settled L img a (addService s l) ≡ addingDone L img a s l (addingPlan L t a s l)
     unfolding draft shortLook numberFor
-    settled-adding ask = settled-by (addService s l) ask ∙ go (numberOf L t a) (number-is L t names a)
+    settled-adding ask = settled-by L img a (addService s l) ask ∙ go (numberOf L t a) (number-is L t names a)
       where
         formed : Formed L t
         formed = sound-formed L img (ask .is-sound)

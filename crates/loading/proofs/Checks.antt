@@ -28,6 +28,7 @@ use Rattle.image.proofs.Numbers.{package-none, package-some, server-none, serve
 use Rattle.record.specs.Meaning.{Uncons, itemsIn}
 use Rattle.record.specs.declared.Items.{Items}
 use Rattle.record.proofs.Loops.{Todo, todo-cons, todo-next, todo-end}
+use Rattle.engine.proofs.Callers.{caller-used}
 use Rattle.loading.specs.Loads.{served, present, waitsAt, callGranted, grantFits}
 
 -- ---- two tests, the second only where the first passes
@@ -117,15 +118,8 @@ pub fit-end : {A : Type 0} {p : Reader A} {s : List ℕ} {todo : Items} (f : A �
 fit-end f n h l = sym (le-leb 0 n (omega arith)) ∙ todo-end h l
 
 -- ---- the caller of an unmet call of a sound image
-pub row-in : {A : Type 0} (d : A) (l : List A) (r : ℕ) → r < length l → In (getD l r d) l
-row-in d [] r h = absurd (omega arith)
-row-in d (x ∷ l) zero h = here refl
-row-in d (x ∷ l) (suc r) h = there (row-in d l r (omega arith))
-
 pub caller-in : (L : Layout) (img : List ℕ) (r : ℕ) → T (sound L img) → r < length (decode L img .unmet) → unmetRow (decode L img) r .caller < L .packages
-caller-in L img r ok h =
-    let f = sound-formed L img ok in
-    f .names .used-lt (unmetRow (decode L img) r .caller) (f .unmet .off .off-used (unmetRow (decode L img) r) (row-in noUnmet (decode L img .unmet) r h))
+caller-in L img r ok h = caller-used L img ok r (unmetRow (decode L img) r .caller) h refl .0
 
 -- ---- the room that a list has after the rows of a mask go
 pub gone-low : (m : ℕ) → length (keep (bit m) (upto 32)) ≤ 32

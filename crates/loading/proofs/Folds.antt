@@ -12,7 +12,7 @@ use Rattle.policy.specs.Tables.{Unmet, Waiting, bit}
 use Rattle.policy.specs.Draft.{put2, put3}
 use Rattle.policy.proofs.Sets.{T-eq, T-true, and-r, cond-false}
 use Rattle.policy.proofs.Equal.{eqb-of}
-use Rattle.engine.specs.Services.{metCalls}
+use Rattle.engine.proofs.Marks.{marked, marks, marked-is}
 use Rattle.loading.specs.Writes.{dueGrants}
 
 -- ---- one write for each element of a list, at the places from k on
@@ -52,44 +52,7 @@ put-rows n v l d b x y = each-row (λ k s. put2 n k (v s)) (λ b. b x) (λ s w. 
     (λ k z s b h. cond-false (eqb x n && eqb z k) (v s) (b x z) (λ q. h (eqb→eq z k (and-r (eqb x n) (eqb z k) q))))
     (λ k s b. ap (λ (c : Bool). cond c (v s) (b x k)) (ap (λ (c : Bool). eqb x n && c) (T-true (eqb k k) (eqb-refl k)) ∙ and-true (eqb x n))) l d b y
 
--- ---- bits set in column j, for the elements that pass
-module _ {A : Type 0} (f : A → Bool) (row service : A → ℕ) (j : ℕ) where
-  abbrev marked : List A → (ℕ → ℕ → ℕ → Bool) → ℕ → ℕ → ℕ → Bool
-  marked [] b = b
-  marked (u ∷ l) b = marked l (cond (f u) (put3 (row u) j (service u) true b) b)
-
-  abbrev pub marks : ℕ → ℕ → List A → Bool
-  marks x z l = exists (λ u. f u && (eqb (row u) x && eqb (service u) z)) l
-
-  marked-is : (l : List A) (b : ℕ → ℕ → ℕ → Bool) (x y z : ℕ) → marked l b x y z ≡ b x y z || (eqb y j && marks x z l)
-  marked-is [] b x y z = sym (ap (λ (c : Bool). b x y z || c) (and-false (eqb y j)) ∙ or-false (b x y z))
-  marked-is (u ∷ l) b x y z = marked-is l (cond (f u) (put3 (row u) j (service u) true b) b) x y z ∙ go (f u) (marks x z l)
-    where
-      flip : (m n : ℕ) → eqb m n ≡ eqb n m
-      flip m n = T-eq (eqb m n) (eqb n m) (λ h. eqb-of (sym (eqb→eq m n h))) (λ h. eqb-of (sym (eqb→eq n m h)))
-
-      more : (p q r b e : Bool) → cond (p && q && r) true b || (q && e) ≡ b || (q && (p && r || e))
-      more true true true true e = refl
-      more true true true false e = refl
-      more true true false b e = refl
-      more true false r b e = refl
-      more false q r b e = refl
-
-      go : (v e : Bool) → cond v (put3 (row u) j (service u) true b) b x y z || (eqb y j && e) ≡ b x y z || (eqb y j && (v && (eqb (row u) x && eqb (service u) z) || e))
-      go true e = more (eqb x (row u)) (eqb y j) (eqb z (service u)) (b x y z) e
-          ∙ ap₂ (λ (p r : Bool). b x y z || (eqb y j && (p && r || e))) (flip x (row u)) (flip z (service u))
-      go false e = refl
-
--- the unmet calls that pass
-pub met-calls : (f : Unmet → Bool) (j k : ℕ) (l : List Unmet) (b : ℕ → ℕ → ℕ → Bool) (x y z : ℕ)
-    → metCalls f j k l b x y z ≡ b x y z || (eqb y j && marks f (λ u. u .caller) (λ u. k) j x z l)
-met-calls f j k l b x y z = ap (λ (c : ℕ → ℕ → ℕ → Bool). c x y z) (same l b) ∙ marked-is f (λ u. u .caller) (λ u. k) j l b x y z
-  where
-    same : (l : List Unmet) (b : ℕ → ℕ → ℕ → Bool) → metCalls f j k l b ≡ marked f (λ u. u .caller) (λ u. k) j l b
-    same [] b = refl
-    same (u ∷ l) b = same l (cond (f u) (put3 (u .caller) j k true b) b)
-
--- the waiting grants whose bits the mask has
+-- ---- the waiting grants whose bits the mask has
 pub due-grants : (f : Waiting → Bool) (mask n : ℕ) (l : List Waiting) → ((r : ℕ) (d : Waiting) → r < length l → bit mask r ≡ f (getD l r d)) → (b : ℕ → ℕ → ℕ → Bool) (x y z : ℕ)
     → dueGrants mask n 0 l b x y z ≡ b x y z || (eqb y n && marks f (λ w. w .callee) (λ w. w .service) n x z l)
 due-grants f mask n l h b x y z = ap (λ (c : ℕ → ℕ → ℕ → Bool). c x y z) (same 0 l (λ r d p. ap (bit mask) (zero-add r) ∙ h r d p) b) ∙ marked-is f (λ w. w .callee) (λ w. w .service) n l b x y z
@@ -101,12 +64,3 @@ due-grants f mask n l h b x y z = ap (λ (c : ℕ → ℕ → ℕ → Bool). c x
         let e : bit mask k ≡ f w = ap (bit mask) (sym (add-zero k)) ∙ h 0 w (omega arith) in
         same (suc k) l (λ r d p. ap (bit mask) (suc-add k r ∙ sym (add-suc k r)) ∙ h (suc r) d (suc-le-suc p)) (cond (bit mask k) (put3 (w .callee) n (w .service) true b) b)
         ∙ ap (λ (v : Bool). marked f (λ w. w .callee) (λ w. w .service) n l (cond v (put3 (w .callee) n (w .service) true b) b)) e
-
--- one service for all
-pub marks-one : {A : Type 0} (f : A → Bool) (row : A → ℕ) (k j x z : ℕ) (l : List A) → marks f row (λ u. k) j x z l ≡ eqb k z && exists (λ u. f u && eqb (row u) x) l
-marks-one f row k j x z l = go (eqb k z) l
-  where
-    go : (v : Bool) (l : List _) → exists (λ u. f u && (eqb (row u) x && v)) l ≡ v && exists (λ u. f u && eqb (row u) x) l
-    go true l = λ i. exists (λ u. f u && and-true (eqb (row u) x) i) l
-    go false [] = refl
-    go false (u ∷ l) = (λ i. (ap (λ (c : Bool). f u && c) (and-false (eqb (row u) x)) ∙ and-false (f u)) i || go false l i)

@@ -21,9 +21,10 @@ use Rattle.image.specs.Read.{maskOf}
 use Rattle.image.proofs.Masks.{mask-bit, keep-mask}
 use Rattle.engine.specs.Services.{asks, metCalls}
 use Rattle.engine.proofs.Planned.{waiting-same}
+use Rattle.engine.proofs.Marks.{met-one}
 use Rattle.loading.specs.Loads.{meets, waitsFor, withoutRows}
 use Rattle.loading.specs.Writes.{named, openedOne, openedAll, dueGrants, due, onCard, joined}
-use Rattle.loading.proofs.Folds.{each, each-row, put-rows, met-calls, marks-one, due-grants}
+use Rattle.loading.proofs.Folds.{each, each-row, put-rows, due-grants}
 
 -- ---- the services, one after another, table by table
 opened-all : (n : ℕ) (a : Aid) (k : ℕ) (l : List Tok) (t : Tables) → openedAll n a k l t ≡ record {
@@ -41,29 +42,15 @@ opened-all n a k [] t = refl
 opened-all n a k (s ∷ l) t = opened-all n a (suc k) l (openedOne n a k s t)
 
 -- ---- the calls on them
-asks-same : (a : Aid) (s : Tok) (x : ℕ) → (λ (u : Unmet). asks a s u && eqb (u .caller) x) ≡ eqUnmet (record { callee = a; tok = s; caller = x })
-asks-same a s x = λ i u. T-eq (eqUnmet u v) (eqUnmet v u) (flip u v) (flip v u) i
-  where
-    v : Unmet
-    v = record { callee = a; tok = s; caller = x }
-
-    flip : (v w : Unmet) → T (eqUnmet v w) → T (eqUnmet w v)
-    flip v w h = subst (λ (z : Unmet). T (eqUnmet z v)) (eqUnmet→ v w h) (eqUnmet-refl v)
-
 module _ (a : Aid) (n : ℕ) (us : List Unmet) (x y : ℕ) where
   abbrev called : Tok → Bool
   called s = hasUnmet (record { callee = a; tok = s; caller = x }) us
 
-  -- service k with tokens s is open
-  met-one : (k z : ℕ) (s : Tok) (b : ℕ → ℕ → ℕ → Bool) → metCalls (asks a s) n k us b x y z ≡ b x y z || (eqb y n && (eqb k z && called s))
-  met-one k z s b = met-calls (asks a s) n k us b x y z
-      ∙ ap (λ (e : Bool). b x y z || (eqb y n && e)) (marks-one (asks a s) (λ u. u .caller) k n x z us ∙ ap (λ (f : Unmet → Bool). eqb k z && exists f us) (asks-same a s x))
-
   met-rows : (l : List Tok) (b : ℕ → ℕ → ℕ → Bool) (z : ℕ)
       → each (λ k s. metCalls (asks a s) n k us) 0 l b x y z ≡ cond (ltb z (length l)) (b x y z || (eqb y n && called (getD l z noTok))) (b x y z)
   met-rows l b z = each-row (λ k s. metCalls (asks a s) n k us) (λ b. b x y) (λ s w. w || (eqb y n && called s))
-      (λ k z s b h. met-one k z s b ∙ ap (λ (c : Bool). b x y z || (eqb y n && (c && called s))) (T-false (eqb k z) (λ q. h (sym (eqb→eq k z q)))) ∙ none (b x y z) (eqb y n))
-      (λ k s b. met-one k k s b ∙ ap (λ (c : Bool). b x y k || (eqb y n && (c && called s))) (T-true (eqb k k) (eqb-refl k))) l noTok b z
+      (λ k z s b h. met-one a n us x y k z s b ∙ ap (λ (c : Bool). b x y z || (eqb y n && (c && called s))) (T-false (eqb k z) (λ q. h (sym (eqb→eq k z q)))) ∙ none (b x y z) (eqb y n))
+      (λ k s b. met-one a n us x y k k s b ∙ ap (λ (c : Bool). b x y k || (eqb y n && (c && called s))) (T-true (eqb k k) (eqb-refl k))) l noTok b z
     where
       none : (v q : Bool) → v || (q && false) ≡ v
       none v q = ap (λ (c : Bool). v || c) (and-false q) ∙ or-false v

@@ -12,10 +12,13 @@ use Rattle.policy.specs.Contract.{Aid, Tok}
 use Rattle.policy.specs.Record.{tokens}
 use Rattle.policy.specs.Layout.{Layout}
 use Rattle.policy.specs.Tables.{Tables, bit, rowOf, decode}
-use Rattle.policy.proofs.Sets.{T-false}
+use Rattle.policy.specs.Draft.{put}
 use Rattle.image.specs.Laid.{Room, Laid, withUsed, withAid}
 use Rattle.image.specs.Wrote.{Wrote}
-use Rattle.image.proofs.RowBits.{Ends, put-lt, put-bits, bit-set}
+use Rattle.geometry.specs.declared.Card.{Card}
+use Rattle.geometry.specs.Geometry.{layoutOf}
+use Rattle.image.proofs.RowBits.{bit-set}
+use Rattle.image.proofs.Writes.{used-put}
 use Rattle.image.proofs.Clears.{wrote-then}
 use Rattle.record.specs.Meaning.{itemsIn, Uncons}
 use Rattle.record.specs.declared.Items.{Items}
@@ -24,18 +27,18 @@ use Rattle.engine.specs.Services.{CallersIn}
 use Rattle.loading.specs.Writes.{named, openedOne, openedAll}
 
 -- ---- its number and its AID
-module _ (L : Layout) (t : Tables) (room : Room L t) (low : L .packages ≤ 16) (n : ℕ) (inside : n < L .packages) (row with : ℕ) (e : row ≡ rowOf (L .packages) (t .used))
+module _ (c : Card) {old : List ℕ} (h : Laid (layoutOf c) old) (n : ℕ) (inside : n < layoutOf c .packages) (row with : ℕ) (e : row ≡ rowOf (layoutOf c .packages) (decode (layoutOf c) old .used))
     (q : with ≡ rowOf 16 (λ z. eqb z n || bit row z)) where
-  used-ends : Ends (L .packages) (t .used)
-  used-ends z h = T-false (t .used z) (λ p. not-le-of-lt (room .used-in z p) h)
+  more : (with < 2 ^ layoutOf c .packages) × (bit with ≡ put n true (decode (layoutOf c) old .used))
+  more = used-put c h n true row with (λ z. eqb z n || bit row z) q (bit-set n (bit row)) inside e
 
-  pub used-fits : with < 2 ^ L .packages
-  used-fits = put-lt (L .packages) (t .used) used-ends n inside true low row e with (λ z. eqb z n || bit row z) q (bit-set n (bit row))
+  pub used-fits : with < 2 ^ layoutOf c .packages
+  used-fits = more .0
 
-  pub named-wrote : (a : Aid) {img img′ : List ℕ} → Wrote L img (withUsed (bit with) t) → Wrote L img′ (withAid n a (decode L img)) → Wrote L img′ (named n a t)
+  pub named-wrote : (a : Aid) {img img′ : List ℕ} → Wrote (layoutOf c) img (withUsed (bit with) (decode (layoutOf c) old)) → Wrote (layoutOf c) img′ (withAid n a (decode (layoutOf c) img))
+      → Wrote (layoutOf c) img′ (named n a (decode (layoutOf c) old))
   named-wrote a {img′ = img′} w v =
-      subst (λ (f : ℕ → Bool). Wrote L img′ (withAid n a (withUsed f t)))
-      (put-bits (L .packages) (t .used) used-ends n inside true low row e with (λ z. eqb z n || bit row z) q (bit-set n (bit row))) (wrote-then L (withAid n a) w v)
+      subst (λ (f : ℕ → Bool). Wrote (layoutOf c) img′ (withAid n a (withUsed f (decode (layoutOf c) old)))) (more .1) (wrote-then (layoutOf c) (withAid n a) w v)
 
 -- ---- its services: those of todo are to come, with the numbers from k on
 pub record Opening (L : Layout) (n : ℕ) (a : Aid) (t₀ : Tables) (all : List Tok) (rec : List ℕ) (img : List ℕ) (todo : Items) (k : ℕ) : Type 0 where

@@ -26,9 +26,9 @@ use Rattle.image.proofs.Numbers.{Below, service-below, server-none, server-some
 use Rattle.record.specs.Meaning.{AidFits, Stands, aidIn, itemsIn, Uncons}
 use Rattle.record.specs.declared.Aid.{Aid as Position}
 use Rattle.record.specs.declared.Items.{Items}
-use Rattle.record.proofs.Loops.{Todo, todo-end, todo-next, todo-start}
 use Rattle.engine.proofs.Callers.{part-aid}
 use Rattle.engine.proofs.Meets.{part-short}
+use Rattle.engine.proofs.ItemTurns.{Turns, RoomBy, room-here, room-after}
 use Rattle.loading.specs.Loads.{served, present}
 use Rattle.loading.specs.Writes.{calledAll, serviceNumber, grantedAll, neededAll}
 use Rattle.loading.proofs.Checks.{served-is}
@@ -80,65 +80,6 @@ module _ (L : Layout) (t : Tables) (n : ℕ) (s : Tok) (k : ℕ) (e : k ≡ serv
 
 pub ruleset one-row = (aid-short, callee-tested, callee-served, nowhere, service-in, need-bit, call-bit, call-unmet, grant-service, grant-made, needs)
 
--- ---- a loop over rows: what a row does to the tables and asks of them, and what all rows do and ask
-pub record Turns : Type 1 where
-  pub one : Row → Tables → Tables
-  pub all : List Row → Tables → Tables
-  pub Asks : Row → Tables → Type 0
-  pub AllAsk : List Row → Tables → Type 0
-  pub none-is : (t : Tables) → all [] t ≡ t
-  pub first-is : (x : Row) (l : List Row) (t : Tables) → all (x ∷ l) t ≡ all l (one x t)
-  pub here : (x : Row) (l : List Row) (t : Tables) → AllAsk (x ∷ l) t → Asks x t
-  pub still : (x : Row) (l : List Row) (t : Tables) → AllAsk (x ∷ l) t → AllAsk l (one x t)
-
--- the rows of todo are to come, of those of l, which were to go into the tables t
-pub record Turning (L : Layout) (s : Turns) (t : Tables) (l : List Row) (rec img : List ℕ) (todo : Items) : Type 0 where
-  pub laid : Laid L img
-  pub left : Todo aRow rec todo (λ m. s .all m (decode L img)) (s .all l t)
-  pub asks : s .AllAsk (itemsIn aRow rec todo) (decode L img)
-
-module _ {L : Layout} (s : Turns) where
-  pub turning-start : {rec img : List ℕ} {todo : Items} → Laid L img → Stands aRow rec todo → s .AllAsk (itemsIn aRow rec todo) (decode L img)
-      → Turning L s (decode L img) (itemsIn aRow rec todo) rec img todo
-  turning-start h k a = record { laid = h; left = todo-start k; asks = a }
-
-  module _ {t : Tables} {l : List Row} {rec img : List ℕ} {todo : Items} (g : Turning L s t l rec img todo) where
-    pub turning-end : todo .count ≤ 0 → Wrote L img (s .all l t)
-    turning-end e = record { laid = g .laid; tables = sym (s .none-is (decode L img)) ∙ todo-end (g .left) e }
-
-    module _ {x : Row} {rest : Items} (u : Uncons aRow rec todo x rest) where
-      asked : s .AllAsk (x ∷ itemsIn aRow rec rest) (decode L img)
-      asked = subst (λ (m : List Row). s .AllAsk m (decode L img)) (u .same) (g .asks)
-
-      pub turning-here : s .Asks x (decode L img)
-      turning-here = s .here x (itemsIn aRow rec rest) (decode L img) asked
-
-      pub turning-next : {img′ : List ℕ} → Wrote L img′ (s .one x (decode L img)) → Turning L s t l rec img′ rest
-      turning-next {img′} w = record {
-        laid = w .laid;
-        left = todo-next (g .left) u (λ m. s .all m (decode L img′)) (s .first-is x (itemsIn aRow rec rest) (decode L img) ∙ ap (s .all (itemsIn aRow rec rest)) (sym (w .tables)));
-        asks = subst (s .AllAsk (itemsIn aRow rec rest)) (sym (w .tables)) (s .still x (itemsIn aRow rec rest) (decode L img) asked);
-      }
-
-pub ruleset all-rows = (turning-start, turning-next, needs)
-
--- ---- room in a list for those that f finds nothing for
-module _ {A B C : Type 0} (f : A → Option B) (x : A) (l : List A) (rows : List C) (most : ℕ) where
-  abbrev pub later : List A
-  later = keep (λ y. not (isSome (f y))) l
-
-  abbrev pub RoomBy : Option B → Type 0
-  RoomBy o = length rows + length (cond (not (isSome o)) (x ∷ later) later) ≤ most
-
-  pub room-here : RoomBy (f x) → f x ≡ none → length rows < most
-  room-here h e = go (subst RoomBy e h)
-    where
-      go : RoomBy none → length rows < most
-      go q = omega (arith, q)
-
-  room-after : (u : C) → RoomBy none → length (rows ++ (u ∷ [])) + length later ≤ most
-  room-after u q = subst (λ (n : ℕ). n + length later ≤ most) (sym (length-snoc rows u)) (omega (arith, q))
-
 -- ---- the three lists of a package; a row changes no lookup
 module _ (L : Layout) (n : ℕ) where
   abbrev pub CallsAsk : List Row → Tables → Type 0
@@ -149,7 +90,7 @@ module _ (L : Layout) (n : ℕ) where
   calls-still x l t none q = room-after (serverOf L t) x l (t .unmet) (L .capacity) (callRow n x) q
   calls-still x l t (some p) q = q
 
-  abbrev pub calls : Turns
+  abbrev pub calls : Turns Row
   calls = record {
     one = λ x t. addCallAt L t n x (serverOf L t x) .tables;
     all = calledAll L n;
@@ -173,7 +114,7 @@ module _ (L : Layout) (n : ℕ) where
   grants-still x l t k none h q = (h, room-after (λ y. numberOf L t (y .aid)) x l (t .waiting) (L .capacity) (record { caller = x .aid; callee = n; service = k }) q)
   grants-still x l t k (some i) h q = (h, q)
 
-  abbrev pub grants : Turns
+  abbrev pub grants : Turns Row
   grants = record {
     one = λ x t. addGrantAt L t n (x .aid) (serviceNumber L t n (x .tok)) (numberOf L t (x .aid)) .tables;
     all = grantedAll L n;
@@ -198,7 +139,7 @@ module _ (L : Layout) (n : ℕ) where
   needs-still x l t none h = h
   needs-still x l t (some p) h = h
 
-  abbrev pub needed : Turns
+  abbrev pub needed : Turns Row
   needed = record {
     one = λ x t. addNeedAt L t n x (serverOf L t x) .tables;
     all = neededAll L n;

@@ -13,7 +13,7 @@ use Rattle.image.specs.Laid.{Laid}
 use Rattle.image.specs.Wrote.{Wrote}
 use Rattle.image.specs.Read.{noWaiting, waitingRow}
 use Rattle.loading.specs.Writes.{dueGrants, dueOne, due, GrantsIn}
-use Rattle.loading.proofs.Checks.{row-in}
+use Rattle.engine.proofs.Callers.{in-row}
 
 module _ (L : Layout) (mask n : ℕ) where
   -- ---- one row
@@ -58,7 +58,7 @@ module _ (L : Layout) (mask n : ℕ) where
 
     pub settling-numbers : GrantsIn L (t₀ .waiting) → r < length (t₀ .waiting) → (waitingRow (decode L img) r .callee < L .packages) × (waitingRow (decode L img) r .service < L .services)
     settling-numbers by h = subst (λ (l : List Waiting). (getD l r noWaiting .callee < L .packages) × (getD l r noWaiting .service < L .services)) (sym (m .rows))
-        (by (getD (t₀ .waiting) r noWaiting) (row-in noWaiting (t₀ .waiting) r h))
+        (by (getD (t₀ .waiting) r noWaiting) (in-row (t₀ .waiting) r noWaiting h))
 
     pub settling-end : length (t₀ .waiting) ≤ r → Wrote L img (due mask n t₀)
     settling-end h = record {

@@ -27,7 +27,7 @@ use Rattle.policy.proofs.SoundFacts.{sound-formed, sound-fitting}
 use Rattle.image.specs.Read.{maskOf, noUnmet, unmetRow}
 use Rattle.image.proofs.Masks.{mask-bit, mask-zero, zero-mask, mask-and, mask-count}
 use Rattle.loading.specs.Loads.{meets, waitsFor, served, present, waitsAt, callGranted, grantFits, othersGranted, unmetFit, waitingFit, loadLook, loadCause}
-use Rattle.loading.proofs.Checks.{row-in}
+use Rattle.engine.proofs.Callers.{in-row}
 use Rattle.engine.proofs.Planned.{waiting-same}
 
 -- ---- a list by the numbers of its elements
@@ -109,7 +109,7 @@ module _ (L : Layout) (t : Tables) (f : Formed L t) (fit : Fitting L t) (low : L
           ap (λ (k : ℕ). implies (bit met k) (exists (grantFits L t (c .aid) (unmetRow t k)) (c .grants))) (zero-add r)
           ∙ ap (λ (b : Bool). implies b (exists (grantFits L t (c .aid) u) (c .grants))) (mask-bit (meets (c .aid) (c .provides)) (t .unmet) r noUnmet h)
           ∙ granted-same (eqAid (u .callee) (c .aid)) (hasTok (u .tok) (c .provides)) (t .used (u .caller)) (λ g. eqTok (u .tok) (g .tok)) (λ g. eqAid (t .aid (u .caller)) (g .aid)) (c .grants)
-          (T-true (t .used (u .caller)) (f .unmet .off .off-used u (row-in noUnmet (t .unmet) r h)))
+          (T-true (t .used (u .caller)) (f .unmet .off .off-used u (in-row (t .unmet) r noUnmet h)))
 
   look-same : loadLook L t (c .aid) (c .calls) (c .grants) (c .needs) met waiting ≡ shortLoad L t c
   look-same =

@@ -2,7 +2,7 @@
 use Prim.Native.Nat.{ℕ}
 use native.Mathlib.Omega.{arith}
 use mathlib.Core.Path.{_≡_, ap, _∙_}
-use mathlib.Core.Bool.{Bool}
+use mathlib.Core.Bool.{Bool, false}
 use mathlib.Core.List.{[]}
 use borrow.Author.Needs.{needs}
 use Rattle.policy.specs.Tables.{Tables, bit, rowOf, decode}
@@ -13,8 +13,9 @@ use Rattle.geometry.proofs.Bounds.{limits}
 use Rattle.image.specs.Laid.{tableOf, withUsed, withAid, withTable}
 use Rattle.image.specs.Wrote.{withoutPackage, withoutServices}
 use Rattle.image.proofs.Clears.{wrote-then}
+use Rattle.image.proofs.RowBits.{bit-clear}
+use Rattle.image.proofs.Writes.{used-put}
 use Rattle.engine.proofs.Appends.{wrote-as}
-use Rattle.engine.proofs.Cleared.{without-fits, without-is}
 use Rattle.engine.proofs.removals.clear_package.Statement.{statement}
 use Rattle.engine.proofs.removals.clear_package.Tie as tie
 
@@ -93,7 +94,7 @@ set-used-requires c κs =
     let p = L .packages in
     let f = decode L (a .img .now) .used in
     let e : r .result ≡ rowOf p f = r .ensures ∙ ap (λ (z : Tables). rowOf p (z .used)) (w5 .tables) in
-    (w5 .laid, without-fits p (a .n) (r .result) (v .result) f (limits (a .c) .packages-low) (s .pre .0 .room .used-in) e (v .ensures))
+    (w5 .laid, used-put (a .c) (s .pre .0) (a .n) false (r .result) (v .result) _ (v .ensures) (bit-clear (a .n) (bit (r .result))) (s .pre .1) e .0)
 
 same-length : tie.Need-same-length
 same-length c = search needs
@@ -114,7 +115,7 @@ returns c =
     let f = decode L (a .img .now) .used in
     let e : r .result ≡ rowOf p f = r .ensures ∙ ap (λ (z : Tables). rowOf p (z .used)) (w5 .tables) in
     wrote-as L (ap (λ (g : ℕ → Bool). withUsed g (withAid (a .n) [] (withoutServices (a .n) (crossed Needs (a .n) (crossed Grants (a .n) (crossed Calls (a .n) (decode L (a .img .now))))))))
-    (without-is p (a .n) (r .result) (v .result) f (limits (a .c) .packages-low) (s .pre .0 .room .used-in) e (v .ensures)))
+    (used-put (a .c) (s .pre .0) (a .n) false (r .result) (v .result) _ (v .ensures) (bit-clear (a .n) (bit (r .result))) (s .pre .1) e .1))
     (wrote-then L (withUsed (bit (v .result))) w5 (c .before .before .set-used .ensures))
 
 pub clear-package-spec : {M : Type 1} → statement M

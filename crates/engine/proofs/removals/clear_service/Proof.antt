@@ -1,6 +1,7 @@
 -- `engine::removals::clear_service` meets its contract. Assumes nothing.
 use native.Mathlib.Omega.{arith}
 use mathlib.Core.Path.{_≡_, ap, _∙_}
+use mathlib.Core.Bool.{false}
 use borrow.Author.Needs.{needs}
 use Rattle.policy.specs.Tables.{Tables, noTok, bit, rowOf, decode}
 use Rattle.geometry.specs.Geometry.{layoutOf}
@@ -8,8 +9,9 @@ use Rattle.geometry.proofs.Bounds.{limits}
 use Rattle.geometry.specs.declared.Table.the-variants.{Grants, Needs}
 use Rattle.image.specs.Laid.{withTok, withProvides}
 use Rattle.image.proofs.Clears.{wrote-then}
+use Rattle.image.proofs.RowBits.{bit-clear}
+use Rattle.image.proofs.Writes.{provides-put}
 use Rattle.engine.proofs.Appends.{wrote-as}
-use Rattle.engine.proofs.Cleared.{without-fits, without-is}
 use Rattle.engine.proofs.Service.{droppedIn, cleared-is}
 use Rattle.engine.proofs.removals.clear_service.Statement.{statement}
 use Rattle.engine.proofs.removals.clear_service.Tie as tie
@@ -46,7 +48,7 @@ set-provided-requires c κs =
     let p = L .services in
     let f = decode L (a .img .now) .provides (a .j) in
     let e : r .result ≡ rowOf p f = r .ensures ∙ ap (λ (z : Tables). rowOf p (z .provides (a .j))) (w4 .tables) in
-    (w4 .laid, (s .pre .1 .0, without-fits p (a .k) (r .result) (v .result) f (limits (a .c) .services-low) (λ z h. s .pre .0 .room .provides-in (a .j) z h .1) e (v .ensures)))
+    (w4 .laid, (s .pre .1 .0, provides-put (a .c) (s .pre .0) (a .k) false (r .result) (v .result) _ (v .ensures) (bit-clear (a .k) (bit (r .result))) (a .j) (s .pre .1 .1) e .0))
 
 same-length : tie.Need-same-length
 same-length c = search needs
@@ -65,7 +67,7 @@ returns c =
     let p = L .services in
     let f = decode L (a .img .now) .provides (a .j) in
     let e : r .result ≡ rowOf p f = r .ensures ∙ ap (λ (z : Tables). rowOf p (z .provides (a .j))) (w4 .tables) in
-    wrote-as L (cleared-is (decode L (a .img .now)) (a .j) (a .k) (bit (v .result)) (without-is p (a .k) (r .result) (v .result) f (limits (a .c) .services-low) (λ z h. s .pre .0 .room .provides-in (a .j) z h .1) e (v .ensures)))
+    wrote-as L (cleared-is (decode L (a .img .now)) (a .j) (a .k) (bit (v .result)) (provides-put (a .c) (s .pre .0) (a .k) false (r .result) (v .result) _ (v .ensures) (bit-clear (a .k) (bit (r .result))) (a .j) (s .pre .1 .1) e .1))
     (wrote-then L (withProvides (a .j) (bit (v .result))) w4 (c .before .before .set-provided .ensures))
 
 pub clear-service-spec : {M : Type 1} → statement M

@@ -6,7 +6,7 @@ use Rattle.policy.specs.Tables.{decode}
 use Rattle.geometry.specs.Geometry.{layoutOf}
 use Rattle.geometry.proofs.Bounds.{limits, service-lt}
 use Rattle.image.specs.Read.{tokens}
-use Rattle.engine.proofs.Opens.{with-fits, with-is, row-still, open-wrote}
+use Rattle.engine.proofs.Opens.{open-fits, open-wrote}
 use Rattle.engine.proofs.services.open_service.Statement.{statement}
 use Rattle.engine.proofs.services.open_service.Tie as tie
 
@@ -25,16 +25,8 @@ set-provided-requires c κs =
     let w = r .before .before .before .before in
     let s = w .before .before .before in
     let a = s .args in
-    let L = layoutOf (a .c) in
-    let t = decode L (now (a .img)) in (
-      w .put-tok .ensures .laid,
-      (
-        s .pre .1 .0,
-        with-fits (L .services) (a .k) (t .provides (a .j)) (λ z h. s .pre .0 .room .provides-in (a .j) z h .1) (s .pre .1 .1) (omega (arith, limits (a .c)))
-            (r .provided-row .result) (c .before .with-bit .result)
-            (row-still L t (a .j) (a .k) (tokens (a .interface) (a .method)) (w .put-tok .ensures) (L .services) (r .provided-row .result) (r .provided-row .ensures)) (c .before .with-bit .ensures),
-      ),
-    )
+    let fits = open-fits (a .c) (s .pre .0) (a .j) (a .k) (s .pre .1 .1) (tokens (a .interface) (a .method)) (w .put-tok .ensures) _ _ (r .provided-row .ensures) (c .before .with-bit .ensures) in
+    (w .put-tok .ensures .laid, (s .pre .1 .0, fits))
 
 same-length : tie.Need-same-length
 same-length c = search needs
@@ -46,12 +38,7 @@ returns c =
     let w = r .before .before .before .before in
     let s = w .before .before .before in
     let a = s .args in
-    let L = layoutOf (a .c) in
-    let t = decode L (now (a .img)) in
-    open-wrote L t (a .j) (a .k) (tokens (a .interface) (a .method)) (w .put-tok .ensures) (v .with-bit .result)
-    (with-is (L .services) (a .k) (t .provides (a .j)) (λ z h. s .pre .0 .room .provides-in (a .j) z h .1) (s .pre .1 .1) (omega (arith, limits (a .c)))
-    (r .provided-row .result) (v .with-bit .result)
-    (row-still L t (a .j) (a .k) (tokens (a .interface) (a .method)) (w .put-tok .ensures) (L .services) (r .provided-row .result) (r .provided-row .ensures)) (v .with-bit .ensures))
+    open-wrote (a .c) (s .pre .0) (a .j) (a .k) (s .pre .1 .1) (tokens (a .interface) (a .method)) (w .put-tok .ensures) _ _ (r .provided-row .ensures) (v .with-bit .ensures)
     (c .before .before .set-provided .ensures)
 
 pub open-service-spec : {M : Type 1} → statement M

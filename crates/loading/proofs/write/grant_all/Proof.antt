@@ -6,21 +6,22 @@ use Rattle.policy.specs.Record.{aRow}
 use Rattle.policy.specs.Tables.{decode}
 use Rattle.geometry.specs.Geometry.{layoutOf}
 use Rattle.record.specs.Meaning.{itemsIn}
-use Rattle.loading.proofs.RowTurns.{Turning, turning-here, turning-end, all-rows, grants}
+use Rattle.engine.proofs.ItemTurns.{Turning, turning-here, turning-end, items}
+use Rattle.loading.proofs.RowTurns.{grants}
 use Rattle.loading.proofs.write.grant_all.Statement.{statement}
 use Rattle.loading.proofs.write.grant_all.Tie as tie
 
 abbrev Inv-loop : tie.InvT-loop
-Inv-loop img₀ c n rec todo₀ img todo = Turning (layoutOf c) (grants (layoutOf c) n) (decode (layoutOf c) img₀) (itemsIn aRow rec todo₀) rec img todo × (length img ≡ length img₀)
+Inv-loop img₀ c n rec todo₀ img todo = Turning aRow (layoutOf c) (grants (layoutOf c) n) (decode (layoutOf c) img₀) (itemsIn aRow rec todo₀) rec img todo × (length img ≡ length img₀)
 
 abbrev μ-loop : tie.MeasureT-loop
 μ-loop img₀ c n rec todo₀ img todo = todo .count
 
 loop-holds : tie.Need-loop-holds Inv-loop μ-loop
-loop-holds c = search all-rows
+loop-holds c = search items
 
 take-row-requires : tie.Need-take-row-requires Inv-loop μ-loop
-take-row-requires c κs = search all-rows
+take-row-requires c κs = search items
 
 grant-requires : tie.Need-grant-requires Inv-loop μ-loop
 grant-requires c κs =
@@ -32,10 +33,10 @@ loop-less : tie.Need-loop-less Inv-loop μ-loop
 loop-less c = omega (arith, c .before .before .before .before .before .before .before .take-row .ensures .split .fewer)
 
 loop-again : tie.Need-loop-again Inv-loop μ-loop
-loop-again c = search all-rows
+loop-again c = search items
 
 same-length : tie.Need-same-length Inv-loop μ-loop
-same-length c = search all-rows
+same-length c = search items
 
 returns : tie.Need-returns Inv-loop μ-loop
 returns c = turning-end _ (c .before .before .loop .inv .0) (c .if1 .left)

@@ -20,8 +20,7 @@ set-used-requires c κs =
     let u = c .before .before in
     let s = u .before .before .before .before in
     let a = s .args in
-    let L = layoutOf (a .c) in
-    (s .pre .0, used-fits L (decode L (now (a .img))) (s .pre .0 .room) (omega (arith, limits (a .c))) (a .n) (s .pre .1 .0) _ _ (u .used-row .ensures) (c .before .with-bit .ensures))
+    (s .pre .0, used-fits (a .c) (s .pre .0) (a .n) (s .pre .1 .0) _ _ (u .used-row .ensures) (c .before .with-bit .ensures))
 
 put-aid-requires : tie.Need-put-aid-requires
 put-aid-requires c κs = search needs
@@ -36,8 +35,7 @@ returns c =
     let u = b .before in
     let s = u .before .before .before .before in
     let a = s .args in
-    let L = layoutOf (a .c) in
-    named-wrote L (decode L (now (a .img))) (s .pre .0 .room) (omega (arith, limits (a .c))) (a .n) (s .pre .1 .0) _ _ (u .used-row .ensures) (b .with-bit .ensures) (now (a .aid))
+    named-wrote (a .c) (s .pre .0) (a .n) (s .pre .1 .0) _ _ (u .used-row .ensures) (b .with-bit .ensures) (now (a .aid))
     (w .set-used .ensures) (c .before .before .put-aid .ensures)
 
 pub name-spec : {M : Type 1} → statement M
