@@ -28,7 +28,7 @@ use Rattle.image.proofs.Numbers.{package-none, package-some}
 use Rattle.record.specs.Meaning.{aidIn, itemsIn, Uncons}
 use Rattle.record.specs.declared.Aid.{Aid}
 use Rattle.record.specs.declared.Items.{Items}
-use Rattle.record.proofs.Loops.{Todo, todo-next, todo-cons}
+use Rattle.record.proofs.Loops.{Todo, todo-next, todo-cons, todo-end}
 use Rattle.engine.specs.Services.{byCallers}
 
 -- the part of the record that an AID is
@@ -55,6 +55,12 @@ not-asking true b x e h = absurd (false-T (sym h) tt)
 pub asking-by : (r b x q : Bool) → r ≡ b → not r ≡ false → q ≡ x → q ≡ implies b x
 asking-by true b x q e h p = p ∙ ap (λ (z : Bool). not z || x) e
 asking-by false b x q e h p = absurd (false-T h tt)
+
+-- unmet call r, which the mask m names, is by one of the callers l
+pub row-asks : (t : Tables) (l : List Bytes) (m r : ℕ) (b q : Bool) (n : ℕ) → b ≡ bit m r → not b ≡ false → n ≡ unmetRow t r .caller → q ≡ exists (eqAid (t .aid n)) l
+    → q ≡ implies (bit m r) (exists (eqAid (t .aid (unmetRow t r .caller))) l)
+row-asks t l m r b q n e h c x =
+    asking-by b (bit m r) (exists (eqAid (t .aid (unmetRow t r .caller))) l) q e h (x ∙ ap (λ (n : ℕ). exists (eqAid (t .aid n)) l) c)
 
 -- a row that a mask names
 pub named : {A : Type 0} (f : A → Bool) (l : List A) (m r : ℕ) (d : A) → m ≡ maskOf f l → r < length l → bit m r ≡ f (getD l r d)
@@ -87,8 +93,8 @@ leb-same m n o p f g = T-eq (leb m n) (leb o p) (λ h. le→leb o p (f (leb→le
 pub room-start : (n k m n′ m′ : ℕ) → n ≡ n′ → m ≡ m′ → n′ ≤ m′ → leb k (m - n) ≡ leb (n′ + k) m′
 room-start n k m n′ m′ d e h = leb-same k (m - n) (n′ + k) m′ (λ q. omega arith) (λ q. omega arith)
 
-pub room-end : (n : ℕ) → true ≡ leb 0 n
-room-end n = sym (T-true (leb 0 n) (le→leb 0 n (omega arith)))
+pub room-end : {A : Type 0} {p : Reader A} {s : List ℕ} {todo : Items} (f : A → Bool) {b : Bool} (n : ℕ) → Todo p s todo (λ l. leb (length (keep f l)) n) b → todo .count ≤ 0 → true ≡ b
+room-end f n h e = sym (T-true (leb 0 n) (le→leb 0 n (omega arith))) ∙ todo-end h e
 
 module _ {A : Type 0} {p : Reader A} {s : List ℕ} {todo rest : Items} (f : A → Bool) {b r : Bool} {x : A} (left : ℕ) (u : Uncons p s todo x rest) (q : r ≡ f x)
     (h : Todo p s todo (λ l. leb (length (keep f l)) left) b) where

@@ -1,11 +1,13 @@
 -- The cause that the code of kinds 2 and 4 finds is the short check's. Assumes nothing.
-use Prim.Native.Nat.{ℕ, _+_, _≤_, _<_}
+use Prim.Native.Nat.{ℕ, _+_, _-_, _≤_, _<_}
 use native.Mathlib.Omega.{arith}
-use mathlib.Core.Path.{_≡_, sym, ap, _∙_}
+use mathlib.Core.Path.{_≡_, sym, ap, ap₂, _∙_}
 use mathlib.Core.Bool.{Bool, true, false, not, _&&_}
+use mathlib.Core.List.{List}
 use lib.Dec.{eqb, leb, le→leb, leb→le}
+use lib.ListN.{length}
 use borrow.Author.Tests.{eq-eqb, ne-eqb}
-use Rattle.policy.specs.Lists.{upto}
+use Rattle.policy.specs.Lists.{keep, upto}
 use Rattle.policy.specs.Layout.{Layout}
 use Rattle.policy.specs.Causes.{answer}
 use Rattle.policy.specs.Tables.{Tables, bit}
@@ -13,8 +15,9 @@ use Rattle.policy.specs.Draft.{Look}
 use Rattle.policy.specs.ShortCheck.{count, ones, shortRemove}
 use Rattle.policy.specs.Judge.{lookCauses}
 use Rattle.policy.proofs.Sets.{T-true, T-false}
+use Rattle.image.specs.Read.{maskOf}
 use Rattle.engine.proofs.Leaves.{none-pairs}
-use Rattle.engine.proofs.Counts.{full, ones-same, ones-all}
+use Rattle.engine.proofs.Counts.{full, ones-same, ones-all, rest-is}
 
 pub fits-not : (n most : ℕ) → most < n → leb n most ≡ false
 fits-not n most h = T-false (leb n most) (λ x. let l = leb→le n most x in absurd (omega arith))
@@ -44,6 +47,11 @@ module _ (L : Layout) where
 module _ (L : Layout) (t : Tables) (low : L .services ≤ 16) where
   pub column-all : (f : ℕ → ℕ → Bool) → ones L t (λ i k. f i k && bit 65535 k) ≡ ones L t f
   column-all f = ones-same L t (bit 65535) (λ k. true) (λ k h. full k (omega arith)) f ∙ ones-all L t f
+
+  -- rows of a list after a removal: those of the mask go, and left bits become rows
+  pub rows-after : {A : Type 0} (f : A → Bool) (l : List A) (all mask own left : ℕ) (few : length l ≤ 32) (p : all ≡ length l) (m : mask ≡ maskOf f l) (q : own ≡ length (keep (bit mask) (upto 32)))
+      (g : ℕ → ℕ → Bool) → left ≡ ones L t (λ i k. g i k && bit 65535 k) → all - own + left ≡ count (λ x. not (f x)) l + ones L t g
+  rows-after f l all mask own left few p m q g e = ap₂ (λ (x y : ℕ). x + y) (rest-is f l all mask own few p m q) (e ∙ column-all g)
 
   module _ (n x most : ℕ) (cap : most ≡ L .capacity) (e : x ≡ ones L t (λ i k. t .needs i n k && bit 65535 k)) where
     abbrev k : Look

@@ -14,6 +14,7 @@ pub mod Causes
 pub mod Without
 pub mod Gone
 pub mod Remove
+pub mod Clearing
 pub mod Service
 pub mod Callers
 pub mod Added

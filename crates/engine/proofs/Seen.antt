@@ -11,8 +11,9 @@ use borrow.Author.Tests.{eq-eqb, ne-eqb, lt-ltb, le-ltb, not-true, not-false}
 use Rattle.policy.specs.Lists.{orElse}
 use Rattle.policy.specs.Contract.{Aid, eqAid, eqTok, Row}
 use Rattle.policy.specs.Layout.{Layout}
-use Rattle.policy.specs.Tables.{Tables}
+use Rattle.policy.specs.Tables.{Tables, bit, rowOf}
 use Rattle.policy.specs.Lookup.{Place as Found, numberOf, serviceOf, serverOf}
+use Rattle.policy.proofs.Bits.{bit-rowOf}
 use Rattle.image.specs.declared.read.Place.{Place}
 use Rattle.image.specs.Read.{numberOr, placeOr, maskOf}
 use Rattle.image.proofs.Numbers.{package-none, package-some, service-none, service-some, server-none, server-some}
@@ -160,3 +161,7 @@ pub ruleset plans = (
   grant-called,
   needs,
 )
+
+-- a bit of a row that was read
+pub bit-seen : (n : ℕ) (f : ℕ → Bool) (row k : ℕ) (b : Bool) → b ≡ bit row k → row ≡ rowOf n f → k < n → b ≡ f k
+bit-seen n f row k b e q h = e ∙ ap (λ (r : ℕ). bit r k) q ∙ bit-rowOf n f k h

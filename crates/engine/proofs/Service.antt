@@ -134,8 +134,8 @@ module _ (L : Layout) (t : Tables) (low : L .services ≤ 16) (k : ℕ) (within 
         service-fine h = at-0 L (look .needed) (look .unmetFits) true not-needed (fits-yes unmetRows (L .capacity) (omega (arith, rows-are))) refl
 
 -- an accepted removal has room
-pub service-room : (L : Layout) (t : Tables) (j k : ℕ) → 0 ≡ answer (lookCauses L (shortRemoveService L t j k)) → RoomWithoutService L t j k
-service-room L t j k e = let look = shortRemoveService L t j k in leb→le _ (L .capacity) (go (look .needed) (look .unmetFits) e)
+pub service-room : (L : Layout) (t : Tables) (j k m : ℕ) → m ≡ answer (lookCauses L (shortRemoveService L t j k)) → m ≡ 0 → RoomWithoutService L t j k
+service-room L t j k m e z = let look = shortRemoveService L t j k in leb→le _ (L .capacity) (go (look .needed) (look .unmetFits) (sym z ∙ e))
   where
     go : (b u : Bool) → 0 ≡ answer (lookCauses L (record { granted = true; needed = b; unmetFits = u; waitingFits = true })) → T u
     go true true h = tt
@@ -166,25 +166,6 @@ module _ (L : Layout) (low : L .services ≤ 16) (a : Aid) (j k : ℕ) (within :
       (ap (λ (l : List Waiting). withWaiting l (withUnmet (t .unmet ++ leftRows L t a j (λ z. eqb z k)) t)) (ap (λ (m : ℕ). keepRows m (t .waiting)) (q ∙ ap (λ (z : Tables). maskOf of (z .waiting)) (w .tables))
       ∙ keep-mask of (t .waiting)))
       (wrote-then L (λ z. withWaiting (keepRows given (z .waiting)) z) (called-left w) v)
-
--- ---- the writes of `clear_service`
--- a table without service k of package j
-abbrev pub droppedIn : Table → ℕ → ℕ → Tables → Tables
-droppedIn tb j k z = withTable tb (withoutService tb j k (tableOf tb z)) z
-
-pub cleared-is : (t : Tables) (j k : ℕ) (g : ℕ → Bool) → (λ (x y : ℕ). cond (eqb x j) (g y) (t .provides x y)) ≡ put2 j k false (t .provides)
-    → withProvides j g (withTok j k noTok (droppedIn Needs j k (droppedIn Grants j k (droppedIn Calls j k t)))) ≡ tablesWithoutService j k t
-cleared-is t j k g e = λ i. record {
-  used = t .used;
-  aid = t .aid;
-  tok = put2 j k noTok (t .tok);
-  provides = e i;
-  calls = inColumn j k (t .calls);
-  grants = inRow j k (t .grants);
-  needs = inColumn j k (t .needs);
-  unmet = t .unmet;
-  waiting = t .waiting;
-}
 
 -- all of them leave the draft's tables
 gone-is : (L : Layout) (t : Tables) (a : Aid) (j k : ℕ) → t .aid j ≡ a → tablesWithoutService j k (listsWithoutService L t a j k) ≡ removeServiceAt L t j k .tables

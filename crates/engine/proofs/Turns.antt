@@ -117,15 +117,16 @@ module _ (c : Card) (img : List ℕ) (h : Laid (layoutOf c) img) where
       let x : Waiting = record { caller = a; callee = j; service = k } in
       wrote-as (layoutOf c) (ap (λ (v : List Waiting). withWaiting (t .waiting ++ v) t) (only-is (bit row k) b x x e q refl)) w
 
--- ---- a row of a table under a mask leaves the rows of its bits
-pub left-masked : (L : Layout) (t : Tables) (a : Aid) (j i mask r : ℕ) → r ≡ rowOf (L .services) (t .calls i j)
-    → leftRow L t a j i (bit (bitAnd r mask)) ≡ leftRow L t a j i (λ k. t .calls i j k && bit mask k)
-left-masked L t a j i mask r e =
-    flat-ext (leftOne t a j i (bit (bitAnd r mask))) (leftOne t a j i (λ k. t .calls i j k && bit mask k)) (upto (L .services))
-    (λ k m. ap (λ (b : Bool). only b (record { callee = a; tok = t .tok j k; caller = i })) (masked-bit (L .services) (t .calls i j) mask r e k (upto-in (L .services) m)))
+-- ---- a row of a table under a mask, read after rows were appended to a list, leaves the rows of its bits
+module _ (L : Layout) (t : Tables) (a : Aid) (j : ℕ) {now : Tables} where
+  pub left-masked : {l : List Unmet} → now ≡ withUnmet l t → (i mask r : ℕ) → r ≡ rowOf (L .services) (now .calls i j) → leftRow L t a j i (bit (bitAnd r mask)) ≡ leftRow L t a j i (λ k. t .calls i j k && bit mask k)
+  left-masked same i mask r e =
+      let q : r ≡ rowOf (L .services) (t .calls i j) = e ∙ ap (λ (z : Tables). rowOf (L .services) (z .calls i j)) same in
+      flat-ext (leftOne t a j i (bit (bitAnd r mask))) (leftOne t a j i (λ k. t .calls i j k && bit mask k)) (upto (L .services))
+      (λ k m. ap (λ (b : Bool). only b (record { callee = a; tok = t .tok j k; caller = i })) (masked-bit (L .services) (t .calls i j) mask r q k (upto-in (L .services) m)))
 
-pub wait-masked : (L : Layout) (t : Tables) (a : Aid) (j n r : ℕ) → r ≡ rowOf (L .services) (t .grants j n)
-    → flat (waitOne a j (bit r)) (upto (L .services)) ≡ flat (waitOne a j (t .grants j n)) (upto (L .services))
-wait-masked L t a j n r e =
-    flat-ext (waitOne a j (bit r)) (waitOne a j (t .grants j n)) (upto (L .services))
-    (λ k m. ap (λ (b : Bool). only b (record { caller = a; callee = j; service = k })) (ap (λ (x : ℕ). bit x k) e ∙ bit-rowOf (L .services) (t .grants j n) k (upto-in (L .services) m)))
+  pub wait-masked : {l : List Waiting} → now ≡ withWaiting l t → (n r : ℕ) → r ≡ rowOf (L .services) (now .grants j n) → flat (waitOne a j (bit r)) (upto (L .services)) ≡ flat (waitOne a j (t .grants j n)) (upto (L .services))
+  wait-masked same n r e =
+      let q : r ≡ rowOf (L .services) (t .grants j n) = e ∙ ap (λ (z : Tables). rowOf (L .services) (z .grants j n)) same in
+      flat-ext (waitOne a j (bit r)) (waitOne a j (t .grants j n)) (upto (L .services))
+      (λ k m. ap (λ (b : Bool). only b (record { caller = a; callee = j; service = k })) (ap (λ (x : ℕ). bit x k) q ∙ bit-rowOf (L .services) (t .grants j n) k (upto-in (L .services) m)))

@@ -28,7 +28,7 @@ use Rattle.image.proofs.Numbers.{package-none, package-some, server-none, serve
 use Rattle.record.specs.Meaning.{Uncons, itemsIn}
 use Rattle.record.specs.declared.Items.{Items}
 use Rattle.record.proofs.Loops.{Todo, todo-cons, todo-next, todo-end}
-use Rattle.engine.proofs.Callers.{caller-used}
+use Rattle.engine.proofs.Callers.{not-asking, asking-by, caller-used}
 use Rattle.loading.specs.Loads.{served, present, waitsAt, callGranted, grantFits}
 
 -- ---- two tests, the second only where the first passes
@@ -39,14 +39,6 @@ fails-first true x y e h = absurd (false-T (sym h) tt)
 pub passes-first : (b r x y : Bool) → b ≡ x → not b ≡ false → r ≡ y → r ≡ x && y
 passes-first true r x y e h q = q ∙ ap (λ (z : Bool). z && y) e
 passes-first false r x y e h q = absurd (false-T h tt)
-
-pub not-asked : (b x y : Bool) → b ≡ x → not b ≡ true → true ≡ implies x y
-not-asked false x y e h = ap (λ (z : Bool). implies z y) e
-not-asked true x y e h = absurd (false-T (sym h) tt)
-
-pub is-asked : (b r x y : Bool) → b ≡ x → not b ≡ false → r ≡ y → r ≡ implies x y
-is-asked true r x y e h q = q ∙ ap (λ (z : Bool). implies z y) e
-is-asked false r x y e h q = absurd (false-T h tt)
 
 module _ (L : Layout) (t : Tables) where
   -- ---- a package with the AID a
@@ -113,10 +105,6 @@ module _ {A : Type 0} {p : Reader A} {s : List ℕ} {todo rest : Items} (f : A �
   pub fit-same : Todo p s todo (λ l. leb (length (keep (λ y. not (f y)) l)) n) b → r ≡ true → Todo p s rest (λ l. leb (length (keep (λ y. not (f y)) l)) n) b
   fit-same h e = todo-next h u (λ l. leb (length (keep (λ y. not (f y)) l)) n) (rw (sym q ∙ e))
 
-pub fit-end : {A : Type 0} {p : Reader A} {s : List ℕ} {todo : Items} (f : A → Bool) {b : Bool} (n : ℕ)
-    → Todo p s todo (λ l. leb (length (keep (λ y. not (f y)) l)) n) b → todo .count ≤ 0 → true ≡ b
-fit-end f n h l = sym (le-leb 0 n (omega arith)) ∙ todo-end h l
-
 -- ---- the caller of an unmet call of a sound image
 pub caller-in : (L : Layout) (img : List ℕ) (r : ℕ) → T (sound L img) → r < length (decode L img .unmet) → unmetRow (decode L img) r .caller < L .packages
 caller-in L img r ok h = caller-used L img ok r (unmetRow (decode L img) r .caller) h refl .0
@@ -172,4 +160,4 @@ module _ (g h n u w : Bool) where
           pub cause-0 : (k : Bool) → k ≡ w → not k ≡ false → 0 ≡ causeOf g h n u w
           cause-0 k e q = (λ i. causeOf (on-1 i) (on-2 i) (on-3 i) (on-4 i) ((sym (not-false k q) ∙ e) i))
 
-pub ruleset checks = (present-is, served-is, granted-off, granted-on, fails-first, passes-first, not-asked, is-asked, needs)
+pub ruleset checks = (present-is, served-is, granted-off, granted-on, fails-first, passes-first, not-asking, asking-by, needs)

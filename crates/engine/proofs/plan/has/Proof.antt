@@ -1,11 +1,12 @@
 -- `engine::plan::has` meets its contract.
 use native.Mathlib.Omega.{arith}
-use mathlib.Core.Path.{ap, _∙_}
-use Prim.Native.Nat.{ℕ}
+use denote.Ref.{now}
 use borrow.Author.Needs.{needs}
-use Rattle.policy.specs.Tables.{bit}
-use Rattle.policy.proofs.Bits.{bit-rowOf}
+use Rattle.policy.specs.Tables.{decode}
+use Rattle.geometry.specs.Geometry.{layoutOf}
 use Rattle.geometry.proofs.Bounds.{limits}
+use Rattle.image.specs.Laid.{tableOf}
+use Rattle.engine.proofs.Seen.{bit-seen}
 use Rattle.engine.proofs.plan.has.Statement.{statement}
 use Rattle.engine.proofs.plan.has.Tie as tie
 
@@ -14,8 +15,10 @@ has-bit-requires c κs = omega (arith, limits (c .before .before .args .c))
 
 returns : tie.Need-returns
 returns c =
-    let a = c .before .before .before .args in
-    c .has-bit .ensures ∙ ap (λ (r : ℕ). bit r (a .k)) (c .before .entry .ensures) ∙ bit-rowOf _ _ (a .k) (c .before .before .before .pre .1 .2)
+    let s = c .before .before .before in
+    let a = s .args in
+    let L = layoutOf (a .c) in
+    bit-seen (L .services) (tableOf (a .tb) (decode L (now (a .img))) (a .i) (a .j)) (c .before .entry .result) (a .k) _ (c .has-bit .ensures) (c .before .entry .ensures) (s .pre .1 .2)
 
 pub has-spec : {M : Type 1} → statement M
 has-spec = tie.close (tie.spec (λ c κs. search needs) has-bit-requires returns)

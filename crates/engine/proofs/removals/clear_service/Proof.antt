@@ -1,18 +1,8 @@
 -- `engine::removals::clear_service` meets its contract. Assumes nothing.
 use native.Mathlib.Omega.{arith}
-use mathlib.Core.Path.{_≡_, ap, _∙_}
-use mathlib.Core.Bool.{false}
 use borrow.Author.Needs.{needs}
-use Rattle.policy.specs.Tables.{Tables, noTok, bit, rowOf, decode}
-use Rattle.geometry.specs.Geometry.{layoutOf}
 use Rattle.geometry.proofs.Bounds.{limits}
-use Rattle.geometry.specs.declared.Table.the-variants.{Grants, Needs}
-use Rattle.image.specs.Laid.{withTok, withProvides}
-use Rattle.image.proofs.Clears.{wrote-then}
-use Rattle.image.proofs.RowBits.{bit-clear}
-use Rattle.image.proofs.Writes.{provides-put}
-use Rattle.engine.proofs.Appends.{wrote-as}
-use Rattle.engine.proofs.Service.{droppedIn, cleared-is}
+use Rattle.engine.proofs.Clearing.{service-fits, service-cleared}
 use Rattle.engine.proofs.removals.clear_service.Statement.{statement}
 use Rattle.engine.proofs.removals.clear_service.Tie as tie
 
@@ -36,39 +26,30 @@ without-bit-requires c κs = let s = c .before .before .before .before .before .
 
 set-provided-requires : tie.Need-set-provided-requires
 set-provided-requires c κs =
-    let s = c .before .before .before .before .before .before .before .before .before .before .before .before .before .before .before .before .before .before .before .before .before in
-    let a = s .args in
-    let L = layoutOf (a .c) in
-    let w1 = c .before .before .before .before .before .before .before .before .before .before .before .before .before .before .before .before .before .before .clear-column-bit .ensures in
-    let w2 = wrote-then L (droppedIn Grants (a .j) (a .k)) w1 (c .before .before .before .before .before .before .before .before .before .before .before .before .before .before .clear-column-bit2 .ensures) in
-    let w3 = wrote-then L (droppedIn Needs (a .j) (a .k)) w2 (c .before .before .before .before .before .before .before .before .before .before .clear-column-bit3 .ensures) in
-    let w4 = wrote-then L (withTok (a .j) (a .k) noTok) w3 (c .before .before .before .before .before .before .put-tok .ensures) in
-    let r = c .before .before .provided-row in
-    let v = c .before .without-bit in
-    let p = L .services in
-    let f = decode L (a .img .now) .provides (a .j) in
-    let e : r .result ≡ rowOf p f = r .ensures ∙ ap (λ (z : Tables). rowOf p (z .provides (a .j))) (w4 .tables) in
-    (w4 .laid, (s .pre .1 .0, provides-put (a .c) (s .pre .0) (a .k) false (r .result) (v .result) _ (v .ensures) (bit-clear (a .k) (bit (r .result))) (a .j) (s .pre .1 .1) e .0))
+    let r = c .before .before in
+    let w4 = r .before .before .before .before in
+    let w3 = w4 .before .before .before .before in
+    let w2 = w3 .before .before .before .before in
+    let w1 = w2 .before .before .before .before in
+    let s = w1 .before .before .before in
+    let fits = service-fits (s .args .c) (s .pre .0) (s .args .j) (s .args .k) (s .pre .1 .1) (w1 .clear-column-bit .ensures) (w2 .clear-column-bit2 .ensures) (w3 .clear-column-bit3 .ensures)
+    (w4 .put-tok .ensures) (r .provided-row .result) (c .before .without-bit .result) (r .provided-row .ensures) (c .before .without-bit .ensures) in
+    (w4 .put-tok .ensures .laid, (s .pre .1 .0, fits))
 
 same-length : tie.Need-same-length
 same-length c = search needs
 
 returns : tie.Need-returns
 returns c =
-    let s = c .before .before .before .before .before .before .before .before .before .before .before .before .before .before .before .before .before .before .before .before .before .before .before .before in
-    let a = s .args in
-    let L = layoutOf (a .c) in
-    let w1 = c .before .before .before .before .before .before .before .before .before .before .before .before .before .before .before .before .before .before .before .before .before .clear-column-bit .ensures in
-    let w2 = wrote-then L (droppedIn Grants (a .j) (a .k)) w1 (c .before .before .before .before .before .before .before .before .before .before .before .before .before .before .before .before .before .clear-column-bit2 .ensures) in
-    let w3 = wrote-then L (droppedIn Needs (a .j) (a .k)) w2 (c .before .before .before .before .before .before .before .before .before .before .before .before .before .clear-column-bit3 .ensures) in
-    let w4 = wrote-then L (withTok (a .j) (a .k) noTok) w3 (c .before .before .before .before .before .before .before .before .before .put-tok .ensures) in
-    let r = c .before .before .before .before .before .provided-row in
-    let v = c .before .before .before .before .without-bit in
-    let p = L .services in
-    let f = decode L (a .img .now) .provides (a .j) in
-    let e : r .result ≡ rowOf p f = r .ensures ∙ ap (λ (z : Tables). rowOf p (z .provides (a .j))) (w4 .tables) in
-    wrote-as L (cleared-is (decode L (a .img .now)) (a .j) (a .k) (bit (v .result)) (provides-put (a .c) (s .pre .0) (a .k) false (r .result) (v .result) _ (v .ensures) (bit-clear (a .k) (bit (r .result))) (a .j) (s .pre .1 .1) e .1))
-    (wrote-then L (withProvides (a .j) (bit (v .result))) w4 (c .before .before .set-provided .ensures))
+    let b = c .before .before .before .before in
+    let r = b .before in
+    let w4 = r .before .before .before .before in
+    let w3 = w4 .before .before .before .before in
+    let w2 = w3 .before .before .before .before in
+    let w1 = w2 .before .before .before .before in
+    let s = w1 .before .before .before in
+    service-cleared (s .args .c) (s .pre .0) (s .args .j) (s .args .k) (s .pre .1 .1) (w1 .clear-column-bit .ensures) (w2 .clear-column-bit2 .ensures) (w3 .clear-column-bit3 .ensures)
+    (w4 .put-tok .ensures) (r .provided-row .result) (b .without-bit .result) (r .provided-row .ensures) (b .without-bit .ensures) (c .before .before .set-provided .ensures)
 
 pub clear-service-spec : {M : Type 1} → statement M
 clear-service-spec = tie.close (tie.spec clear-column-bit-requires clear-column-bit-requires-2 clear-column-bit-requires-3 put-tok-requires provided-row-requires without-bit-requires set-provided-requires same-length returns)

@@ -45,7 +45,7 @@ leave-row-requires c κs =
     let w = l .inv .1 in
     let r = c .before .entry in
     let p = s .pre .1 in
-    let e = left-masked L t (a .aid .now) (a .j) (l .i) (a .mask) (r .result) (r .ensures ∙ ap (λ (z : Tables). rowOf (L .services) (z .calls (l .i) (a .j))) (w .tables)) in (
+    let e = left-masked L t (a .aid .now) (a .j) (w .tables) (l .i) (a .mask) (r .result) (r .ensures) in (
       w .laid,
       (
         (p .0, omega arith),
@@ -71,7 +71,7 @@ loop-again c =
     let l = c .before .before .before .before .before .before .before .loop in
     let w = l .inv .1 in
     let r = c .before .before .before .before .entry in
-    let e = left-masked L t (a .aid .now) (a .j) (l .i) (a .mask) (r .result) (r .ensures ∙ ap (λ (z : Tables). rowOf (L .services) (z .calls (l .i) (a .j))) (w .tables)) in (
+    let e = left-masked L t (a .aid .now) (a .j) (w .tables) (l .i) (a .mask) (r .result) (r .ensures) in (
       omega arith,
       append-turn L unmets t (λ x. leftRow L t (a .aid .now) (a .j) x (λ k. t .calls x (a .j) k && bit (a .mask) k)) (l .i) w
           (λ z. leftRow L z (a .aid .now) (a .j) (l .i) (bit (bitAnd (r .result) (a .mask)))) e (c .before .before .leave-row .ensures),

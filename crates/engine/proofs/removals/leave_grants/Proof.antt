@@ -43,7 +43,7 @@ wait-row-requires c κs =
     let w = l .inv .1 in
     let r = c .before .entry in
     let p = s .pre .1 in
-    let e = wait-masked L t (a .aid .now) (l .j) (a .n) (r .result) (r .ensures ∙ ap (λ (z : Tables). rowOf (L .services) (z .grants (l .j) (a .n))) (w .tables)) in (
+    let e = wait-masked L t (a .aid .now) (l .j) (w .tables) (a .n) (r .result) (r .ensures) in (
       w .laid,
       (
         omega arith,
@@ -69,7 +69,7 @@ loop-again c =
     let l = c .before .before .before .before .before .before .before .loop in
     let w = l .inv .1 in
     let r = c .before .before .before .before .entry in
-    let e = wait-masked L t (a .aid .now) (l .j) (a .n) (r .result) (r .ensures ∙ ap (λ (z : Tables). rowOf (L .services) (z .grants (l .j) (a .n))) (w .tables)) in (
+    let e = wait-masked L t (a .aid .now) (l .j) (w .tables) (a .n) (r .result) (r .ensures) in (
       omega arith,
       append-turn L waitings t (λ x. waitRow L t (a .aid .now) x (t .grants x (a .n))) (l .j) w
           (λ z. waitRow L z (a .aid .now) (l .j) (bit (r .result))) e (c .before .before .wait-row .ensures),

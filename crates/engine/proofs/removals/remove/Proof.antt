@@ -72,7 +72,7 @@ leave-lists-requires c κs =
     let i = c .before .before .before .before .if1 .left in
     let m = c .before .before .remove-cause in
     let z = c .before .if2 .left in
-    (asked-laid L (a .img .now) (a .aid .now) (s .pre), (omega arith, (asked-short L (a .img .now) (a .aid .now) (s .pre), removed-room L (decode L (a .img .now)) (f .result) (sym z ∙ m .ensures))))
+    (asked-laid L (a .img .now) (a .aid .now) (s .pre), (omega arith, (asked-short L (a .img .now) (a .aid .now) (s .pre), removed-room L (decode L (a .img .now)) (f .result) (m .result) (m .ensures) z)))
 
 clear-package-requires : tie.Need-clear-package-requires
 clear-package-requires c κs =

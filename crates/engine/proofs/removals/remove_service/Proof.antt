@@ -114,7 +114,7 @@ leave-service-requires c κs =
     let u = c .before .before .before .before .before .services .ensures in
     let y = c .before .before .before .before .if2 .left in
     let m = c .before .before .service-cause in
-    (asked-laid L (a .img .now) (a .aid .now) (s .pre), ((omega arith, omega arith), (asked-short L (a .img .now) (a .aid .now) (s .pre), service-room L (decode L (a .img .now)) (f .result) (g .result) (sym (c .before .if3 .left) ∙ m .ensures))))
+    (asked-laid L (a .img .now) (a .aid .now) (s .pre), ((omega arith, omega arith), (asked-short L (a .img .now) (a .aid .now) (s .pre), service-room L (decode L (a .img .now)) (f .result) (g .result) (m .result) (m .ensures) (c .before .if3 .left))))
 
 clear-service-requires : tie.Need-clear-service-requires
 clear-service-requires c κs =

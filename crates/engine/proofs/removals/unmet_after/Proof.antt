@@ -8,8 +8,8 @@ use Rattle.policy.specs.Tables.{decode}
 use Rattle.geometry.specs.Geometry.{layoutOf}
 use Rattle.geometry.proofs.Bounds.{limits}
 use Rattle.image.proofs.Listed.{unmet-low}
-use Rattle.engine.proofs.Counts.{own-le, rest-is}
-use Rattle.engine.proofs.Causes.{column-all}
+use Rattle.engine.proofs.Counts.{own-le}
+use Rattle.engine.proofs.Causes.{rows-after}
 use Rattle.engine.proofs.removals.unmet_after.Statement.{statement}
 use Rattle.engine.proofs.removals.unmet_after.Tie as tie
 
@@ -43,10 +43,9 @@ returns c =
     let s = c .before .before .before .before .before in
     let a = s .args in
     let t = decode (layoutOf (a .c)) (a .img .now) in
-    ap₂ (λ (x y : ℕ). x + y)
-    (rest-is (λ u. eqb (u .caller) (a .n)) (t .unmet) (c .before .before .before .unmet-count .result) (c .before .before .calling .result) (c .before .mask-count .result)
-    (unmet-low (a .c) (a .img .now) (s .pre .0)) (c .before .before .before .unmet-count .ensures) (c .before .before .calling .ensures) (c .before .mask-count .ensures))
-    (c .column .ensures .0 ∙ column-all (layoutOf (a .c)) t (limits (a .c) .services-low) (λ i k. t .calls i (a .n) k))
+    rows-after (layoutOf (a .c)) t (limits (a .c) .services-low) (λ u. eqb (u .caller) (a .n)) (t .unmet) (c .before .before .before .unmet-count .result) (c .before .before .calling .result)
+    (c .before .mask-count .result) (c .column .result) (unmet-low (a .c) (a .img .now) (s .pre .0)) (c .before .before .before .unmet-count .ensures) (c .before .before .calling .ensures)
+    (c .before .mask-count .ensures) (λ i k. t .calls i (a .n) k) (c .column .ensures .0)
 
 pub unmet-after-spec : {M : Type 1} → statement M
 unmet-after-spec = tie.close (tie.spec unmet-count-requires calling-requires mask-count-requires column-requires sub-rest add-total returns)

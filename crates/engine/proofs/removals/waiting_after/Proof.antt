@@ -8,8 +8,8 @@ use Rattle.policy.specs.Tables.{decode}
 use Rattle.geometry.specs.Geometry.{layoutOf}
 use Rattle.geometry.proofs.Bounds.{limits}
 use Rattle.image.proofs.Listed.{waiting-low}
-use Rattle.engine.proofs.Counts.{own-le, rest-is}
-use Rattle.engine.proofs.Causes.{column-all}
+use Rattle.engine.proofs.Counts.{own-le}
+use Rattle.engine.proofs.Causes.{rows-after}
 use Rattle.engine.proofs.removals.waiting_after.Statement.{statement}
 use Rattle.engine.proofs.removals.waiting_after.Tie as tie
 
@@ -43,10 +43,9 @@ returns c =
     let s = c .before .before .before .before .before in
     let a = s .args in
     let t = decode (layoutOf (a .c)) (a .img .now) in
-    ap₂ (λ (x y : ℕ). x + y)
-    (rest-is (λ u. eqb (u .callee) (a .n)) (t .waiting) (c .before .before .before .waiting-count .result) (c .before .before .granted-by .result) (c .before .mask-count .result)
-    (waiting-low (a .c) (a .img .now) (s .pre .0)) (c .before .before .before .waiting-count .ensures) (c .before .before .granted-by .ensures) (c .before .mask-count .ensures))
-    (c .column .ensures .0 ∙ column-all (layoutOf (a .c)) t (limits (a .c) .services-low) (λ i k. t .grants i (a .n) k))
+    rows-after (layoutOf (a .c)) t (limits (a .c) .services-low) (λ u. eqb (u .callee) (a .n)) (t .waiting) (c .before .before .before .waiting-count .result) (c .before .before .granted-by .result)
+    (c .before .mask-count .result) (c .column .result) (waiting-low (a .c) (a .img .now) (s .pre .0)) (c .before .before .before .waiting-count .ensures) (c .before .before .granted-by .ensures)
+    (c .before .mask-count .ensures) (λ i k. t .grants i (a .n) k) (c .column .ensures .0)
 
 pub waiting-after-spec : {M : Type 1} → statement M
 waiting-after-spec = tie.close (tie.spec waiting-count-requires granted-by-requires mask-count-requires column-requires sub-rest add-total returns)

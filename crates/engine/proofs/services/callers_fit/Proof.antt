@@ -66,7 +66,10 @@ loop-again c =
     room-next _ (l .left) (d .take-aid .ensures .split) (c .before .before .is-new .ensures) (l .inv) (c .before .if2 .left)
 
 returns-2 : tie.Need-returns-2 Inv-loop μ-loop
-returns-2 c = let l = c .before .before .loop in room-end (l .left) ∙ todo-end (l .inv) (c .if1 .left)
+returns-2 c =
+    let x = c .before .before .before .before .before .before .before .args in
+    let l = c .before .before .loop in
+    room-end (notInstalled (layoutOf (x .c)) (decode (layoutOf (x .c)) (now (x .img)))) (l .left) (l .inv) (c .if1 .left)
 
 pub callers-fit-spec : {M : Type 1} → statement M
 callers-fit-spec =

@@ -11,7 +11,7 @@ use Rattle.record.specs.Meaning.{itemsIn}
 use Rattle.geometry.specs.Geometry.{layoutOf}
 use Rattle.image.proofs.Laid.{sound-laid}
 use Rattle.image.proofs.Listed.{unmet-low}
-use Rattle.engine.proofs.Callers.{caller-used, not-asking, asking-by}
+use Rattle.engine.proofs.Callers.{caller-used, not-asking, row-asks}
 use borrow.Author.Needs.{needs}
 use Rattle.engine.proofs.services.row_granted.Statement.{statement}
 use Rattle.engine.proofs.services.row_granted.Tie as tie
@@ -34,8 +34,8 @@ is-among-requires c κs =
 returns-2 : tie.Need-returns-2
 returns-2 c =
     let s = c .before .before .before .before .before .before .args in
-    asking-by _ _ _ _ (c .before .before .before .has-row .ensures) (c .before .before .if1 .left)
-    (c .is-among .ensures ∙ ap (λ (n : ℕ). exists (eqAid (decode (layoutOf (s .c)) (now (s .img)) .aid n)) (itemsIn aid (now (s .rec)) (s .callers))) (c .before .unmet-caller .ensures))
+    row-asks (decode (layoutOf (s .c)) (now (s .img))) (itemsIn aid (now (s .rec)) (s .callers)) (s .asking) (s .r) _ _ _
+    (c .before .before .before .has-row .ensures) (c .before .before .if1 .left) (c .before .unmet-caller .ensures) (c .is-among .ensures)
 
 pub row-granted-spec : {M : Type 1} → statement M
 row-granted-spec =

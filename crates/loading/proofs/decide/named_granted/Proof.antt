@@ -9,7 +9,8 @@ use Rattle.image.specs.Read.{unmetRow}
 use Rattle.image.proofs.Listed.{unmet-low}
 use Rattle.record.specs.Meaning.{itemsIn}
 use Rattle.loading.specs.Loads.{grantFits}
-use Rattle.loading.proofs.Checks.{not-asked, is-asked, checks}
+use Rattle.engine.proofs.Callers.{not-asking, asking-by}
+use Rattle.loading.proofs.Checks.{checks}
 use Rattle.loading.proofs.decide.named_granted.Statement.{statement}
 use Rattle.loading.proofs.decide.named_granted.Tie as tie
 
@@ -22,7 +23,7 @@ returns : tie.Need-returns
 returns c =
     let x = c .before .before .before .before .before .args in
     let t = decode (layoutOf (x .c)) (now (x .img)) in
-    not-asked _ (bit (x .met) (x .r)) (exists (grantFits (layoutOf (x .c)) t (now (x .aid)) (unmetRow t (x .r))) (itemsIn aRow (now (x .rec)) (x .grants))) (c .before .has-row .ensures) (c .if1 .taken)
+    not-asking _ (bit (x .met) (x .r)) (exists (grantFits (layoutOf (x .c)) t (now (x .aid)) (unmetRow t (x .r))) (itemsIn aRow (now (x .rec)) (x .grants))) (c .before .has-row .ensures) (c .if1 .taken)
 
 row-granted-requires : tie.Need-row-granted-requires
 row-granted-requires c κs = search checks
@@ -31,7 +32,7 @@ returns-2 : tie.Need-returns-2
 returns-2 c =
     let x = c .before .before .before .before .before .before .args in
     let t = decode (layoutOf (x .c)) (now (x .img)) in
-    is-asked _ _ (bit (x .met) (x .r)) (exists (grantFits (layoutOf (x .c)) t (now (x .aid)) (unmetRow t (x .r))) (itemsIn aRow (now (x .rec)) (x .grants))) (c .before .before .has-row .ensures) (c .before .if1 .left) (c .row-granted .ensures)
+    asking-by _ (bit (x .met) (x .r)) (exists (grantFits (layoutOf (x .c)) t (now (x .aid)) (unmetRow t (x .r))) (itemsIn aRow (now (x .rec)) (x .grants))) _ (c .before .before .has-row .ensures) (c .before .if1 .left) (c .row-granted .ensures)
 
 pub named-granted-spec : {M : Type 1} → statement M
 named-granted-spec =

@@ -13,7 +13,8 @@ use Rattle.geometry.specs.Geometry.{layoutOf}
 use Rattle.record.specs.Meaning.{itemsIn}
 use Rattle.record.proofs.Loops.{Todo, todo-start}
 use Rattle.loading.specs.Loads.{served}
-use Rattle.loading.proofs.Checks.{fit-none, fit-less, fit-same, fit-end}
+use Rattle.engine.proofs.Callers.{room-end}
+use Rattle.loading.proofs.Checks.{fit-none, fit-less, fit-same}
 use Rattle.loading.proofs.decide.unserved_fit.Statement.{statement}
 use Rattle.loading.proofs.decide.unserved_fit.Tie as tie
 
@@ -60,7 +61,7 @@ loop-again-2 c =
 returns-2 : tie.Need-returns-2 Inv-loop μ-loop
 returns-2 c =
     let x = c .before .before .before .before .before .args in
-    fit-end (λ (z : Row). served (layoutOf (x .c)) (decode (layoutOf (x .c)) (now (x .img))) z) (c .before .before .loop .left) (c .before .before .loop .inv) (c .if1 .left)
+    room-end (λ (z : Row). not (served (layoutOf (x .c)) (decode (layoutOf (x .c)) (now (x .img))) z)) (c .before .before .loop .left) (c .before .before .loop .inv) (c .if1 .left)
 
 pub unserved-fit-spec : {M : Type 1} → statement M
 unserved-fit-spec =
