@@ -16,6 +16,9 @@ pub const B: &[u8] = &[0xF0, 0, 0, 0, 3];
 /// An AID that is never installed.
 pub const X: &[u8] = &[0xF0, 0, 0, 0, 9];
 
+/// The longest record that the Rattle program `cases` reads.
+const LONGEST: usize = 4145;
+
 pub struct Case {
     pub name: &'static str,
     /// Whether the paper marks it.
@@ -32,6 +35,11 @@ pub struct Step {
 /// Every case, in the paper's order.
 pub fn all() -> Vec<Case> {
     edges::cases().into_iter().chain(misread::cases()).chain(worked::cases()).collect()
+}
+
+/// The input of the Rattle program `cases`: every case, one behind another.
+pub fn input() -> Vec<u8> {
+    all().iter().flat_map(Case::input).collect()
 }
 
 impl Case {
@@ -52,7 +60,27 @@ impl Case {
                 answer => format!("{answer} -"),
             })
             .collect();
-        format!("{}{}: {}", if self.marked { "M " } else { "" }, self.name, words.join(", "))
+        format!("{}: {}", self.title(), words.join(", "))
+    }
+
+    /// The name as it is printed.
+    fn title(&self) -> String {
+        format!("{}{}", if self.marked { "M " } else { "" }, self.name)
+    }
+
+    /// The case as the Rattle program `cases` reads it: a length byte and the name, a byte with the number of
+    /// records, and each record behind two length bytes, big-endian.
+    fn input(&self) -> Vec<u8> {
+        let title = self.title();
+        let mut bytes = vec![u8::try_from(title.len()).expect("a name of at most 255 bytes")];
+        bytes.extend(title.bytes());
+        bytes.push(u8::try_from(self.steps.len()).expect("at most 255 records"));
+        for Step { record, .. } in &self.steps {
+            assert!(record.len() <= LONGEST, "a record of {} bytes", record.len());
+            bytes.extend([(record.len() / 256) as u8, (record.len() % 256) as u8]);
+            bytes.extend(record);
+        }
+        bytes
     }
 
     pub fn expected(&self) -> Vec<Verdict> {

@@ -1,9 +1,10 @@
 //! The table of cases holds on the machine and on every engine.
 
 use second::card::{linked, Bytes, Card, IMAGE};
-use second::cases::{all, worked, Case};
+use second::cases::{all, input, worked, Case};
 use second::pairs::Kind;
 use std::collections::BTreeSet;
+use std::path::Path;
 
 fn named(name: &str) -> Case {
     all().into_iter().find(|case| case.name == name).expect("a case of that name")
@@ -16,6 +17,22 @@ fn every_case_is_answered_as_expected() {
         let verdicts = case.run(&cards).unwrap_or_else(|difference| panic!("{}: {difference}", case.name));
         assert_eq!(case.line(&verdicts), case.line(&case.expected()));
         assert!(!case.steps.is_empty());
+    }
+}
+
+/// What is stored beside the Rattle program `cases` is the table and what the second engine answers.
+#[test]
+fn the_stored_input_and_output_are_the_tables() {
+    let cards = linked();
+    let lines: String = all().iter().map(|case| case.line(&case.run(&cards).expect("no difference")) + "\n").collect();
+    for (name, option, bytes) in [("stdin", " --stdin", input()), ("stdout", "", lines.into_bytes())] {
+        let path = Path::new(env!("CARGO_MANIFEST_DIR")).join("../crates/cases").join(name);
+        let stored = std::fs::read(&path).unwrap_or_else(|error| panic!("{}: {error}", path.display()));
+        assert!(
+            stored == bytes,
+            "crates/cases/{name} is not the table's; in tests, write it anew: \
+             cargo run --release --offline --bin cases --{option} > ../crates/cases/{name}"
+        );
     }
 }
 

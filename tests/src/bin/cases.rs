@@ -1,23 +1,49 @@
 //! Runs every case of the table on the machine and every engine, and prints a line for each.
 //!
-//!     cases [--records]
+//!     cases [--records | --stdin | --help]
 //!
-//! With `--records` the records follow each line, in hexadecimal.
+//! With `--records` the records follow each line, in hexadecimal. With `--stdin` it writes the input of the
+//! Rattle program `cases` instead.
 
 use second::card::linked;
-use second::cases::{all, Case};
+use second::cases::{all, input, Case};
 use second::hex::to_hex;
+use std::io::{stdout, Write};
 use std::process::ExitCode;
 
+const HELP: &str = "\
+cases            runs every case and prints its line
+cases --records  the records too, in hexadecimal
+cases --stdin    writes the input of the Rattle program `cases`: for each case, in the same order, one byte with the
+                 name's length, the name, one byte with the number of records, and each record behind two length
+                 bytes (big-endian, at most 4,145)
+";
+
 fn main() -> ExitCode {
-    let with_records = match std::env::args().nth(1).as_deref() {
-        None => false,
-        Some("--records") => true,
+    match std::env::args().nth(1).as_deref() {
+        None => run(false),
+        Some("--records") => run(true),
+        Some("--stdin") => written(&input()),
+        Some("--help") => written(HELP.as_bytes()),
         Some(other) => {
-            eprintln!("{other}: not known; there is --records");
-            return ExitCode::FAILURE;
+            eprintln!("{other}: not known; there are --records, --stdin and --help");
+            ExitCode::FAILURE
         }
-    };
+    }
+}
+
+/// Writes the bytes as they are.
+fn written(bytes: &[u8]) -> ExitCode {
+    match stdout().write_all(bytes) {
+        Ok(()) => ExitCode::SUCCESS,
+        Err(error) => {
+            eprintln!("{error}");
+            ExitCode::FAILURE
+        }
+    }
+}
+
+fn run(with_records: bool) -> ExitCode {
     let failed = all().iter().filter(|case| !holds(case, with_records)).count();
     match failed {
         0 => ExitCode::SUCCESS,
