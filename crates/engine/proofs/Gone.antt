@@ -3,13 +3,13 @@ use Prim.Native.Nat.{ℕ, _≤_}
 use native.Mathlib.Omega.{arith}
 use mathlib.Core.Path.{_≡_, sym, ap, _∙_}
 use mathlib.Core.Bool.{Bool, true, false, not, _&&_, _||_, cond}
-use mathlib.Core.List.{List, [], _++_, map}
+use mathlib.Core.List.{[], _++_}
 use lib.Dec.{T, eqb, leb→le}
-use Rattle.policy.specs.Lists.{keep, flat, upto}
+use Rattle.policy.specs.Lists.{keep}
 use Rattle.policy.specs.Contract.{Aid}
 use Rattle.policy.specs.Layout.{Layout}
 use Rattle.policy.specs.Causes.{answer}
-use Rattle.policy.specs.Tables.{Tables, Unmet, Waiting, noTok, bit}
+use Rattle.policy.specs.Tables.{Tables, noTok, bit}
 use Rattle.policy.specs.Draft.{put, leftBy, removeAt}
 use Rattle.policy.specs.ShortCheck.{shortRemove}
 use Rattle.policy.specs.Judge.{lookCauses}

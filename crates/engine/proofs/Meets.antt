@@ -9,21 +9,17 @@ use mathlib.Core.Option.{Option, none, some}
 use lib.ListN.{length, getD, take, drop, drop-of-length-le}
 use lib.Seq.{drop-cons}
 use Rattle.policy.specs.Contract.{Aid}
-use Rattle.policy.specs.Lists.{keep, isSome}
-use Rattle.policy.specs.Record.{aid}
 use Rattle.policy.specs.ShortCheck.{count, notInstalled}
 use Rattle.policy.specs.Layout.{Layout}
 use Rattle.policy.specs.Tables.{Tables, Unmet, bit, decode}
 use Rattle.policy.specs.Lookup.{numberOf}
 use Rattle.policy.specs.Draft.{put3, withCalls, withGrants, addGrantAt}
-use Rattle.policy.proofs.Sets.{false-T, length-snoc}
+use Rattle.policy.proofs.Sets.{false-T}
 use Rattle.image.specs.Laid.{Laid, withWaiting}
 use Rattle.image.specs.Wrote.{Wrote}
 use Rattle.image.specs.Read.{maskOf, numberOr, noUnmet, unmetRow}
 use Rattle.image.proofs.Numbers.{package-none, package-some}
-use Rattle.record.specs.Meaning.{AidFits, itemsIn, Uncons}
-use Rattle.record.specs.declared.Items.{Items}
-use Rattle.record.proofs.Loops.{Todo, todo-end, todo-next}
+use Rattle.record.specs.Meaning.{AidFits}
 use Rattle.record.specs.declared.Aid.{Aid as Place}
 use Rattle.engine.specs.Services.{metOne, met, CallersIn, grantedTo}
 use Rattle.engine.proofs.Callers.{in-row, named}

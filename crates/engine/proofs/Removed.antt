@@ -1,15 +1,14 @@
 -- The outcome of kinds 2 and 4 by what is found and by the short check. Assumes nothing.
 use Prim.Native.Nat.{ℕ, zero, suc}
-use mathlib.Core.Path.{_≡_, refl, sym, ap, _∙_, subst}
-use mathlib.Core.Bool.{Bool, true, false, not}
+use mathlib.Core.Path.{_≡_, refl, sym, ap, _∙_}
+use mathlib.Core.Bool.{Bool, false, not}
 use mathlib.Core.List.{List, [], _∷_}
 use mathlib.Core.Option.{Option, none, some}
-use lib.Dec.{T}
 use Rattle.policy.specs.Lists.{isSome, orElse}
 use Rattle.policy.specs.Contract.{Aid, Tok, hasTok}
 use Rattle.policy.specs.Layout.{Layout}
 use Rattle.policy.specs.Record.{Change, remove, removeService}
-use Rattle.policy.specs.Causes.{Cause, _when_, answer}
+use Rattle.policy.specs.Causes.{_when_, answer}
 use Rattle.policy.specs.Tables.{Tables, decode, encode}
 use Rattle.policy.specs.Lookup.{numberOf, serviceOf, freeNumber, contractAt}
 use Rattle.policy.specs.Draft.{Draft, Look, kept, draft, numberFor, removeAt, removeServiceAt, atService}

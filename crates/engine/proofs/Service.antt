@@ -13,18 +13,16 @@ use Rattle.policy.specs.Contract.{Aid, Tok}
 use Rattle.policy.specs.Layout.{Layout}
 use Rattle.policy.specs.Record.{removeService}
 use Rattle.policy.specs.Causes.{answer}
-use Rattle.policy.specs.Tables.{Tables, Unmet, Waiting, noTok, bit, rowOf, decode}
+use Rattle.policy.specs.Tables.{Tables, Unmet, Waiting, bit, rowOf, decode}
 use Rattle.policy.specs.Lookup.{numbers, numberOf, serviceOf}
-use Rattle.policy.specs.Draft.{Look, put, put2, leftBy, removeServiceAt}
+use Rattle.policy.specs.Draft.{Look, leftBy, removeServiceAt}
 use Rattle.policy.specs.ShortCheck.{count, sum, ones, shortRemoveService}
 use Rattle.policy.specs.Judge.{lookCauses}
 use Rattle.policy.specs.Settled.{settled, Gives}
 use Rattle.bits.proofs.Row.{bit-none, bit-rowOf}
 use Rattle.rows.specs.Area.{keepRows}
-use Rattle.geometry.specs.declared.Table.{Table}
-use Rattle.geometry.specs.declared.Table.the-variants.{Calls, Grants, Needs}
-use Rattle.image.specs.Laid.{tableOf, withTok, withProvides, withTable, withUnmet, withWaiting}
-use Rattle.image.specs.Wrote.{Wrote, inColumn, inRow, withoutService}
+use Rattle.image.specs.Laid.{withUnmet, withWaiting}
+use Rattle.image.specs.Wrote.{Wrote}
 use Rattle.image.specs.Read.{maskOf, numberOr}
 use Rattle.image.proofs.Masks.{keep-mask}
 use Rattle.image.proofs.Numbers.{package-none, package-some, service-none, service-some}

@@ -1,5 +1,5 @@
 -- The plan of kind 3 comes to its outcome: the writes, one after another, give the tables of the draft. Assumes nothing.
-use Prim.Native.Nat.{ℕ, zero, suc, _+_, _≤_, _<_}
+use Prim.Native.Nat.{ℕ, _+_, _≤_, _<_}
 use mathlib.Core.Path.{_≡_, refl, sym, ap, _∙_, subst}
 use mathlib.Core.Bool.{Bool, true, false, not, _&&_, _||_, cond, and-assoc}
 use mathlib.Core.List.{List, [], _∷_, _++_, map, append-assoc, append-nil}
@@ -7,24 +7,22 @@ use mathlib.Core.Option.{Option, none, some}
 use lib.Dec.{T, eqb, eqb→eq, leb→le}
 use lib.ListN.{length}
 use Rattle.policy.specs.Lists.{every, exists, keep, first, upto, isSome, orElse}
-use Rattle.policy.specs.Contract.{Aid, eqAid, Tok, eqTok, hasTok}
+use Rattle.policy.specs.Contract.{Aid, eqAid, Tok, hasTok}
 use Rattle.policy.specs.Layout.{Layout}
-use Rattle.policy.specs.Record.{Change, addService}
+use Rattle.policy.specs.Record.{addService}
 use Rattle.policy.specs.Causes.{_when_, answer}
-use Rattle.policy.specs.Tables.{Tables, Unmet, Waiting, decode, encode}
+use Rattle.policy.specs.Tables.{Tables, Waiting, decode}
 use Rattle.policy.specs.Lookup.{numberOf, serviceOf, freeNumber, freeService, contractAt}
-use Rattle.policy.specs.Sound.{sound, eqUnmet}
-use Rattle.policy.specs.Draft.{Draft, Look, kept, draft, numberFor, put3, withCalls, withGrants, hasUnmet, asksFor, addGrantAt, addServiceAt}
+use Rattle.policy.specs.Draft.{Look, kept, draft, numberFor, put3, withCalls, withGrants, hasUnmet, addGrantAt, addServiceAt}
 use Rattle.policy.specs.ShortCheck.{count, fits, notInstalled, fine, shortLook, shortAddService}
-use Rattle.policy.specs.Judge.{Out, tableCauses, lookCauses, judged, absent}
+use Rattle.policy.specs.Judge.{Out, lookCauses, judged}
 use Rattle.policy.specs.Settled.{settled}
 use Rattle.policy.proofs.Sets.{T-eq, T-false, true-T, false-T, and-l, and-r, and-i}
-use Rattle.policy.proofs.Equal.{eqAid→, eqAid-of, eqb-of, eqTok→, eqTok-of}
+use Rattle.policy.proofs.Equal.{eqAid→, eqAid-of, eqb-of}
 use Rattle.policy.proofs.Formed.{Names, Formed}
 use Rattle.policy.proofs.Found.{NumberIs, FreeIs, number-is, free-service-is}
 use Rattle.policy.proofs.SoundFacts.{sound-formed}
 use Rattle.policy.proofs.HasRow.{has-tok-is}
-use Rattle.policy.proofs.Settled.{settled-refused, settled-short, settled-accepted}
 use Rattle.engine.specs.Asked.{Asked}
 use Rattle.engine.specs.Services.{asks, metCalls, opened, grantedTo, served, added, rowGranted, addingPlan, addingDone}
 use Rattle.engine.specs.declared.services.Adding.{Adding}

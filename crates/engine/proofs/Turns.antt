@@ -1,28 +1,24 @@
 -- The loops of kinds 2 and 4 over the rows of an image: their turns in the form in which the needs ask them. Assumes nothing.
-use Prim.Native.Nat.{ℕ, suc, _+_, _*_, _^_, _≤_, _<_}
+use Prim.Native.Nat.{ℕ, _+_, _*_, _≤_, _<_}
 use native.Mathlib.Omega.{arith}
-use native.Mathlib.Nat.{zero-add}
-use mathlib.Core.Path.{_≡_, refl, sym, ap, ap₂, _∙_, subst}
+use mathlib.Core.Path.{_≡_, refl, sym, ap, ap₂, _∙_}
 use mathlib.Core.Bool.{Bool, true, false, not, _&&_}
 use mathlib.Core.List.{List, [], _∷_, _++_, append-nil}
-use mathlib.Core.List.{List·Memᴰ as In}
-use lib.Dec.{T}
-use lib.ListN.{length, length-append, getD}
+use lib.ListN.{length, getD}
 use lib.Bits.{bitAnd}
 use Rattle.policy.specs.Lists.{keep, flat, upto}
-use Rattle.policy.specs.Contract.{Aid, Tok}
+use Rattle.policy.specs.Contract.{Aid}
 use Rattle.policy.specs.Layout.{Layout}
 use Rattle.policy.specs.Tables.{Tables, Unmet, Waiting, bit, rowOf, decode}
-use Rattle.policy.specs.ShortCheck.{count, sum, ones}
+use Rattle.policy.specs.ShortCheck.{count, sum}
 use Rattle.policy.proofs.Sets.{upto-in, length-keep, length-from}
 use Rattle.policy.proofs.Bits.{bit-rowOf, rowOf-lt}
 use Rattle.bits.proofs.Loops.{keep-ext, keep-narrow}
 use Rattle.bits.proofs.Row.{bit-and, bit-past}
 use Rattle.geometry.specs.declared.Card.{Card}
-use Rattle.geometry.specs.declared.Table.{Table}
 use Rattle.geometry.specs.Geometry.{layoutOf, tokAt}
 use Rattle.geometry.proofs.Bounds.{layout-ok, limits}
-use Rattle.image.specs.Laid.{Laid, tableOf, withUnmet, withWaiting}
+use Rattle.image.specs.Laid.{Laid, withUnmet, withWaiting}
 use Rattle.image.specs.Wrote.{Wrote}
 use Rattle.image.proofs.Access.{tok-itf, tok-mth}
 use Rattle.engine.specs.Removals.{only, leftOne, leftRow, waitOne}

@@ -1,7 +1,7 @@
 -- The writes of `leave_lists`, one after another. Assumes nothing.
 use Prim.Native.Nat.{ℕ, _+_, _≤_}
 use native.Mathlib.Omega.{arith}
-use mathlib.Core.Path.{_≡_, refl, sym, ap, ap₂, _∙_}
+use mathlib.Core.Path.{_≡_, ap, _∙_}
 use mathlib.Core.Bool.{Bool, not}
 use mathlib.Core.List.{List, _++_}
 use lib.Dec.{eqb}
@@ -12,7 +12,7 @@ use Rattle.policy.specs.Layout.{Layout}
 use Rattle.policy.specs.Tables.{Tables, Unmet, Waiting, bit, decode}
 use Rattle.policy.specs.ShortCheck.{count, ones}
 use Rattle.rows.specs.Area.{keepRows}
-use Rattle.image.specs.Laid.{Laid, withUnmet, withWaiting}
+use Rattle.image.specs.Laid.{withUnmet, withWaiting}
 use Rattle.image.specs.Wrote.{Wrote}
 use Rattle.image.specs.Read.{maskOf}
 use Rattle.image.proofs.Masks.{keep-mask}

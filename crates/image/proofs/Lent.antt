@@ -1,14 +1,13 @@
 -- A list of an image, lent as a part: rows dropped by a mask, and a row appended.
-use Prim.Native.Nat.{ℕ, suc, _+_, _*_, _≤_, _<_}
+use Prim.Native.Nat.{ℕ, _+_, _*_, _≤_, _<_}
 use native.Mathlib.Omega.{arith}
-use mathlib.Core.Path.{_≡_, refl, sym, ap, _∙_, subst}
+use mathlib.Core.Path.{_≡_, sym, ap, _∙_, subst}
 use mathlib.Core.Logic.{_⊎_, inl, inr}
-use mathlib.Core.Bool.{Bool, true, false, cond}
-use mathlib.Core.List.{List, [], _∷_, _++_, map}
-use mathlib.Core.List.{List·Memᴰ as In, List·Memᴰ·head as here, List·Memᴰ·tail as there, List·Memᴰ·cases-cons as in-cons, List·Memᴰ·not-nil as in-nil, List·Memᴰ·append-cases as in-append}
+use mathlib.Core.List.{List, [], _∷_, _++_}
+use mathlib.Core.List.{List·Memᴰ as In, List·Memᴰ·cases-cons as in-cons, List·Memᴰ·not-nil as in-nil, List·Memᴰ·append-cases as in-append}
 use lib.ListN.{length, getD, take, drop, length-append}
 use Rattle.policy.specs.Layout.{Layout}
-use Rattle.policy.specs.Tables.{bit, writeList}
+use Rattle.policy.specs.Tables.{writeList}
 use Rattle.rows.specs.Area.{IsArea, HasRoom, keepRows, appended, dropped}
 use Rattle.rows.proofs.Lists.{kept-in, kept-short, list-length, list-is, list-count, list-room, list-append, list-drop}
 use Rattle.rows.proofs.Over.{lent}

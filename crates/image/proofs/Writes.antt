@@ -1,8 +1,7 @@
 -- What writing code leaves, as tables.
-use Prim.Native.Nat.{ℕ, zero, suc, _+_, _-_, _*_, _^_, _≤_, _<_}
+use Prim.Native.Nat.{ℕ, _+_, _-_, _*_, _^_, _≤_, _<_}
 use native.Mathlib.Omega.{arith}
-use native.Mathlib.Nat.{not-le-of-lt, sub-zero, zero-sub, suc-sub-suc}
-use native.Mathlib.Numerals.{one-add}
+use native.Mathlib.Nat.{not-le-of-lt}
 use mathlib.Core.Path.{_≡_, refl, sym, ap, ap₂, _∙_, subst}
 use mathlib.Core.Bool.{Bool, cond}
 use mathlib.Core.List.{List, [], _∷_, _++_}
@@ -22,11 +21,11 @@ use Rattle.bits.proofs.Row.{rowOf-lt}
 use Rattle.geometry.specs.declared.Card.{Card}
 use Rattle.geometry.specs.declared.Table.{Table}
 use Rattle.geometry.specs.Geometry.{layoutOf, aidAt, tokAt, provAt, entryAt}
-use Rattle.geometry.proofs.Bounds.{layout-ok, limits, services-row, tok-len, unmet-in, waiting-in, geo}
+use Rattle.geometry.proofs.Bounds.{layout-ok, limits, services-row, tok-len, geo}
 use Rattle.image.specs.Laid.{tableOf, Laid, over, withUsed, withAid, withTok, withProvides, withTable, withEntry, withUnmet, withWaiting}
 use Rattle.image.specs.Wrote.{Wrote}
 use Rattle.image.proofs.Laid.{laid-length, entry-in}
-use Rattle.image.proofs.Access.{entry-number, unmet-is, unmet-count, waiting-is, waiting-count}
+use Rattle.image.proofs.Access.{entry-number, unmet-is, waiting-is}
 use Rattle.image.proofs.Replace.{Holds, laid-holds, holds-laid, holds-decode, holds-used, holds-aid, holds-tok, holds-provides, holds-entry, holds-unmet, holds-waiting}
 use Rattle.image.proofs.Lent.{in-more, fits-more, lent-area, lent-dropped, lent-room, lent-appended}
 use Rattle.image.proofs.Over.{over-byte, over-length, over-row, entry-put3, row-put2}

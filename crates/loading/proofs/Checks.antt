@@ -1,19 +1,18 @@
 -- Kind 1: what the code that decides has found, in the form in which its needs ask it: `search checks`. Assumes nothing.
-use Prim.Native.Nat.{ℕ, zero, suc, _+_, _-_, _≤_, _<_}
+use Prim.Native.Nat.{ℕ, suc, _+_, _-_, _≤_, _<_}
 use native.Mathlib.Omega.{arith}
 use mathlib.Core.Path.{_≡_, refl, sym, ap, ap₂, _∙_}
 use mathlib.Core.Bool.{Bool, true, false, not, _&&_, _||_, cond}
 use mathlib.Core.List.{List, [], _∷_}
-use mathlib.Core.List.{List·Memᴰ as In, List·Memᴰ·head as here, List·Memᴰ·tail as there}
-use mathlib.Core.Option.{Option, none, some}
+use mathlib.Core.Option.{Option}
 use lib.Bits.{bitAnd}
 use lib.Dec.{T, eqb, leb, ltb}
-use lib.ListN.{length, getD}
+use lib.ListN.{length}
 use mir.Syntax.{w64}
 use mir.Val.{Fits}
 use borrow.Author.Tests.{not-true, not-false, ltb-true, ltb-false, lt-leb, le-leb, leb-true, leb-false}
 use borrow.Author.Needs.{needs}
-use Rattle.policy.specs.Lists.{implies, exists, keep, isSome, orElse, upto}
+use Rattle.policy.specs.Lists.{exists, keep, isSome, orElse, upto}
 use Rattle.policy.specs.Contract.{Aid, eqAid, eqTok, Row}
 use Rattle.policy.specs.Layout.{Layout}
 use Rattle.policy.specs.Record.{Reader}
@@ -21,13 +20,12 @@ use Rattle.policy.specs.Tables.{Tables, Unmet, bit, decode}
 use Rattle.policy.specs.Lookup.{Place as Found, numberOf, serverOf}
 use Rattle.policy.specs.Sound.{sound}
 use Rattle.policy.proofs.Sets.{false-T, length-keep}
-use Rattle.policy.proofs.SoundFacts.{sound-formed}
 use Rattle.image.specs.declared.read.Place.{Place}
-use Rattle.image.specs.Read.{numberOr, placeOr, maskOf, noUnmet, unmetRow}
+use Rattle.image.specs.Read.{numberOr, placeOr, maskOf, unmetRow}
 use Rattle.image.proofs.Numbers.{package-none, package-some, server-none, server-some}
 use Rattle.record.specs.Meaning.{Uncons, itemsIn}
 use Rattle.record.specs.declared.Items.{Items}
-use Rattle.record.proofs.Loops.{Todo, todo-cons, todo-next, todo-end}
+use Rattle.record.proofs.Loops.{Todo, todo-cons, todo-next}
 use Rattle.engine.proofs.Callers.{not-asking, asking-by, caller-used}
 use Rattle.loading.specs.Loads.{served, present, waitsAt, callGranted, grantFits}
 

@@ -2,10 +2,9 @@
 use Prim.Native.Nat.{ℕ, zero, suc, _≤_}
 use native.Mathlib.Omega.{arith}
 use mathlib.Core.Path.{_≡_, refl, sym, ap, ap₂, _∙_}
-use mathlib.Core.Bool.{Bool, true, false, not, cond}
+use mathlib.Core.Bool.{not, cond}
 use mathlib.Core.List.{List}
 use mathlib.Core.Option.{Option, none, some}
-use lib.Dec.{T}
 use Rattle.policy.specs.Lists.{isSome, orElse}
 use Rattle.policy.specs.Contract.{Aid, Tok, Row, Contract}
 use Rattle.policy.specs.Layout.{Layout}
@@ -13,14 +12,14 @@ use Rattle.policy.specs.Record.{Change, load}
 use Rattle.policy.specs.Causes.{answer}
 use Rattle.policy.specs.Tables.{Tables, decode, encode}
 use Rattle.policy.specs.Lookup.{numberOf, freeNumber}
-use Rattle.policy.specs.Draft.{Draft, kept, loadAt, draft, numberFor}
+use Rattle.policy.specs.Draft.{kept, loadAt, draft, numberFor}
 use Rattle.policy.specs.ShortCheck.{shortLook}
-use Rattle.policy.specs.Judge.{Out, refusal, tableCauses, lookCauses}
+use Rattle.policy.specs.Judge.{refusal, tableCauses, lookCauses}
 use Rattle.policy.specs.Settled.{settled}
 use Rattle.policy.proofs.Settled.{settled-refused, settled-short, settled-accepted}
 use Rattle.image.specs.Read.{maskOf}
 use Rattle.engine.specs.Asked.{Asked}
-use Rattle.loading.specs.Loads.{meets, waitsFor, loadCause, Accepts, Decides}
+use Rattle.loading.specs.Loads.{meets, waitsFor, loadCause, Decides}
 use Rattle.loading.specs.declared.decide.Decided.{Decided}
 use Rattle.loading.proofs.Shorts.{cause-same}
 

@@ -2,16 +2,14 @@
 use Prim.Native.Nat.{ℕ, zero, suc, _+_, _<_, suc-le-suc}
 use native.Mathlib.Omega.{arith}
 use native.Mathlib.Nat.{add-zero, add-suc, suc-add, zero-add}
-use mathlib.Core.Path.{_≡_, refl, sym, ap, ap₂, _∙_}
-use mathlib.Core.Bool.{Bool, true, false, _&&_, _||_, cond, and-true, and-false, or-false}
+use mathlib.Core.Path.{_≡_, refl, sym, ap, _∙_}
+use mathlib.Core.Bool.{Bool, true, _&&_, _||_, cond, and-true}
 use mathlib.Core.List.{List, [], _∷_}
 use lib.Dec.{eqb, eqb→eq, eqb-refl, ltb, leb·zero, leb·suc-zero, leb·suc-suc}
 use lib.ListN.{length, getD}
-use Rattle.policy.specs.Lists.{exists}
-use Rattle.policy.specs.Tables.{Unmet, Waiting, bit}
+use Rattle.policy.specs.Tables.{Waiting, bit}
 use Rattle.policy.specs.Draft.{put2, put3}
-use Rattle.policy.proofs.Sets.{T-eq, T-true, and-r, cond-false}
-use Rattle.policy.proofs.Equal.{eqb-of}
+use Rattle.policy.proofs.Sets.{T-true, and-r, cond-false}
 use Rattle.engine.proofs.Marks.{marked, marks, marked-is}
 use Rattle.loading.specs.Writes.{dueGrants}
 

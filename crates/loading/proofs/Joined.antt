@@ -1,6 +1,6 @@
 -- Kind 1: the package with its services, known to the others, is what the first writes of a load leave. Assumes nothing.
 use Prim.Native.Nat.{ℕ, suc}
-use mathlib.Core.Path.{_≡_, refl, sym, ap, ap₂, _∙_, subst}
+use mathlib.Core.Path.{_≡_, refl, sym, ap, ap₂, _∙_}
 use mathlib.Core.Bool.{Bool, true, false, _&&_, _||_, cond, and-false, or-false}
 use mathlib.Core.List.{List, [], _∷_}
 use lib.Dec.{T, eqb, eqb→eq, eqb-refl, ltb, nltb→le}
@@ -10,10 +10,9 @@ use Rattle.policy.specs.Contract.{Aid, Tok, Contract}
 use Rattle.policy.specs.Layout.{Layout}
 use Rattle.policy.specs.Tables.{Tables, Unmet, Waiting, noTok, bit}
 use Rattle.policy.specs.Lookup.{serviceAt}
-use Rattle.policy.specs.Sound.{eqUnmet}
 use Rattle.policy.specs.Draft.{put2, callRow, hasUnmet, hasWaiting, loadedNames}
-use Rattle.policy.proofs.Sets.{T-eq, T-true, T-false, and-r, not-i}
-use Rattle.policy.proofs.Equal.{row-path, eqUnmet→, eqUnmet-refl, has-unmet, has-waiting}
+use Rattle.policy.proofs.Sets.{T-true, T-false, and-r, not-i}
+use Rattle.policy.proofs.Equal.{row-path, has-unmet, has-waiting}
 use Rattle.policy.proofs.Put.{at-new}
 use Rattle.policy.proofs.LoadNames.{Newcomer, Loaded, loaded}
 use Rattle.rows.specs.Area.{keepRows}

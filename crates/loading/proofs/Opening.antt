@@ -1,6 +1,5 @@
 -- A package put on the card: its number and AID, and its services one by one. Assumes nothing.
 use Prim.Native.Nat.{ℕ, suc, _+_, _^_, _≤_, _<_}
-use native.Mathlib.Nat.{not-le-of-lt}
 use native.Mathlib.Omega.{arith}
 use native.Mathlib.Numerals.{add-one}
 use mathlib.Core.Path.{_≡_, sym, ap, _∙_, subst}
@@ -13,7 +12,7 @@ use Rattle.policy.specs.Record.{tokens}
 use Rattle.policy.specs.Layout.{Layout}
 use Rattle.policy.specs.Tables.{Tables, bit, rowOf, decode}
 use Rattle.policy.specs.Draft.{put}
-use Rattle.image.specs.Laid.{Room, Laid, withUsed, withAid}
+use Rattle.image.specs.Laid.{Laid, withUsed, withAid}
 use Rattle.image.specs.Wrote.{Wrote}
 use Rattle.geometry.specs.declared.Card.{Card}
 use Rattle.geometry.specs.Geometry.{layoutOf}

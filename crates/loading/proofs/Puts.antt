@@ -3,14 +3,13 @@ use Prim.Native.Nat.{ℕ, suc, _+_, _≤_, _<_}
 use mathlib.Core.Path.{_≡_, refl, sym, ap, _∙_, subst}
 use mathlib.Core.Bool.{not}
 use mathlib.Core.List.{List, [], _∷_}
-use mathlib.Core.List.{List·Memᴰ as In}
 use lib.Dec.{T}
 use lib.ListN.{length}
 use Rattle.policy.specs.Lists.{every, isSome}
 use Rattle.policy.specs.Contract.{Aid, Tok, Row, Contract}
 use Rattle.policy.specs.Layout.{Layout}
 use Rattle.policy.specs.Record.{load}
-use Rattle.policy.specs.Tables.{Tables, Unmet, Waiting, decode}
+use Rattle.policy.specs.Tables.{Tables, decode}
 use Rattle.policy.specs.Lookup.{serviceOf}
 use Rattle.policy.specs.Draft.{loadAt}
 use Rattle.policy.specs.ShortCheck.{count}

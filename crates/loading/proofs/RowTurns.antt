@@ -1,31 +1,29 @@
 -- Kind 1: what the writes of a package's own rows leave, its calls, grants and needs, one and all. Assumes nothing.
 use Prim.Native.Nat.{ℕ, _+_, _≤_, _<_}
 use native.Mathlib.Omega.{arith}
-use mathlib.Core.Path.{_≡_, refl, sym, ap, _∙_, subst}
-use mathlib.Core.Bool.{Bool, true, not, cond}
+use mathlib.Core.Path.{_≡_, refl, sym, _∙_, subst}
+use mathlib.Core.Bool.{Bool, true, not}
 use mathlib.Core.List.{List, [], _∷_, _++_}
 use mathlib.Core.Option.{Option, none, some}
 use lib.Dec.{T}
 use lib.ListN.{length}
 use borrow.Author.Needs.{needs}
 use borrow.Author.Tests.{ltb-true}
-use Rattle.policy.specs.Lists.{every, keep, isSome}
+use Rattle.policy.specs.Lists.{every, isSome}
 use Rattle.policy.specs.Contract.{Aid, Tok, Row}
 use Rattle.policy.specs.Layout.{Layout}
-use Rattle.policy.specs.Record.{aRow}
-use Rattle.policy.specs.Tables.{Tables, decode}
+use Rattle.policy.specs.Tables.{Tables}
 use Rattle.policy.specs.Lookup.{Place as Found, numberOf, serviceOf, serverOf}
 use Rattle.policy.specs.Draft.{put3, callRow, withCalls, withNeeds, addCallAt, addGrantAt, addNeedAt}
 use Rattle.policy.specs.ShortCheck.{count}
-use Rattle.policy.proofs.Sets.{T-true, and-l, and-r, length-snoc}
+use Rattle.policy.proofs.Sets.{T-true, and-l, and-r}
 use Rattle.image.specs.declared.read.Place.{Place}
-use Rattle.image.specs.Laid.{Laid, withUnmet}
+use Rattle.image.specs.Laid.{withUnmet}
 use Rattle.image.specs.Wrote.{Wrote}
 use Rattle.image.specs.Read.{numberOr, placeOr}
 use Rattle.image.proofs.Numbers.{Below, service-below, server-none, server-some}
-use Rattle.record.specs.Meaning.{AidFits, Stands, aidIn, itemsIn, Uncons}
+use Rattle.record.specs.Meaning.{AidFits, aidIn}
 use Rattle.record.specs.declared.Aid.{Aid as Position}
-use Rattle.record.specs.declared.Items.{Items}
 use Rattle.engine.proofs.Callers.{part-aid}
 use Rattle.engine.proofs.Meets.{part-short}
 use Rattle.engine.proofs.ItemTurns.{Turns, RoomBy, room-here, room-after}

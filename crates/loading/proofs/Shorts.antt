@@ -1,32 +1,31 @@
 -- Kind 1: what the code decides by masks is the short check. Assumes nothing.
-use Prim.Native.Nat.{ℕ, zero, suc, _+_, _-_, _≤_, _<_, suc-le-suc}
+use Prim.Native.Nat.{ℕ, suc, _+_, _-_, _≤_, _<_, suc-le-suc}
 use native.Mathlib.Omega.{arith}
 use native.Mathlib.Nat.{add-zero, add-suc, suc-add, zero-add}
-use mathlib.Core.Path.{_≡_, refl, sym, ap, ap₂, _∙_, subst}
-use mathlib.Core.Bool.{Bool, true, false, not, _&&_, cond, and-true}
+use mathlib.Core.Path.{_≡_, refl, sym, ap, ap₂, _∙_}
+use mathlib.Core.Bool.{Bool, true, false, not, _&&_, cond}
 use mathlib.Core.List.{List, [], _∷_}
-use mathlib.Core.Option.{Option, none, some}
 use lib.Bits.{bitAnd}
 use lib.Dec.{T, eqb, leb}
 use lib.ListN.{length, getD}
 use borrow.Author.Tests.{eq-eqb, ne-eqb, leb-true, leb-false, le-leb, lt-leb}
 use Rattle.policy.specs.Lists.{implies, every, exists, keep, from, upto, orElse}
-use Rattle.policy.specs.Contract.{Aid, eqAid, Tok, eqTok, Row, eqRow, Contract, hasTok, hasRow}
+use Rattle.policy.specs.Contract.{Aid, eqAid, Tok, eqTok, Row, Contract, hasTok, hasRow}
 use Rattle.policy.specs.Layout.{Layout}
 use Rattle.policy.specs.Record.{load}
 use Rattle.policy.specs.Causes.{answer}
-use Rattle.policy.specs.Tables.{Tables, Unmet, Waiting, bit, decode}
+use Rattle.policy.specs.Tables.{Tables, Waiting, bit, decode}
 use Rattle.policy.specs.Lookup.{Place, serverOf}
-use Rattle.policy.specs.Sound.{eqWaiting, sound}
+use Rattle.policy.specs.Sound.{sound}
 use Rattle.policy.specs.Draft.{Look, hasWaiting}
 use Rattle.policy.specs.ShortCheck.{newcomerRights, othersRights, shortLoad, shortLook}
 use Rattle.policy.specs.Judge.{lookCauses}
-use Rattle.policy.proofs.Sets.{T-eq, T-true, true-T, false-T}
+use Rattle.policy.proofs.Sets.{T-true, true-T, false-T}
 use Rattle.policy.proofs.Formed.{Formed, Fitting}
 use Rattle.policy.proofs.SoundFacts.{sound-formed, sound-fitting}
 use Rattle.image.specs.Read.{maskOf, noUnmet, unmetRow}
 use Rattle.image.proofs.Masks.{mask-bit, mask-zero, zero-mask, mask-and, mask-count}
-use Rattle.loading.specs.Loads.{meets, waitsFor, served, present, waitsAt, callGranted, grantFits, othersGranted, unmetFit, waitingFit, loadLook, loadCause}
+use Rattle.loading.specs.Loads.{meets, waitsFor, served, present, waitsAt, callGranted, grantFits, othersGranted, loadLook, loadCause}
 use Rattle.engine.proofs.Callers.{in-row}
 use Rattle.engine.proofs.Planned.{waiting-same}
 

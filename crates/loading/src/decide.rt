@@ -1,15 +1,14 @@
 // Kind 1: whether a package may be loaded.
 ghost use mathlib.Core.Path.{_≡_};
-ghost use mathlib.Core.Bool.{not, _&&_};
-ghost use Prim.Native.Nat.{_+_, _≤_, _<_};
+ghost use mathlib.Core.Bool.{not};
+ghost use Prim.Native.Nat.{_+_, _<_};
 ghost use lib.Dec.{T, leb};
 ghost use lib.ListN.{length};
 ghost use Rattle.policy.specs.Lists.{implies, every, exists};
-ghost use Rattle.policy.specs.Layout.{Layout};
 ghost use Rattle.policy.specs.Record.{tokens, aRow, load};
 ghost use Rattle.policy.specs.Sound.{sound};
 ghost use Rattle.policy.specs.Tables.{bit, decode};
-ghost use Rattle.policy.specs.Lookup.{numberOf, serverOf};
+ghost use Rattle.policy.specs.Lookup.{serverOf};
 ghost use Rattle.policy.specs.ShortCheck.{count};
 ghost use Rattle.geometry.specs.Geometry.{layoutOf};
 ghost use Rattle.image.specs.Laid.{Laid};

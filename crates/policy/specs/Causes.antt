@@ -1,6 +1,6 @@
 -- Document 01, 'Verdicts': 'The lowest number that applies is given, and a number is given only for its cause.'
 use Prim.Native.Nat.{ℕ}
-use mathlib.Core.Bool.{Bool, true, false, cond}
+use mathlib.Core.Bool.{Bool, cond}
 use mathlib.Core.List.{List, [], _∷_}
 
 -- a cause's number, and whether it applies

@@ -1,27 +1,27 @@
 -- The theorems, as statements; docs/PROOFS.md says each in words, and proofs/Theorems.antt has the proofs.
-use Prim.Native.Nat.{ℕ, suc, _≤_, _<_}
+use Prim.Native.Nat.{ℕ, _≤_, _<_}
 use mathlib.Core.Path.{_≡_}
 use mathlib.Core.Logic.{_↔_, _⊎_}
-use mathlib.Core.Bool.{Bool, true, false}
-use mathlib.Core.List.{List, [], _∷_, _++_, map}
+use mathlib.Core.Bool.{true, false}
+use mathlib.Core.List.{List, [], _∷_, map}
 use mathlib.Core.List.{List·Memᴰ as In}
-use mathlib.Core.Option.{Option, none, some}
+use mathlib.Core.Option.{none, some}
 use lib.Dec.{T}
 use lib.ListN.{length, take, drop}
-use Rattle.policy.specs.Lists.{NoRepeat, orElse}
-use Rattle.policy.specs.Contract.{Aid, Tok, Row, Contract, validAid, lawful, unmetCalls, waitingGrants}
+use Rattle.policy.specs.Lists.{orElse}
+use Rattle.policy.specs.Contract.{Row, Contract, validAid, lawful, unmetCalls, waitingGrants}
 use Rattle.policy.specs.Layout.{Layout, small, size}
-use Rattle.policy.specs.Record.{Request, Change, load, parse, proper, firstAid}
+use Rattle.policy.specs.Record.{Request, load, parse, proper, firstAid}
 use Rattle.policy.specs.Causes.{Cause, _when_, answer}
 use Rattle.policy.specs.Machine.{machine, effect, causes4to7, causes3to11}
-use Rattle.policy.specs.Tables.{Tables, decode, encode, emptyImage}
+use Rattle.policy.specs.Tables.{decode, emptyImage}
 use Rattle.policy.specs.Lookup.{contractAt}
-use Rattle.policy.specs.Sound.{sound, soundTables}
+use Rattle.policy.specs.Sound.{sound}
 use Rattle.policy.specs.Draft.{look, draft}
 use Rattle.policy.specs.ShortCheck.{shortLook}
 use Rattle.policy.specs.Judge.{Out, refusal, tableCauses, judge, check, writeEmpty, loadRecord, readOut}
 use Rattle.policy.specs.History.{SameContract, StandsFor, answers, imageAfter, machineAnswers, contractsAfter}
-use Rattle.policy.specs.Marked.{Case, cases}
+use Rattle.policy.specs.Marked.{cases}
 
 -- ---- 1. the marked cases, on the engine's definition and on the machine
 abbrev pub MarkedCases : Type 0

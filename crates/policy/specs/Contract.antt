@@ -1,7 +1,7 @@
 -- Contracts: document 01, 'Contracts'. AIDs and tokens in full, nothing of the engine's tables.
 use Prim.Native.Nat.{ℕ}
-use mathlib.Core.Bool.{Bool, true, false, not, _&&_, _||_}
-use mathlib.Core.List.{List, [], _∷_, map}
+use mathlib.Core.Bool.{Bool, true, not, _&&_}
+use mathlib.Core.List.{List, map}
 use lib.Dec.{eqb, leb}
 use lib.ListN.{length}
 use Rattle.policy.specs.Lists.{implies, every, exists, keep, flat, eqBytes}

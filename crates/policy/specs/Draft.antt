@@ -5,12 +5,12 @@ use mathlib.Core.List.{List, [], _∷_, _++_, map}
 use mathlib.Core.Option.{Option, none, some}
 use lib.Dec.{eqb, leb, ltb}
 use lib.ListN.{length, getD}
-use Rattle.policy.specs.Lists.{implies, every, exists, keep, first, flat, upto, isNil, isSome, orElse}
-use Rattle.policy.specs.Contract.{Aid, eqAid, Tok, eqTok, Row, eqRow, Contract, hasTok, hasRow}
+use Rattle.policy.specs.Lists.{implies, exists, keep, flat, isNil, isSome, orElse}
+use Rattle.policy.specs.Contract.{Aid, eqAid, Tok, eqTok, Row, Contract, hasTok, hasRow}
 use Rattle.policy.specs.Layout.{Layout}
 use Rattle.policy.specs.Record.{Change, load, remove, addService, removeService, addCall, removeCall, addGrant, removeGrant, addNeed, removeNeed}
 use Rattle.policy.specs.Tables.{Tables, Unmet, Waiting, noTok}
-use Rattle.policy.specs.Lookup.{Place, serviceAt, wanted, numbers, places, numberOf, serviceOf, serverOf, freeNumber, freeService}
+use Rattle.policy.specs.Lookup.{Place, serviceAt, numbers, places, numberOf, serviceOf, serverOf, freeNumber, freeService}
 use Rattle.policy.specs.Sound.{eqUnmet, eqWaiting, everyBit}
 
 -- the tables after the change, and the needs that it leaves unmet

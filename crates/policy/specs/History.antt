@@ -1,18 +1,17 @@
 -- Histories, and what tables stand for: document 01, 'The plain machine', and demand 3.
 use Prim.Native.Nat.{ℕ}
 use mathlib.Core.Path.{_≡_}
-use mathlib.Core.Bool.{Bool}
 use mathlib.Core.List.{List, [], _∷_, map}
 use mathlib.Core.List.{List·Memᴰ as In}
 use lib.Dec.{T}
 use Rattle.policy.specs.Lists.{SameSet, NoRepeat}
-use Rattle.policy.specs.Contract.{Aid, Contract}
+use Rattle.policy.specs.Contract.{Contract}
 use Rattle.policy.specs.Layout.{Layout}
 use Rattle.policy.specs.Machine.{machine}
-use Rattle.policy.specs.Tables.{Tables, decode}
+use Rattle.policy.specs.Tables.{decode}
 use Rattle.policy.specs.Lookup.{contractAt}
 use Rattle.policy.specs.Sound.{sound}
-use Rattle.policy.specs.Judge.{Out, judge}
+use Rattle.policy.specs.Judge.{judge}
 
 -- 'the same AIDs, and under each the same services, calls, grants and needs'
 pub record SameContract (c k : Contract) : Type 0 where

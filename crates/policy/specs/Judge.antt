@@ -1,12 +1,12 @@
 -- What the engine's entries answer and leave, to the byte: document 01, 'Verdicts'.
-use Prim.Native.Nat.{ℕ, zero, suc, _+_, _*_, _/_, _%_}
-use mathlib.Core.Bool.{Bool, true, false, not, _&&_, _||_, cond}
-use mathlib.Core.List.{List, [], _∷_, _++_, map}
+use Prim.Native.Nat.{ℕ, zero, suc, _+_}
+use mathlib.Core.Bool.{Bool, false, not, _&&_, _||_, cond}
+use mathlib.Core.List.{List, [], _∷_, _++_}
 use mathlib.Core.Option.{Option, none, some}
 use lib.Dec.{eqb, leb, ltb}
 use lib.ListN.{length, drop}
 use Rattle.policy.specs.Lists.{flat, isSome, orElse}
-use Rattle.policy.specs.Contract.{Aid, Tok, Row, Contract, hasTok, hasRow}
+use Rattle.policy.specs.Contract.{Aid, Row, Contract, hasTok, hasRow}
 use Rattle.policy.specs.Layout.{Layout, size}
 use Rattle.policy.specs.Record.{Request, Change, load, remove, addService, removeService, addCall, removeCall, addGrant, removeGrant, addNeed, removeNeed, parse, proper}
 use Rattle.policy.specs.Causes.{Cause, _when_, answer}

@@ -1,7 +1,7 @@
 -- What tables hold: numbers found by AID and tokens, and the contract of a package number.
 use Prim.Native.Nat.{ℕ}
-use mathlib.Core.Bool.{Bool, true, false, not, _&&_}
-use mathlib.Core.List.{List, [], _∷_, _++_, map}
+use mathlib.Core.Bool.{not, _&&_}
+use mathlib.Core.List.{List, _++_, map}
 use mathlib.Core.Option.{Option, none, some}
 use lib.Dec.{eqb}
 use Rattle.policy.specs.Lists.{keep, first, flat, upto, orElse}

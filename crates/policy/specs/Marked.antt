@@ -1,5 +1,5 @@
 -- The marked cases of document 01, 'At the edges', in one table.
-use Prim.Native.Nat.{ℕ, zero, suc, _+_, _*_, _/_, _%_}
+use Prim.Native.Nat.{ℕ, _+_, _/_, _%_}
 use mathlib.Core.List.{List, [], _∷_, _++_, map}
 use lib.ListN.{length, replicate}
 use Rattle.policy.specs.Lists.{flat, from}

@@ -1,12 +1,12 @@
 -- Records: document 01, 'Records'. What a list of bytes reads as; nothing here speaks of positions.
 use Prim.Native.Nat.{ℕ, zero, suc, _+_, _*_}
-use mathlib.Core.Bool.{Bool, true, false, not, _&&_, cond}
+use mathlib.Core.Bool.{Bool, true, false, not, _&&_}
 use mathlib.Core.List.{List, [], _∷_}
 use mathlib.Core.Option.{Option, none, some}
 use lib.ListN.{length, take, drop, getD}
 use lib.Dec.{leb, eqb}
 use Rattle.policy.specs.Lists.{every, distinct, orElse}
-use Rattle.policy.specs.Contract.{Aid, eqAid, Tok, eqTok, Row, eqRow, Contract, hasTok, hasRow, validAid}
+use Rattle.policy.specs.Contract.{Aid, eqAid, Tok, eqTok, Row, eqRow, hasTok, hasRow, validAid}
 use Rattle.policy.specs.Layout.{Layout}
 
 -- what follows the first AID, by kind: 1 to 10 in order

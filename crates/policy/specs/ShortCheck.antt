@@ -1,16 +1,16 @@
 -- The short check: causes 8 to 11 of a record by the rows with its package at one end, and counts; no draft is built.
 use Prim.Native.Nat.{ℕ, suc, _+_}
-use mathlib.Core.Bool.{Bool, true, false, not, _&&_}
-use mathlib.Core.List.{List, [], _∷_, map}
+use mathlib.Core.Bool.{Bool, true, not, _&&_}
+use mathlib.Core.List.{List, [], _∷_}
 use mathlib.Core.Option.{Option, none, some}
 use lib.Dec.{eqb, leb}
 use lib.ListN.{length}
 use Rattle.policy.specs.Lists.{implies, every, exists, keep, isSome, orElse}
-use Rattle.policy.specs.Contract.{Aid, eqAid, Tok, Row, Contract, hasTok, hasRow}
+use Rattle.policy.specs.Contract.{Aid, eqAid, Tok, Contract, hasTok, hasRow}
 use Rattle.policy.specs.Layout.{Layout}
 use Rattle.policy.specs.Record.{Change, load, remove, addService, removeService, addCall, removeCall, addGrant, removeGrant, addNeed, removeNeed}
-use Rattle.policy.specs.Tables.{Tables, Unmet, Waiting}
-use Rattle.policy.specs.Lookup.{Place, numbers, places, numberOf, serviceOf, serverOf, freeNumber, freeService}
+use Rattle.policy.specs.Tables.{Tables, Unmet}
+use Rattle.policy.specs.Lookup.{Place, numbers, places, numberOf, serviceOf, serverOf}
 use Rattle.policy.specs.Draft.{Look, asksFor, hasWaiting}
 
 -- how many pass

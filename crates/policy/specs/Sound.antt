@@ -1,12 +1,11 @@
 -- A sound image: document 01, 'An image is sound when', item by item.
 use Prim.Native.Nat.{ℕ}
-use mathlib.Core.Bool.{Bool, true, false, not, _&&_, _||_}
-use mathlib.Core.List.{List, [], _∷_, map}
-use mathlib.Core.Option.{Option, none, some}
+use mathlib.Core.Bool.{Bool, not, _&&_, _||_}
+use mathlib.Core.List.{List, map}
 use lib.Dec.{eqb, leb}
 use lib.ListN.{length, take}
 use Rattle.policy.specs.Lists.{implies, every, keep, distinct, isNil, isSome, upto, eqBytes}
-use Rattle.policy.specs.Contract.{Aid, eqAid, validAid, eqTok}
+use Rattle.policy.specs.Contract.{eqAid, validAid, eqTok}
 use Rattle.policy.specs.Layout.{Layout, size}
 use Rattle.policy.specs.Tables.{Tables, Unmet, Waiting, noTok, decode, encode}
 use Rattle.policy.specs.Lookup.{numbers, places, usedNumbers, numberOf, serverOf, wanted}

@@ -1,7 +1,7 @@
 // Reads a record: where its parts are, or that it is malformed. Positions count from the record's first byte.
 ghost use mathlib.Core.Path.{_≡_};
 ghost use Prim.Native.Nat.{_+_, _-_, _≤_, _<_};
-ghost use lib.ListN.{length, drop, getD};
+ghost use lib.ListN.{length, drop};
 ghost use Rattle.policy.specs.Record.{aid, tokens, aRow, many, aLoad, aService, change, firstAid};
 ghost use Rattle.geometry.specs.Geometry.{layoutOf};
 ghost use Rattle.record.specs.Meaning.{AidFits, aidIn, Takes, reader, widthOf, mostOf, listReader, Counts, Lists, Places, Served, Good, RowStands, tokOf, tokAt, Bodies, rowKind, Parses};

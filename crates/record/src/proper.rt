@@ -4,7 +4,7 @@ ghost use mathlib.Core.Bool.{not, _&&_};
 ghost use Rattle.policy.specs.Lists.{every, exists, distinct};
 ghost use Rattle.policy.specs.Contract.{eqAid, eqTok, eqRow, hasTok, hasRow};
 ghost use Rattle.policy.specs.Record.{aid, tokens, aRow, load, notOwn, proper};
-ghost use Rattle.record.specs.Meaning.{AidFits, Stands, RecordFits, KindFits, aidIn, tokOf, rowIn, itemsIn, kindOf};
+ghost use Rattle.record.specs.Meaning.{AidFits, Stands, RecordFits, aidIn, tokOf, rowIn, itemsIn, kindOf};
 use crate::Aid;
 use crate::Items;
 use crate::Kind;

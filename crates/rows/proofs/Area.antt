@@ -8,7 +8,7 @@ use mathlib.Core.Bool.{Bool, true, false, cond}
 use mathlib.Core.List.{List, [], _∷_, _++_, append-assoc, append-nil}
 use borrow.Author.Tests.{eq-eqb, ne-eqb}
 use lib.ListN.{length, getD, take, drop, replicate, set, length-append, length-drop, length-replicate, replicate-append-replicate}
-use lib.Seq.{take-append-seam, take-at, drop-at, drop-append-add, drop-append-seam, drop-drop, length-take-le, split-at, take-suc, take-all}
+use lib.Seq.{take-append-seam, take-at, drop-at, drop-append-add, drop-append-seam, drop-drop, length-take-le, take-suc, take-all}
 use Rattle.policy.specs.Lists.{flat}
 use Rattle.policy.specs.Tables.{bit, pieces}
 use Rattle.rows.specs.Area.{part, over, areaOf, rowsIn, IsArea, keepFrom, keepRows, appended, dropped}

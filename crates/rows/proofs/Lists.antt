@@ -1,6 +1,6 @@
 -- A list as `writeList` writes it is an area of the rows of its elements; what appending and dropping rows makes of it.
-use Prim.Native.Nat.{ℕ, zero, suc, _+_, _-_, _*_, _≤_, _<_, suc-le-suc}
-use native.Mathlib.Nat.{add-zero, add-mul, add-sub-of-le, not-suc-le-zero, zero-add, zero-lt-suc, le-of-suc-le-suc, mul-le-mul-right}
+use Prim.Native.Nat.{ℕ, suc, _+_, _-_, _*_, _≤_, _<_}
+use native.Mathlib.Nat.{add-mul, add-sub-of-le, mul-le-mul-right}
 use native.Mathlib.Omega.{arith}
 use mathlib.Core.Path.{_≡_, refl, sym, ap, _∙_}
 use mathlib.Core.Logic.{_⊎_, inl, inr}

@@ -1,5 +1,4 @@
 -- `record::items_end` meets its contract. The loop's invariant is `Still`; the measure is how many rows are to come.
-use Prim.Native.Nat.{_-_}
 use mathlib.Core.Path.{refl}
 use borrow.Author.Needs.{needs}
 use native.Mathlib.Omega.{arith}

@@ -2,12 +2,6 @@ use borrow.Author.Needs.{needs}
 use Rattle.engine.proofs.Checked.{sound-size, count-low, passes, fails}
 use Rattle.engine.proofs.checking.check_image.Statement.{statement}
 use Rattle.engine.proofs.checking.check_image.Tie as tie
-use Rattle.engine.proofs.checking.check_image.Reads as reads
-use Rattle.engine.proofs.checking.check_image.Lts as lts
-use Rattle.engine.proofs.accepted.Reads as accepted-reads
-use Rattle.engine.proofs.refused.Reads as refused-reads
-use Rattle.soundness.proofs.count_used.Reads as count-used-reads
-use Rattle.soundness.proofs.is_sound.Reads as is-sound-reads
 
 is-sound-requires : tie.Need-is-sound-requires
 is-sound-requires c κs = search needs

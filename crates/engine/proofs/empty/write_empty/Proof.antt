@@ -5,14 +5,6 @@ use Rattle.geometry.proofs.Bounds.{layout-ok}
 use Rattle.engine.proofs.EmptyImage.{not-written, written}
 use Rattle.engine.proofs.empty.write_empty.Statement.{statement}
 use Rattle.engine.proofs.empty.write_empty.Tie as tie
-use Rattle.engine.proofs.empty.write_empty.Reads as reads
-use Rattle.engine.proofs.empty.write_empty.Lts as lts
-use Rattle.engine.proofs.accepted.Reads as accepted-reads
-use Rattle.engine.proofs.refused.Reads as refused-reads
-use Rattle.geometry.proofs.header.Reads as header-reads
-use Rattle.geometry.proofs.size.Reads as size-reads
-use Rattle.rows.proofs.clear.Reads as clear-reads
-use Rattle.rows.proofs.put.Reads as put-reads
 
 size-requires : tie.Need-size-requires
 size-requires c κs = search needs

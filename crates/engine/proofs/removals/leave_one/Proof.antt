@@ -1,8 +1,7 @@
 -- `engine::removals::leave_one` meets its contract. Assumes nothing.
 use native.Mathlib.Omega.{arith}
 use borrow.Author.Needs.{needs}
-use Rattle.policy.specs.Tables.{bit, decode}
-use Rattle.geometry.specs.Geometry.{layoutOf}
+use Rattle.policy.specs.Tables.{bit}
 use Rattle.geometry.proofs.Bounds.{limits, tok-in}
 use Rattle.image.proofs.Writes.{laid-len}
 use Rattle.engine.proofs.Turns.{left-none, left-some, only-room}

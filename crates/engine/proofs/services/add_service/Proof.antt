@@ -11,12 +11,6 @@ use Rattle.engine.specs.Services.{asks, Named}
 use Rattle.engine.proofs.Adds.{callers-in, adding-refused, adding-fits, adding-done}
 use Rattle.engine.proofs.services.add_service.Statement.{statement}
 use Rattle.engine.proofs.services.add_service.Tie as tie
-use Rattle.engine.proofs.services.add_service.Reads as reads
-use Rattle.engine.proofs.services.add_service.Lts as lts
-use Rattle.engine.proofs.accepted.Reads as accepted-reads
-use Rattle.engine.proofs.refused.Reads as refused-reads
-use Rattle.engine.proofs.services.plan_adding.Reads as plan-adding-reads
-use Rattle.engine.proofs.services.serve.Reads as serve-reads
 
 asking-requires : tie.Need-asking-requires
 asking-requires c κs = let d = c .before .before .before .before in sound-laid (layoutOf (d .args .c)) (d .pre .0 .is-sound)

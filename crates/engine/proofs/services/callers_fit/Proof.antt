@@ -1,7 +1,6 @@
 -- `engine::services::callers_fit` meets its contract. Assumes nothing.
 use Prim.Native.Nat.{_+_}
 use native.Mathlib.Omega.{arith}
-use mathlib.Core.Path.{_∙_}
 use lib.Dec.{leb}
 use lib.ListN.{length}
 use denote.Ref.{now}
@@ -11,7 +10,7 @@ use Rattle.policy.specs.Tables.{decode}
 use Rattle.policy.specs.ShortCheck.{count, notInstalled}
 use Rattle.geometry.specs.Geometry.{layoutOf}
 use Rattle.record.specs.Meaning.{itemsIn}
-use Rattle.record.proofs.Loops.{Todo, todo-end}
+use Rattle.record.proofs.Loops.{Todo}
 use Rattle.engine.proofs.Callers.{room-start, room-end, room-stop, room-next}
 use borrow.Author.Needs.{needs}
 use Rattle.engine.proofs.services.callers_fit.Statement.{statement}

@@ -1,10 +1,6 @@
 -- `engine::services::open_service` meets its contract. Assumes nothing.
-use native.Mathlib.Omega.{arith}
-use denote.Ref.{now}
 use borrow.Author.Needs.{needs}
-use Rattle.policy.specs.Tables.{decode}
-use Rattle.geometry.specs.Geometry.{layoutOf}
-use Rattle.geometry.proofs.Bounds.{limits, service-lt}
+use Rattle.geometry.proofs.Bounds.{service-lt}
 use Rattle.image.specs.Read.{tokens}
 use Rattle.engine.proofs.Opens.{open-fits, open-wrote}
 use Rattle.engine.proofs.services.open_service.Statement.{statement}

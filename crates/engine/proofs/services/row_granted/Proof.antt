@@ -1,10 +1,6 @@
 -- `engine::services::row_granted` meets its contract. Assumes nothing.
-use Prim.Native.Nat.{ℕ}
 use native.Mathlib.Omega.{arith}
-use mathlib.Core.Path.{ap, _∙_}
 use denote.Ref.{now}
-use Rattle.policy.specs.Lists.{exists}
-use Rattle.policy.specs.Contract.{eqAid}
 use Rattle.policy.specs.Record.{aid}
 use Rattle.policy.specs.Tables.{decode}
 use Rattle.record.specs.Meaning.{itemsIn}
@@ -12,7 +8,6 @@ use Rattle.geometry.specs.Geometry.{layoutOf}
 use Rattle.image.proofs.Laid.{sound-laid}
 use Rattle.image.proofs.Listed.{unmet-low}
 use Rattle.engine.proofs.Callers.{caller-used, not-asking, row-asks}
-use borrow.Author.Needs.{needs}
 use Rattle.engine.proofs.services.row_granted.Statement.{statement}
 use Rattle.engine.proofs.services.row_granted.Tie as tie
 

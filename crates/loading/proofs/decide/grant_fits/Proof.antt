@@ -1,6 +1,5 @@
 -- `loading::decide::grant_fits` meets its contract.
 use denote.Ref.{now}
-use borrow.Author.Needs.{needs}
 use Rattle.policy.specs.Tables.{decode}
 use Rattle.geometry.specs.Geometry.{layoutOf}
 use Rattle.image.specs.Read.{unmetRow}

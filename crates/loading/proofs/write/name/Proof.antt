@@ -1,10 +1,7 @@
 -- `loading::write::name` meets its contract. Assumes nothing.
-use native.Mathlib.Omega.{arith}
 use denote.Ref.{now}
 use borrow.Author.Needs.{needs}
-use Rattle.policy.specs.Tables.{decode}
-use Rattle.geometry.specs.Geometry.{layoutOf}
-use Rattle.geometry.proofs.Bounds.{limits, package-lt}
+use Rattle.geometry.proofs.Bounds.{package-lt}
 use Rattle.loading.proofs.Opening.{used-fits, named-wrote}
 use Rattle.loading.proofs.write.name.Statement.{statement}
 use Rattle.loading.proofs.write.name.Tie as tie
