@@ -1,3 +1,4 @@
+-- `engine::checking::check_image` meets its contract. Assumes nothing.
 use borrow.Author.Needs.{needs}
 use Rattle.engine.proofs.Checked.{sound-size, count-low, passes, fails}
 use Rattle.engine.proofs.checking.check_image.Statement.{statement}

@@ -1,3 +1,4 @@
+-- `engine::empty::write_empty` meets its contract. Assumes nothing.
 use mathlib.Core.Path.{refl}
 use borrow.Author.Needs.{needs}
 use Rattle.geometry.specs.Geometry.{layoutOf}

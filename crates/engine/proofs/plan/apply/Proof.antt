@@ -1,7 +1,9 @@
 -- `engine::plan::apply` meets its contract: in each arm the change is what it was matched with.
 use mathlib.Core.Bool.{false}
+use denote.Ref.{now}
 use borrow.Author.Needs.{needs}
-use Rattle.geometry.specs.declared.Table.the-variants.{Calls}
+use Rattle.policy.specs.Tables.{decode}
+use Rattle.geometry.specs.declared.Table.the-variants.{Calls, Needs}
 use Rattle.geometry.specs.Geometry.{layoutOf}
 use Rattle.engine.specs.Plans.{withBit}
 use Rattle.image.proofs.Clears.{wrote-then}
@@ -13,8 +15,11 @@ uncall : tie.Need-returns-3
 uncall c =
     let d = c .before .before .before .before .before .before .before .before .before in
     let a = d .before .before .before .before .args in
+    let L = layoutOf (a .c) in
+    let j = d .edit3 .given .0 .0 in
+    let k = d .edit3 .given .0 .1 .0 in
     rw (d .edit3 .given .1)
-    (wrote-then (layoutOf (a .c)) (λ t. withBit t Calls (a .owner) (d .edit3 .given .0 .0) (d .edit3 .given .0 .1 .0) false) (c .before .before .before .before .before .before .clear-bit2 .ensures)
+    (wrote-then L (λ t. withBit t Calls (a .owner) j k false) {t = withBit (decode L (now (a .img))) Needs (a .owner) j k false} (c .before .before .before .before .before .before .clear-bit2 .ensures)
     (c .before .before .clear-bit3 .ensures))
 
 pub apply-spec : {M : Type 1} → statement M

@@ -1,8 +1,12 @@
 -- `engine::plan::perform` meets its contract.
 use native.Mathlib.Omega.{arith}
+use denote.Ref.{now}
 use borrow.Author.Needs.{needs}
+use Rattle.policy.specs.Tables.{decode}
 use Rattle.geometry.specs.Geometry.{layoutOf}
 use Rattle.geometry.proofs.Bounds.{limits}
+use Rattle.engine.specs.Asked.{rowWith}
+use Rattle.engine.specs.Plans.{edited}
 use Rattle.engine.proofs.Edits.{accepted-gives}
 use Rattle.engine.proofs.plan.perform.Statement.{statement}
 use Rattle.engine.proofs.plan.perform.Tie as tie
@@ -20,7 +24,11 @@ accepted-requires c κs =
 accepts : tie.Need-returns-2
 accepts c =
     let d = c .before .before .before .before .before .before in
-    rw (d .plan2 .given .1) (accepted-gives (layoutOf (d .before .before .before .before .args .c)) (c .before .before .before .apply .ensures) (d .plan2 .given .0 .0) (c .accepted .ensures))
+    let a = d .before .before .before .before .args in
+    let L = layoutOf (a .c) in
+    let n = d .plan2 .given .0 .0 in
+    rw (d .plan2 .given .1)
+    (accepted-gives L {t = edited (decode L (now (a .img))) (rowWith (now (a .other)) (a .interface) (a .method)) n (d .plan2 .given .0 .1 .0)} (c .before .before .before .apply .ensures) n (c .accepted .ensures))
 
 pub perform-spec : {M : Type 1} → statement M
 perform-spec =

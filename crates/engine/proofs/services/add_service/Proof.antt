@@ -1,3 +1,4 @@
+-- `engine::services::add_service` meets its contract. Assumes nothing.
 use native.Mathlib.Omega.{arith}
 use borrow.Author.Needs.{needs}
 use Rattle.policy.specs.Record.{aid}
