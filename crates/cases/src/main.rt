@@ -3,7 +3,6 @@ use geometry::Card;
 use libc::STDIN_FILENO;
 use libc::STDOUT_FILENO;
 ghost use mathlib.Core.Path.{_≡_};
-ghost use Prim.Native.Nat.{_≤_};
 ghost use lib.ListN.{length};
 ghost use Rattle.lines.specs.Lines.{Printed};
 ghost use Rattle.lines.specs.Session.{judging};
