@@ -125,24 +125,12 @@ pub zeros-of : (l : List ℕ) (at n : ℕ) {r : Bool} → r ≡ every isZero (ta
 unfolding zerosAt
 zeros-of l at n e = rw (add-sub-cancel-left at n) at e
 
--- ---- a loop that compares two parts
-eqBytes-snoc : (p q : List ℕ) (x y : ℕ) → length p ≡ length q → eqBytes (p ++ (x ∷ [])) (q ++ (y ∷ [])) ≡ eqBytes p q && eqb x y
-eqBytes-snoc [] [] x y e = and-true (eqb x y)
-eqBytes-snoc [] (b ∷ q) x y e = absurd (omega arith)
-eqBytes-snoc (a ∷ p) [] x y e = absurd (omega arith)
-eqBytes-snoc (a ∷ p) (b ∷ q) x y e = ap (λ (z : Bool). eqb a b && z) (eqBytes-snoc p q x y (omega arith)) ∙ and-again (eqb a b) (eqBytes p q) (eqb x y)
-
-module _ (l : List ℕ) (a b n : ℕ) (h : a + n ≤ length l) (i : b + n ≤ length l) where
-  pub same-turn : (k : ℕ) {r : Bool} → r ≡ eqBytes (partAt l a k) (partAt l b k) → k < n → r && eqb (byteAt l (a + k)) (byteAt l (b + k)) ≡ eqBytes (partAt l a (k + 1)) (partAt l b (k + 1))
-  same-turn k e p =
-      let long : (c : ℕ) → c + n ≤ length l → k < length (drop c l) = λ c d. rw length-drop (omega arith) in
-      let same : length (partAt l a k) ≡ length (partAt l b k) = part-length l a k (omega arith) ∙ sym (part-length l b k (omega arith)) in
-      rw (add-one, take-suc (drop a l) k 0 (long a h), take-suc (drop b l) k 0 (long b i), getD-drop a l k 0, getD-drop b l k 0)
-      (ap (λ (z : Bool). z && eqb (byteAt l (a + k)) (byteAt l (b + k))) e ∙ sym (eqBytes-snoc (partAt l a k) (partAt l b k) (byteAt l (a + k)) (byteAt l (b + k)) same))
-
-  pub same-end : (k : ℕ) {r : Bool} → r ≡ eqBytes (partAt l a k) (partAt l b k) → k ≤ n → n ≤ k → r ≡ sameAt l a b n
-  unfolding sameAt
-  same-end k e p q = let z : k ≡ n = omega arith in e ∙ ap (λ (x : ℕ). eqBytes (partAt l a x) (partAt l b x)) z
+-- ---- two parts, the second lent
+pub same-of : (l : List ℕ) (a b n : ℕ) {r : Bool} → b + n ≤ length l → r ≡ eqBytes (take (length (take (b + n - b) (drop b l))) (drop a l)) (take (b + n - b) (drop b l)) → r ≡ sameAt l a b n
+unfolding sameAt
+same-of l a b n h e =
+    let q : length (take n (drop b l)) ≡ n = part-length l b n h in
+    (rw (add-sub-cancel-left b n) at e) ∙ ap (λ (z : ℕ). eqBytes (take z (drop a l)) (partAt l b n)) q
 
 -- parts that differ in a byte
 pub same-fell : (l : List ℕ) (a b n k : ℕ) → k < n → (byteAt l (a + k) ≡ byteAt l (b + k) → ⊥) → false ≡ sameAt l a b n

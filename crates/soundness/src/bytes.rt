@@ -27,17 +27,11 @@ pub fn zeros_at(img: &[u8], at: usize, n: usize) -> bool
 
 // The n bytes from a on are those from b on.
 pub fn same_at(img: &[u8], a: usize, b: usize, n: usize) -> bool
-    requires { ⌜ (0 < n) × (a + n ≤ length (now img)) × (b + n ≤ length (now img)) ⌝ }
+    requires { ⌜ (a + n ≤ length (now img)) × (b + n ≤ length (now img)) ⌝ }
     ensures { λ r. ⌜ r ≡ sameAt (now (img .entry)) a b n ⌝ }
 {
-    if img[a] != img[b] {
-        return false;
-    }
-    let mut same = true;
-    for k in 0..n {
-        same = same & (img[a + k] == img[b + k]);
-    }
-    same
+    let end = b + n;
+    rows::same_at(img, a, &img[b..end])
 }
 
 // The AIDs in the places at a and b are the same. Most differ in their length or in their last byte.

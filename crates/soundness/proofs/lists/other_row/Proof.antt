@@ -19,7 +19,7 @@ other-row-spec =
     let i = row-in (a .c) (a .k) (a .r) (s .pre .1) in
     let j = row-in (a .c) (a .k) (a .q) (s .pre .2) in
     let w = row-low (a .k) in
-    (omega arith, omega arith, omega arith))
+    (omega arith, omega arith))
     (λ c. let s = c .before .before .before .before .before .before in
     let a = s .args in
     rows-differ (a .c) (a .k) (a .r) (a .q) (a .img .now) (s .pre .0) (s .pre .1) (s .pre .2) (c .before .before .before .before .place-at .ensures) (c .before .before .before .place-at2 .ensures) (c .before .before .row-size .ensures) (c .before .same-at .ensures) (c .if1 .taken))
@@ -28,7 +28,7 @@ other-row-spec =
     let i = row-in (a .c) (a .k) (a .r) (s .pre .1) in
     let j = row-in (a .c) (a .k) (a .q) (s .pre .2) in
     let w = row-low (a .k) in
-    (omega arith, omega arith, omega arith))
+    (omega arith, omega arith))
     (λ c. let s = c .before .before .before .before .before .before .before in
     let a = s .args in
     rows-by-aid (a .c) (a .k) (a .r) (a .q) (a .img .now) (s .pre .0) (s .pre .1) (s .pre .2) (c .before .before .before .before .before .place-at .ensures) (c .before .before .before .before .place-at2 .ensures) (c .before .before .before .row-size .ensures) (c .before .before .same-at .ensures) (c .before .if1 .left) (c .same-at2 .ensures)))
