@@ -2,7 +2,7 @@
 use Prim.Native.Nat.{ℕ, _+_, _*_, _≤_, _<_}
 use native.Mathlib.Omega.{arith}
 use native.Mathlib.Nat.{add-assoc}
-use mathlib.Core.Path.{_≡_, sym, ap, _∙_}
+use mathlib.Core.Path.{_≡_, refl, sym, ap, _∙_}
 use mathlib.Core.Bool.{Bool, true, false, not, _&&_, and-false, and-true}
 use mathlib.Core.List.{List}
 use lib.ListN.{length, getD, take, drop}
@@ -77,11 +77,17 @@ module _ (c : Card) (img : List ℕ) (h : Laid (layoutOf c) img) where
           aid-held img a (unmetRow t r .callee) callee-length
           (ap (λ (x : ℕ). take (length (unmetRow t r .callee)) (drop (x + 1) img)) q ∙ at.unmet-bytes (layoutOf c) (layout-ok c) h r noUnmet p)
 
+      pub callee-is : (aid : List ℕ) (v : Bool) → v ≡ eqAid (aidIn img a) aid → v ≡ eqAid (unmetRow (decode (layoutOf c) img) r .callee) aid
+      callee-is aid v z = z ∙ ap (λ (s : Aid). eqAid s aid) callee-seen
+
+      pub itf-seen : (n : ℕ) → n ≡ getD img (a + 17) 0 → n ≡ unmetRow (decode (layoutOf c) img) r .tok .itf
+      itf-seen n e = e ∙ ap (λ (x : ℕ). getD img (x + 17) 0) q ∙ at.unmet-itf (layoutOf c) (layout-ok c) h r noUnmet p
+
+      pub mth-seen : (n : ℕ) → n ≡ getD img (a + 18) 0 → n ≡ unmetRow (decode (layoutOf c) img) r .tok .mth
+      mth-seen n e = e ∙ ap (λ (x : ℕ). getD img (x + 18) 0) q ∙ at.unmet-mth (layoutOf c) (layout-ok c) h r noUnmet p
+
       tok-seen : tokensIn img (a + 17) ≡ unmetRow t r .tok
-      tok-seen =
-          let one = ap (λ (x : ℕ). getD img (x + 17) 0) q ∙ at.unmet-itf (layoutOf c) (layout-ok c) h r noUnmet p in
-          let two = ap (λ (x : ℕ). getD img x 0) (add-assoc a 17 1) ∙ ap (λ (x : ℕ). getD img (x + 18) 0) q ∙ at.unmet-mth (layoutOf c) (layout-ok c) h r noUnmet p in
-          λ i. record { itf = one i; mth = two i }
+      tok-seen = λ i. record { itf = itf-seen (getD img (a + 17) 0) refl i; mth = mth-seen (getD img (a + 17 + 1) 0) (ap (λ (x : ℕ). getD img x 0) (add-assoc a 17 1)) i }
 
       pub by-seen : (n : ℕ) → n ≡ getD img (a + 19) 0 → n ≡ unmetRow (decode (layoutOf c) img) r .caller
       by-seen n e = e ∙ ap (λ (x : ℕ). getD img (x + 19) 0) q ∙ at.unmet-caller (layoutOf c) (layout-ok c) h r noUnmet p
@@ -90,11 +96,10 @@ module _ (c : Card) (img : List ℕ) (h : Laid (layoutOf c) img) where
         pub asks-other : not b ≡ true → false ≡ eqAid (unmetRow (decode (layoutOf c) img) r .callee) aid && eqTok (unmetRow (decode (layoutOf c) img) r .tok) (tokens x y)
         asks-other g = other b (eqAid (unmetRow t r .callee) aid) (eqTok (unmetRow t r .tok) (tokens x y)) (e ∙ ap (λ (s : Tok). eqTok s (tokens x y)) tok-seen) g
 
-        pub asks-seen : (v : Bool) → not b ≡ false → v ≡ eqAid (aidIn img a) aid
+        pub asks-seen : (v : Bool) → not b ≡ false → v ≡ eqAid (unmetRow (decode (layoutOf c) img) r .callee) aid
             → v ≡ eqAid (unmetRow (decode (layoutOf c) img) r .callee) aid && eqTok (unmetRow (decode (layoutOf c) img) r .tok) (tokens x y)
         asks-seen v g z =
-            alike b v (eqAid (unmetRow t r .callee) aid) (eqTok (unmetRow t r .tok) (tokens x y)) (e ∙ ap (λ (s : Tok). eqTok s (tokens x y)) tok-seen) g
-            (z ∙ ap (λ (s : Aid). eqAid s aid) callee-seen)
+            alike b v (eqAid (unmetRow t r .callee) aid) (eqTok (unmetRow t r .tok) (tokens x y)) (e ∙ ap (λ (s : Tok). eqTok s (tokens x y)) tok-seen) g z
 
   -- ---- waiting grants, alike
   pub waiting-low : length (decode (layoutOf c) img .waiting) ≤ 32
@@ -143,7 +148,7 @@ module _ (c : Card) (img : List ℕ) (h : Laid (layoutOf c) img) where
       pub granted-seen : (n : ℕ) → n ≡ getD img (a + 18) 0 → n ≡ waitingRow (decode (layoutOf c) img) r .service
       granted-seen n e = e ∙ ap (λ (x : ℕ). getD img (x + 18) 0) q ∙ at.waiting-service (layoutOf c) (layout-ok c) h r noWaiting p
 
-pub ruleset listed = (unmet-counts, unmet-counted, unmet-less, unmet-byte, unmet-sum, unmet-aid, unmet-tokens, callee-short, by-seen, asks-other, asks-seen, waiting-counts, waiting-counted, waiting-less, waiting-byte, waiting-sum, waiting-aid, caller-short, waits-seen, granter-seen, granted-seen, needs)
+pub ruleset listed = (unmet-counts, unmet-counted, unmet-less, unmet-byte, unmet-sum, unmet-aid, unmet-tokens, callee-short, callee-is, itf-seen, mth-seen, by-seen, asks-other, asks-seen, waiting-counts, waiting-counted, waiting-less, waiting-byte, waiting-sum, waiting-aid, caller-short, waits-seen, granter-seen, granted-seen, needs)
 
 -- ---- the loops that gather a mask of rows: `search masks`
 pub ruleset masks = (mask-start, mask-turn, mask-doubles, mask-adds, mask-end, unmet-low, waiting-low, needs)

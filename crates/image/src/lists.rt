@@ -67,6 +67,36 @@ pub fn unmet_caller(img: &[u8], c: Card, r: usize) -> usize
     byte_at(img, at + 19)
 }
 
+// The interface token of the service that unmet call r is on.
+pub fn unmet_interface(img: &[u8], c: Card, r: usize) -> u8
+    requires laid { ⌜ Laid (layoutOf c) (now img) ⌝ }
+    requires inside { ⌜ r < length (decode (layoutOf c) (now img) .unmet) ⌝ }
+    ensures { λ t. ⌜ t ≡ unmetRow (decode (layoutOf c) (now (img .entry))) r .tok .itf ⌝ }
+{
+    let at = unmet_row(c, r);
+    img[at + 17]
+}
+
+// Its method token.
+pub fn unmet_method(img: &[u8], c: Card, r: usize) -> u8
+    requires laid { ⌜ Laid (layoutOf c) (now img) ⌝ }
+    requires inside { ⌜ r < length (decode (layoutOf c) (now img) .unmet) ⌝ }
+    ensures { λ t. ⌜ t ≡ unmetRow (decode (layoutOf c) (now (img .entry))) r .tok .mth ⌝ }
+{
+    let at = unmet_row(c, r);
+    img[at + 18]
+}
+
+// Unmet call r is on a service of this AID.
+pub fn is_on(img: &[u8], c: Card, r: usize, aid: &[u8]) -> bool
+    requires laid { ⌜ Laid (layoutOf c) (now img) ⌝ }
+    requires inside { ⌜ r < length (decode (layoutOf c) (now img) .unmet) ⌝ }
+    ensures { λ b. ⌜ b ≡ eqAid (unmetRow (decode (layoutOf c) (now (img .entry))) r .callee) (now (aid .entry)) ⌝ }
+{
+    let at = unmet_row(c, r);
+    crate::read::aid_is(img, at, aid)
+}
+
 // Unmet call r asks for the service of this AID with these tokens.
 pub fn asks_for(img: &[u8], c: Card, r: usize, aid: &[u8], interface: u8, method: u8) -> bool
     requires laid { ⌜ Laid (layoutOf c) (now img) ⌝ }
@@ -78,7 +108,7 @@ pub fn asks_for(img: &[u8], c: Card, r: usize, aid: &[u8], interface: u8, method
     if !crate::read::tokens_are(img, at + 17, interface, method) {
         return false;
     }
-    crate::read::aid_is(img, at, aid)
+    is_on(img, c, r, aid)
 }
 
 // Waiting grant r waits for this AID.
