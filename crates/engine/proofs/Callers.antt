@@ -1,7 +1,7 @@
 -- What the code of kind 3 finds: AIDs of the record on the card, unmet calls that are granted, and room for the callers. Assumes nothing.
 use Prim.Native.Nat.{ℕ, zero, suc, _+_, _-_, _≤_, _<_}
 use native.Mathlib.Omega.{arith}
-use native.Mathlib.Nat.{add-sub-cancel-left, not-le-of-lt}
+use native.Mathlib.Nat.{not-le-of-lt}
 use mathlib.Core.Path.{_≡_, refl, sym, ap, _∙_, subst}
 use mathlib.Core.Bool.{Bool, true, false, not, _&&_, _||_, cond}
 use mathlib.Core.List.{List, [], _∷_}
@@ -30,10 +30,6 @@ use Rattle.record.specs.declared.Aid.{Aid}
 use Rattle.record.specs.declared.Items.{Items}
 use Rattle.record.proofs.Loops.{Todo, todo-next, todo-cons, todo-end}
 use Rattle.engine.specs.Services.{byCallers}
-
--- the part of the record that an AID is
-pub part-aid : (s : List ℕ) (a : Aid) → take (a .at + a .len - a .at) (drop (a .at) s) ≡ aidIn s a
-part-aid s a = ap (λ (n : ℕ). take n (drop (a .at) s)) (add-sub-cancel-left (a .at) (a .len))
 
 -- ---- an AID that no package has
 module _ (L : Layout) (t : Tables) (a : Bytes) (n r : ℕ) (e : n ≡ L .packages) (q : r ≡ numberOr (L .packages) (numberOf L t a)) where

@@ -19,7 +19,7 @@ use Rattle.image.specs.Laid.{Laid, withWaiting}
 use Rattle.image.specs.Wrote.{Wrote}
 use Rattle.image.specs.Read.{maskOf, numberOr, noUnmet, unmetRow}
 use Rattle.image.proofs.Numbers.{package-none, package-some}
-use Rattle.record.specs.Meaning.{AidFits}
+use Rattle.record.specs.Meaning.{AidFits, aidIn}
 use Rattle.record.specs.declared.Aid.{Aid as Place}
 use Rattle.engine.specs.Services.{metOne, met, CallersIn, grantedTo}
 use Rattle.engine.proofs.Callers.{in-row, named}
@@ -79,9 +79,9 @@ take-most zero l = omega arith
 take-most (suc n) [] = omega arith
 take-most (suc n) (x ∷ l) = omega (arith, take-most n l)
 
--- the part of the record that an AID is has at most 16 bytes
-pub part-short : (s : List ℕ) (a : Place) → AidFits s a → length (take (a .at + a .len - a .at) (drop (a .at) s)) ≤ 16
-part-short s a h = omega (arith, take-most (a .at + a .len - a .at) (drop (a .at) s), h .high)
+-- the bytes of an AID of the record are at most 16
+pub aid-short : (s : List ℕ) (a : Place) (b : List ℕ) → AidFits s a → b ≡ aidIn s a → length b ≤ 16
+aid-short s a b h e = subst (λ (z : List ℕ). length z ≤ 16) (sym e) (omega (arith, take-most (a .len) (drop (a .at) s), h .high))
 
 module _ (L : Layout) (t : Tables) (j k : ℕ) (a : Aid) (n i : ℕ) (e : n ≡ L .packages) (q : i ≡ numberOr (L .packages) (numberOf L t a)) where
   pub grant-bit : {img : List ℕ} → i < n → Wrote L img (withGrants (put3 j i k true (t .grants)) (t .waiting) t) → Wrote L img (addGrantAt L t j a k (numberOf L t a) .tables)

@@ -39,9 +39,8 @@ pub fn find_caller(img: &[u8], c: Card, rec: &[u8], a: Aid) -> usize
     requires fits { ⌜ AidFits (now rec) a ⌝ }
     ensures { λ r. ⌜ r ≡ numberOr (layoutOf c .packages) (numberOf (layoutOf c) (decode (layoutOf c) (now (img .entry))) (aidIn (now (rec .entry)) a)) ⌝ }
 {
-    let at = a.at;
-    let end = at + a.len;
-    image::read::find_package(img, c, &rec[at..end])
+    let other = record::aid_bytes(rec, a);
+    image::read::find_package(img, c, other)
 }
 
 // Whether no package has an AID of the record.
@@ -65,9 +64,8 @@ fn is_caller(img: &[u8], c: Card, n: usize, rec: &[u8], a: Aid) -> bool
     requires fits { ⌜ AidFits (now rec) a ⌝ }
     ensures { λ r. ⌜ r ≡ eqAid (decode (layoutOf c) (now (img .entry)) .aid n) (aidIn (now (rec .entry)) a) ⌝ }
 {
-    let at = a.at;
-    let end = at + a.len;
-    image::read::is_package(img, c, n, &rec[at..end])
+    let other = record::aid_bytes(rec, a);
+    image::read::is_package(img, c, n, other)
 }
 
 // Whether package n, a used one, is among the callers.
@@ -273,9 +271,8 @@ pub fn grant(img: &mut [u8], c: Card, rec: &[u8], a: Aid, j: usize, k: usize)
         image::write::set_bit(img, c, Table::Grants, j, i, k);
         return;
     }
-    let at = a.at;
-    let end = at + a.len;
-    image::write::append_waiting(img, c, &rec[at..end], j, k);
+    let other = record::aid_bytes(rec, a);
+    image::write::append_waiting(img, c, other, j, k);
 }
 
 // Service k of package j is granted to the callers.

@@ -24,18 +24,13 @@ use Rattle.image.specs.Read.{numberOr, placeOr}
 use Rattle.image.proofs.Numbers.{Below, service-below, server-none, server-some}
 use Rattle.record.specs.Meaning.{AidFits, aidIn}
 use Rattle.record.specs.declared.Aid.{Aid as Position}
-use Rattle.engine.proofs.Callers.{part-aid}
-use Rattle.engine.proofs.Meets.{part-short}
+use Rattle.engine.proofs.Meets.{aid-short}
 use Rattle.engine.proofs.ItemTurns.{Turns, RoomBy, room-here, room-after}
 use Rattle.loading.specs.Loads.{served, present}
 use Rattle.loading.specs.Writes.{calledAll, serviceNumber, grantedAll, neededAll}
 use Rattle.loading.proofs.Checks.{served-is}
 
 -- ---- one row
--- the bytes of an AID of the record are at most 16
-pub aid-short : (s : List ℕ) (a : Position) (b : List ℕ) → AidFits s a → b ≡ aidIn s a → length b ≤ 16
-aid-short s a b h e = subst (λ (z : List ℕ). length z ≤ 16) (part-aid s a ∙ sym e) (part-short s a h)
-
 -- a place is in range: by a test, and by what is said of its service
 pub callee-tested : (L : Layout) (i m : ℕ) → m ≡ L .packages → i < m → i < L .packages
 callee-tested L i m e h = omega (arith, h, e)

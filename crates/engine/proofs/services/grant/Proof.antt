@@ -4,8 +4,7 @@ use denote.Ref.{now}
 use Rattle.policy.specs.Tables.{decode}
 use Rattle.geometry.specs.Geometry.{layoutOf}
 use Rattle.record.specs.Meaning.{aidIn}
-use Rattle.engine.proofs.Callers.{part-aid}
-use Rattle.engine.proofs.Meets.{grant-bit, unknown, grant-waits, part-short}
+use Rattle.engine.proofs.Meets.{grant-bit, unknown, grant-waits, aid-short}
 use borrow.Author.Needs.{needs}
 use Rattle.engine.proofs.services.grant.Statement.{statement}
 use Rattle.engine.proofs.services.grant.Tie as tie
@@ -32,28 +31,19 @@ returns c =
     grant-bit (layoutOf (a .c)) (decode (layoutOf (a .c)) (now (a .img))) (a .j) (a .k) (aidIn (now (a .rec)) (a .a)) _ _ (f .before .before .packages .ensures) (f .find-caller .ensures)
     (c .before .before .before .before .if1 .taken) (c .before .before .set-bit .ensures)
 
-add-end : tie.Need-add-end
-add-end c = search needs
-
-sub-append-waiting : tie.Need-sub-append-waiting
-sub-append-waiting c = search needs
-
-part-append-waiting-start : tie.Need-part-append-waiting-start
-part-append-waiting-start c = search needs
-
-part-append-waiting-end : tie.Need-part-append-waiting-end
-part-append-waiting-end c = search needs
+aid-bytes-requires : tie.Need-aid-bytes-requires
+aid-bytes-requires c κs = search needs
 
 append-waiting-requires : tie.Need-append-waiting-requires
 append-waiting-requires c κs =
-    let f = c .before .before .before .before in
+    let f = c .before .before .before in
     let s = f .before .before .before .before .before in
     let a = s .args in (
       s .pre .0,
       (
         s .pre .1 .1 .1 (unknown (layoutOf (a .c)) (decode (layoutOf (a .c)) (now (a .img))) (a .j) (a .k) (aidIn (now (a .rec)) (a .a)) _ _ (f .before .before .packages .ensures) (f .find-caller .ensures)
-            (c .before .before .before .if1 .left)),
-        (part-short (now (a .rec)) (a .a) (s .pre .1 .0), s .pre .1 .1 .0),
+            (c .before .before .if1 .left)),
+        (aid-short (now (a .rec)) (a .a) _ (s .pre .1 .0) (c .before .aid-bytes .ensures), s .pre .1 .1 .0),
       ),
     )
 
@@ -63,11 +53,11 @@ same-length-2 c = search needs
 returns-2 : tie.Need-returns-2
 returns-2 c =
     let e = c .before .before .before in
-    let f = e .before .before .before .before in
+    let f = e .before .before .before in
     let s = f .before .before .before .before .before in
     let a = s .args in
     grant-waits (layoutOf (a .c)) (decode (layoutOf (a .c)) (now (a .img))) (a .j) (a .k) (aidIn (now (a .rec)) (a .a)) _ _ (f .before .before .packages .ensures) (f .find-caller .ensures)
-    _ (e .before .before .before .if1 .left) (part-aid (now (a .rec)) (a .a)) (c .before .before .append-waiting .ensures)
+    _ (e .before .before .if1 .left) (e .before .aid-bytes .ensures) (c .before .before .append-waiting .ensures)
 
 pub grant-spec : {M : Type 1} → statement M
 grant-spec =
@@ -78,10 +68,7 @@ grant-spec =
     set-bit-requires
     same-length
     returns
-    add-end
-    sub-append-waiting
-    part-append-waiting-start
-    part-append-waiting-end
+    aid-bytes-requires
     append-waiting-requires
     same-length-2
     returns-2)
