@@ -1,54 +1,61 @@
--- A loop that compares, from the back: bytes from an index on against those of a list.
-use Prim.Native.Nat.{ℕ, suc, _+_, _-_, _≤_, _<_}
+-- A loop that compares: the bytes from an index on against those of a list, whose last one was compared before.
+use Prim.Native.Nat.{ℕ, _+_, _-_, _≤_, _<_}
 use native.Mathlib.Omega.{arith}
-use mathlib.Core.Path.{_≡_, refl, sym, ap, ap₂, _∙_, subst}
-use mathlib.Core.Bool.{true, false, _&&_}
-use mathlib.Core.List.{List}
+use native.Mathlib.Numerals.{add-one}
+use mathlib.Core.Path.{_≡_, refl, sym, ap, _∙_}
+use mathlib.Core.Bool.{Bool, true, false, _&&_}
+use mathlib.Core.List.{List, [], _∷_, _++_}
 use lib.Dec.{eqb}
-use lib.ListN.{length, getD, drop, drop-of-length-le}
-use lib.Seq.{drop-cons}
+use lib.ListN.{length, getD, take, drop, length-drop}
+use lib.Seq.{take-suc, take-all, length-take-le, getD-drop}
 use borrow.Author.Tests.{eq-eqb}
 use Rattle.policy.specs.Lists.{eqBytes}
 use Rattle.policy.proofs.Sets.{T-false, eqBytes→}
 use Rattle.rows.specs.Area.{part}
 use Rattle.rows.proofs.Over.{length-part, getD-part}
 
--- the bytes from j on are the same
-pub record Alike (a : List ℕ) (at : ℕ) (b : List ℕ) (j : ℕ) : Type 0 where
-  pub room : at + length b ≤ length a
-  pub within : j ≤ length b
-  pub is : eqBytes (drop j (part at (length b) a)) (drop j b) ≡ true
+and-true : (b : Bool) → b && true ≡ b
+and-true true = refl
+and-true false = refl
 
-module _ (a : List ℕ) (at : ℕ) (b : List ℕ) (room : at + length b ≤ length a) where
-  abbrev p : List ℕ
-  p = part at (length b) a
+and-again : (a b c : Bool) → a && (b && c) ≡ a && b && c
+and-again true b c = refl
+and-again false b c = refl
 
-  p-length : length p ≡ length b
-  p-length = length-part at (length b) a room
+eqBytes-snoc : (p q : List ℕ) (x y : ℕ) → length p ≡ length q → eqBytes (p ++ (x ∷ [])) (q ++ (y ∷ [])) ≡ eqBytes p q && eqb x y
+eqBytes-snoc [] [] x y e = and-true (eqb x y)
+eqBytes-snoc [] (b ∷ q) x y e = absurd (omega arith)
+eqBytes-snoc (a ∷ p) [] x y e = absurd (omega arith)
+eqBytes-snoc (a ∷ p) (b ∷ q) x y e = ap (λ (z : Bool). eqb a b && z) (eqBytes-snoc p q x y (omega arith)) ∙ and-again (eqb a b) (eqBytes p q) (eqb x y)
 
-  pub alike-none : Alike a at b (length b)
-  alike-none =
-      let h : length p ≤ length b = omega (arith, p-length) in
-      let i : length b ≤ length b = omega arith in
-      record { room = room; within = i; is = rw (drop-of-length-le p h, drop-of-length-le b i) }
+module _ (a : List ℕ) (at : ℕ) (b : List ℕ) where
+  pub same-none : length b ≡ 0 → true ≡ eqBytes (part at (length b) a) b
+  same-none e = go b e
+    where
+      go : (q : List ℕ) → length q ≡ 0 → true ≡ eqBytes (part at (length q) a) q
+      go [] p = refl
+      go (x ∷ q) p = absurd (omega arith)
 
-  pub alike-not : (k : ℕ) → k < length b → (getD a (at + k) 0 ≡ getD b k 0 → ⊥) → false ≡ eqBytes p b
-  alike-not k h e = sym (T-false (eqBytes p b) (λ t. e (sym (getD-part at (length b) a k h) ∙ ap (λ (z : List ℕ). getD z k 0) (eqBytes→ p b t))))
+  pub last-fell : (length b ≡ 0 → ⊥) → (getD a (at + (length b - 1)) 0 ≡ getD b (length b - 1) 0 → ⊥) → false ≡ eqBytes (part at (length b) a) b
+  last-fell h f =
+      sym (T-false (eqBytes (part at (length b) a) b)
+      (λ t. f (sym (getD-part at (length b) a (length b - 1) (omega arith)) ∙ ap (λ (z : List ℕ). getD z (length b - 1) 0) (eqBytes→ (part at (length b) a) b t))))
 
-  -- byte k, and the rest
-  back : (k : ℕ) → k < length b → eqBytes (drop (suc k) p) (drop (suc k) b) ≡ true → getD a (at + k) 0 ≡ getD b k 0 → eqBytes (drop k p) (drop k b) ≡ true
-  back k h q e =
-      rw (drop-cons p k 0 (omega (arith, p-length)), drop-cons b k 0 h, getD-part at (length b) a k h)
-      (ap₂ _&&_ (eq-eqb (getD a (at + k) 0) (getD b k 0) e) q)
+  module _ (room : at + length b ≤ length a) (k : ℕ) {r : Bool} (e : r ≡ eqBytes (part at k a) (take k b)) where
+    turn : k < length b → r && eqb (getD a (at + k) 0) (getD b k 0) ≡ eqBytes (part at (k + 1) a) (take (k + 1) b)
+    turn h =
+        let long : k < length (drop at a) = rw length-drop (omega arith) in
+        let same : length (part at k a) ≡ length (take k b) = length-part at k a (omega arith) ∙ sym (length-take-le k b (omega arith)) in
+        rw (add-one, take-suc (drop at a) k 0 long, take-suc b k 0 h, getD-drop at a k 0)
+        (ap (λ (z : Bool). z && eqb (getD a (at + k) 0) (getD b k 0)) e ∙ sym (eqBytes-snoc (part at k a) (take k b) (getD a (at + k) 0) (getD b k 0) same))
 
-pub alike-on : {a : List ℕ} {at : ℕ} {b : List ℕ} {j : ℕ} (s : Alike a at b j) → 0 < j → getD a (at + (j - 1)) 0 ≡ getD b (j - 1) 0 → Alike a at b (j - 1)
-alike-on {a} {at} {b} {j} s h e =
-    let q : j ≡ suc (j - 1) = omega arith in
-    record {
-      room = s .room;
-      within = omega (arith, s .within);
-      is = back a at b (s .room) (j - 1) (omega (arith, s .within)) (subst (λ (z : ℕ). eqBytes (drop z (part at (length b) a)) (drop z b) ≡ true) q (s .is)) e;
-    }
+    pub same-turn : k < length b - 1 → r && eqb (getD a (at + k) 0) (getD b k 0) ≡ eqBytes (part at (k + 1) a) (take (k + 1) b)
+    same-turn h = turn (omega arith)
 
-pub alike-all : {a : List ℕ} {at : ℕ} {b : List ℕ} {j : ℕ} (s : Alike a at b j) → (0 < j → ⊥) → true ≡ eqBytes (part at (length b) a) b
-alike-all {a} {at} {b} {j} s h = let q : j ≡ 0 = omega arith in sym (subst (λ (z : ℕ). eqBytes (drop z (part at (length b) a)) (drop z b) ≡ true) q (s .is))
+    pub same-end : (length b ≡ 0 → ⊥) → getD a (at + (length b - 1)) 0 ≡ getD b (length b - 1) 0 → k ≤ length b - 1 → length b - 1 ≤ k → r ≡ eqBytes (part at (length b) a) b
+    same-end h s p q =
+        let z : length b - 1 ≡ k = omega arith in
+        let n : k + 1 ≡ length b = omega arith in
+        let t : eqb (getD a (at + k) 0) (getD b k 0) ≡ true = eq-eqb (getD a (at + k) 0) (getD b k 0) (rw z at s) in
+        sym (and-true r) ∙ ap (λ (x : Bool). r && x) (sym t) ∙ turn (omega arith)
+        ∙ ap (λ (x : ℕ). eqBytes (part at x a) (take x b)) n ∙ ap (eqBytes (part at (length b) a)) (take-all (length b) b (omega arith))
