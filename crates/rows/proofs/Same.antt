@@ -3,7 +3,7 @@ use Prim.Native.Nat.{ℕ, _+_, _-_, _≤_, _<_}
 use native.Mathlib.Omega.{arith}
 use native.Mathlib.Numerals.{add-one}
 use mathlib.Core.Path.{_≡_, refl, sym, ap, _∙_}
-use mathlib.Core.Bool.{Bool, true, false, _&&_}
+use mathlib.Core.Bool.{Bool, true, false, _&&_, and-true, and-assoc}
 use mathlib.Core.List.{List, [], _∷_, _++_}
 use lib.Dec.{eqb}
 use lib.ListN.{length, getD, take, drop, length-drop}
@@ -14,19 +14,11 @@ use Rattle.policy.proofs.Sets.{T-false, eqBytes→}
 use Rattle.rows.specs.Area.{part}
 use Rattle.rows.proofs.Over.{length-part, getD-part}
 
-and-true : (b : Bool) → b && true ≡ b
-and-true true = refl
-and-true false = refl
-
-and-again : (a b c : Bool) → a && (b && c) ≡ a && b && c
-and-again true b c = refl
-and-again false b c = refl
-
 eqBytes-snoc : (p q : List ℕ) (x y : ℕ) → length p ≡ length q → eqBytes (p ++ (x ∷ [])) (q ++ (y ∷ [])) ≡ eqBytes p q && eqb x y
 eqBytes-snoc [] [] x y e = and-true (eqb x y)
 eqBytes-snoc [] (b ∷ q) x y e = absurd (omega arith)
 eqBytes-snoc (a ∷ p) [] x y e = absurd (omega arith)
-eqBytes-snoc (a ∷ p) (b ∷ q) x y e = ap (λ (z : Bool). eqb a b && z) (eqBytes-snoc p q x y (omega arith)) ∙ and-again (eqb a b) (eqBytes p q) (eqb x y)
+eqBytes-snoc (a ∷ p) (b ∷ q) x y e = ap (λ (z : Bool). eqb a b && z) (eqBytes-snoc p q x y (omega arith)) ∙ sym (and-assoc (eqb a b) (eqBytes p q) (eqb x y))
 
 module _ (a : List ℕ) (at : ℕ) (b : List ℕ) where
   pub same-none : length b ≡ 0 → true ≡ eqBytes (part at (length b) a) b
