@@ -1,10 +1,12 @@
 -- What code reads in a laid image of a card, in the form in which the needs ask it: `search seen`.
-use Prim.Native.Nat.{ℕ, _+_, _≤_, _<_}
+use Prim.Native.Nat.{ℕ, _+_, _-_, _≤_, _<_}
 use native.Mathlib.Omega.{arith}
-use mathlib.Core.Path.{_≡_, sym, ap, _∙_}
-use mathlib.Core.Bool.{Bool, true, false, not, _&&_}
-use mathlib.Core.List.{List}
+use mathlib.Core.Path.{_≡_, refl, sym, ap, _∙_}
+use mathlib.Core.Bool.{Bool, true, false, not, _&&_, and-true, and-false}
+use mathlib.Core.List.{List, [], _∷_}
+use lib.Dec.{eqb}
 use lib.ListN.{length, getD, take, drop, length-take, length-drop}
+use borrow.Author.Tests.{not-true, not-false, ne-eqb}
 use Rattle.policy.specs.Lists.{eqBytes, first, upto}
 use Rattle.policy.specs.Contract.{Aid, eqAid, Tok, eqTok}
 use Rattle.policy.specs.Layout.{size}
@@ -16,6 +18,7 @@ use Rattle.policy.proofs.Bits.{rowOf-lt, bit-rowOf}
 use Rattle.bits.proofs.Loops.{first-ext}
 use Rattle.bits.proofs.Row.{lowest-row}
 use Rattle.rows.specs.Area.{part}
+use Rattle.rows.proofs.Over.{getD-part}
 use Rattle.geometry.specs.declared.Card.{Card}
 use Rattle.geometry.specs.declared.Table.{Table}
 use Rattle.geometry.specs.Geometry.{layoutOf, aidAt, tokAt, provAt, entryAt}
@@ -35,14 +38,34 @@ bit-on n f {k = k} {b = true} x e h p q z = z ∙ ap (λ (y : Bool). y && x) (p 
 bit-on n f {b = false} x e h p q z = absurd (false-T q tt)
 
 -- ---- an AID's place
-module _ (img aid : List ℕ) (at : ℕ) where
-  pub aid-other : at + 17 ≤ length img → getD img at 0 ≤ 16 → (getD img at 0 ≡ length aid → ⊥) → false ≡ eqAid (aidIn img at) aid
-  aid-other h l ne =
-      let e : length (aidIn img at) ≡ getD img at 0 = simp (length-take, length-drop) (omega arith) in
-      sym (T-false (eqAid (aidIn img at) aid) (λ t. ne (sym e ∙ ap length (eqAid→ (aidIn img at) aid t))))
+module _ (img aid : List ℕ) (at : ℕ) (room : at + 17 ≤ length img) (low : getD img at 0 ≤ 16) where
+  place-length : length (aidIn img at) ≡ getD img at 0
+  place-length = simp (length-take, length-drop) (omega arith)
 
-  pub aid-same : (r : Bool) → getD img at 0 ≡ length aid → r ≡ eqBytes (part (at + 1) (length aid) img) aid → r ≡ eqAid (aidIn img at) aid
-  aid-same r e p = p ∙ ap (λ (n : ℕ). eqBytes (take n (drop (at + 1) img)) aid) (sym e)
+  pub aid-other : (getD img at 0 ≡ length aid → ⊥) → false ≡ eqAid (aidIn img at) aid
+  aid-other ne = sym (T-false (eqAid (aidIn img at) aid) (λ t. ne (sym place-length ∙ ap length (eqAid→ (aidIn img at) aid t))))
+
+  pub aid-long : 16 < length aid → false ≡ eqAid (aidIn img at) aid
+  aid-long h = aid-other (λ e. omega arith)
+
+  -- byte n of the place is byte n - 1 of its AID
+  pub aid-last : (length aid ≡ 0 → ⊥) → (getD img (at + length aid) 0 ≡ getD aid (length aid - 1) 0 → ⊥) → false ≡ eqAid (aidIn img at) aid
+  aid-last h ne =
+      let k = length aid - 1 in
+      let b : at + length aid ≡ at + 1 + k = omega arith in
+      sym (T-false (eqAid (aidIn img at) aid) (λ t. let e = eqAid→ (aidIn img at) aid t in let l = sym place-length ∙ ap length e in
+      ne (ap (λ (x : ℕ). getD img x 0) b ∙ sym (getD-part (at + 1) (getD img at 0) img k (omega (arith, l))) ∙ ap (λ (z : Aid). getD z k 0) e)))
+
+  pub aid-none : length aid ≡ 0 → eqb (getD img at 0) 0 ≡ eqAid (aidIn img at) aid
+  aid-none h = ap (λ (n : ℕ). eqb n 0) (sym place-length) ∙ go (aidIn img at) aid h
+    where
+      go : (p q : List ℕ) → length q ≡ 0 → eqb (length p) 0 ≡ eqBytes p q
+      go [] [] e = refl
+      go (x ∷ p) [] e = ne-eqb (length (x ∷ p)) 0 (λ z. omega arith)
+      go p (y ∷ q) e = absurd (omega arith)
+
+pub aid-same : (img aid : List ℕ) (at : ℕ) (r : Bool) → getD img at 0 ≡ length aid → r ≡ eqBytes (part (at + 1) (length aid) img) aid → r ≡ eqAid (aidIn img at) aid
+aid-same img aid at r e p = p ∙ ap (λ (n : ℕ). eqBytes (take n (drop (at + 1) img)) aid) (sym e)
 
 -- the AID that a place holds, where its length and its bytes are those of a
 pub aid-held : (img : List ℕ) (at : ℕ) (a : Aid) → getD img at 0 ≡ length a → take (length a) (drop (at + 1) img) ≡ a → aidIn img at ≡ a
@@ -80,15 +103,22 @@ module _ (c : Card) (img : List ℕ) (h : Laid (layoutOf c) img) where
     pub aid-short : getD img a 0 ≤ 16
     aid-short = let e = ap (λ (x : ℕ). getD img x 0) q ∙ aid-length (layoutOf c) (layout-ok c) h n p in omega (arith, e, h .room .aid-short n)
 
-  -- ---- the number n is used, and has the AID; b is the bit, and r compares the AID
-  module _ (n row : ℕ) (b : Bool) (aid : List ℕ) (l : n < layoutOf c .packages) (e : row ≡ rowOf (layoutOf c .packages) (decode (layoutOf c) img .used)) (p : b ≡ bit row n) where
-    pub unused : not b ≡ true → false ≡ decode (layoutOf c) img .used n && eqAid (decode (layoutOf c) img .aid n) aid
-    unused q = bit-off (layoutOf c .packages) (decode (layoutOf c) img .used) (eqAid (decode (layoutOf c) img .aid n) aid) e l p q
+  -- ---- the number n is used, and has the AID; b compares the AID, and r is the bit
+  module _ (n a : ℕ) (b : Bool) (aid : List ℕ) (l : n < layoutOf c .packages) (q : a ≡ aidAt (layoutOf c) n) (z : b ≡ eqAid (aidIn img a) aid) where
+    abbrev used : Bool
+    used = decode (layoutOf c) img .used n
 
-    pub used-with : (a : ℕ) (r : Bool) → not b ≡ false → a ≡ aidAt (layoutOf c) n → r ≡ eqAid (aidIn img a) aid
+    compared : b ≡ eqAid (decode (layoutOf c) img .aid n) aid
+    compared = z ∙ ap (λ (x : Aid). eqAid x aid) (aid-seen n a l q)
+
+    pub unnamed : not b ≡ true → false ≡ decode (layoutOf c) img .used n && eqAid (decode (layoutOf c) img .aid n) aid
+    unnamed h = sym (and-false used) ∙ ap (λ (x : Bool). used && x) (sym (not-true b h) ∙ compared)
+
+    pub named : (row : ℕ) (r : Bool) → not b ≡ false → row ≡ rowOf (layoutOf c .packages) (decode (layoutOf c) img .used) → r ≡ bit row n
         → r ≡ decode (layoutOf c) img .used n && eqAid (decode (layoutOf c) img .aid n) aid
-    used-with a r q d z =
-        bit-on (layoutOf c .packages) (decode (layoutOf c) img .used) (eqAid (decode (layoutOf c) img .aid n) aid) e l p q (z ∙ ap (λ (x : Aid). eqAid x aid) (aid-seen n a l d))
+    named row r h e p =
+        p ∙ ap (λ (x : ℕ). bit x n) e ∙ bit-rowOf (layoutOf c .packages) (decode (layoutOf c) img .used) n l ∙ sym (and-true used)
+        ∙ ap (λ (x : Bool). used && x) (sym (not-false b h) ∙ compared)
 
   -- ---- package j provides service k, whose tokens are at a
   module _ (j k a : ℕ) (p : j < layoutOf c .packages) (l : k < layoutOf c .services) (q : a ≡ tokAt (layoutOf c) j k) where
@@ -119,4 +149,4 @@ module _ (c : Card) (img : List ℕ) (h : Laid (layoutOf c) img) where
   unfolding freeService
   lowest-unprovided j row r = lowest (layoutOf c .services) (decode (layoutOf c) img .provides j) row r (limits c .services-low)
 
-pub ruleset seen = (laid-size, used-seen, provided-seen, entry-seen, aid-other, aid-same, aid-short, unused, used-with, unprovided, provided-with, lowest-unused, lowest-unprovided, geo)
+pub ruleset seen = (laid-size, used-seen, provided-seen, entry-seen, aid-other, aid-long, aid-last, aid-none, aid-same, aid-short, unnamed, named, unprovided, provided-with, lowest-unused, lowest-unprovided, geo)

@@ -46,13 +46,22 @@ pub fn entry(img: &[u8], c: Card, tb: Table, i: usize, j: usize) -> u16
     geometry::row_at(img, c, at)
 }
 
-// The place at `at` holds this AID.
+// The place at `at` holds this AID. Most AIDs differ in their last byte, so it goes first.
 pub fn aid_is(img: &[u8], at: usize, aid: &[u8]) -> bool
     requires { ⌜ (at + 17 ≤ length (now img)) × (getD (now img) at 0 ≤ 16) ⌝ }
     ensures { λ r. ⌜ r ≡ eqAid (aidIn (now (img .entry)) at) (now (aid .entry)) ⌝ }
 {
-    let n = img[at] as usize;
-    if n != aid.len() {
+    let n = aid.len();
+    if n == 0 {
+        return img[at] == 0;
+    }
+    if 16 < n {
+        return false;
+    }
+    if img[at + n] != aid[n - 1] {
+        return false;
+    }
+    if img[at] as usize != n {
         return false;
     }
     rows::same_at(img, at + 1, aid)
@@ -72,12 +81,12 @@ pub fn is_package(img: &[u8], c: Card, n: usize, aid: &[u8]) -> bool
     requires inside { ⌜ n < layoutOf c .packages ⌝ }
     ensures { λ r. ⌜ r ≡ decode (layoutOf c) (now (img .entry)) .used n && eqAid (decode (layoutOf c) (now (img .entry)) .aid n) (now (aid .entry)) ⌝ }
 {
-    let row = used_row(img, c);
-    if !bits::has_bit(row, n) {
+    let at = geometry::aid_at(c, n);
+    if !aid_is(img, at, aid) {
         return false;
     }
-    let at = geometry::aid_at(c, n);
-    aid_is(img, at, aid)
+    let row = used_row(img, c);
+    bits::has_bit(row, n)
 }
 
 // The number of the package with this AID; the number of packages where there is none.
