@@ -29,6 +29,9 @@ pub mod full_card;
 // Records and images as text, for hosts and testers.
 pub mod host;
 
+// What the programs share.
+pub mod program;
+
 pub mod hex;
 pub mod random;
 pub mod write;

@@ -1,13 +1,13 @@
 //! The program `cardtool`: its commands on good and bad input, options, messages and exit codes.
 
-use second::host::tool::{run, Failure, BAD_INPUT, BAD_USE};
+use second::host::tool::run;
+use second::program::{Failure, BAD_INPUT, BAD_USE};
 use std::path::PathBuf;
 
 /// What the program writes, or why it fails.
 fn tool(arguments: &str, input: &[u8]) -> Result<Vec<u8>, Failure> {
     let arguments: Vec<String> = arguments.split_whitespace().map(str::to_string).collect();
-    let mut output = Vec::new();
-    run(&arguments, &mut &input[..], &mut output).map(|()| output)
+    run(&arguments, &mut &input[..])
 }
 
 fn text(arguments: &str, input: &str) -> String {
@@ -95,6 +95,9 @@ fn files_and_names() {
         BAD_INPUT,
         &format!("{story}: line 1, column 1: 'l' is no hexadecimal digit"),
     );
+    // The place is in the image's file, not in that of the records.
+    let words = format!("{names}: byte 19: an image has 1094 bytes, here are 19");
+    fails(&format!("judge --raw --image {names}"), b"", BAD_INPUT, &words);
 }
 
 #[test]
@@ -158,7 +161,7 @@ fn bad_use_is_2() {
     for arguments in ["encode no-such-file", "decode --names no-such-file", "encode --out no-such-directory/file"] {
         assert_eq!(tool(arguments, b"").expect_err(arguments).code, BAD_USE);
     }
-    assert_eq!(tool("", b"").expect_err("no command").code, BAD_USE);
+    fails("", b"", BAD_USE, "a command is missing; there are encode, decode, show, build, dump, judge and --help");
 }
 
 #[test]

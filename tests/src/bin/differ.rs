@@ -1,19 +1,28 @@
-//! Compares the engines on random histories.
-//!
-//!     differ [--seed N] [--records N] [--fault NAME]
-//!     differ --replay FILE [--damage PLACE=BYTE,...] [--seed N] [--fault NAME]
-//!
-//! A file to replay has a record on each line, in hexadecimal. A fault is an engine that is wrong
-//! on purpose and is compared too.
+//! Compares the engines on random histories. `differ --help` lists the options.
 
 use second::card::{linked, Card};
 use second::compare::Tally;
 use second::damage::Damage;
 use second::faults::FAULTS;
 use second::hex::{from_hex, to_hex};
+use second::program::{self, number, Failure};
 use second::run::{replay, run, DEFAULT_RECORDS, DEFAULT_SEED};
+use second::say_line;
 use std::process::ExitCode;
 use std::time::Instant;
+
+const HELP: &str = "\
+differ [--seed N] [--records N] [--fault NAME]
+    judges N random records (100,000) everywhere and compares all that comes out
+differ --replay FILE [--damage PLACE=BYTE,...] [--seed N] [--fault NAME]
+    the same with the records of a file, in hexadecimal, one on each line; the damage is done to each image besides
+
+A fault is an engine that is wrong on purpose and is compared too; a wrong name lists them all.
+Exit code: 0; 1 when something differs, or was never seen in 100,000 records or more, or the file is bad;
+2 when the command line is bad, or the file cannot be read.
+";
+
+const OPTIONS: [&str; 5] = ["--seed", "--records", "--replay", "--damage", "--fault"];
 
 struct Arguments {
     seed: u64,
@@ -24,65 +33,65 @@ struct Arguments {
 }
 
 fn main() -> ExitCode {
-    let outcome = arguments().and_then(|arguments| {
+    program::run_or_help(HELP, |given| {
+        let arguments = arguments(given)?;
         let mut cards = linked();
         cards.extend(arguments.fault);
         let names: Vec<&str> = cards.iter().map(|card| card.name()).collect();
-        println!("machine against {}, seed {}", names.join(" and "), arguments.seed);
+        say_line!("machine against {}, seed {}", names.join(" and "), arguments.seed);
+        // A panic is a difference, and is told as one.
         std::panic::set_hook(Box::new(|_| {}));
         match &arguments.replay {
             Some(file) => replay_file(&cards, &arguments, file),
             None => run_histories(&cards, &arguments),
         }
-    });
-    match outcome {
-        Ok(()) => ExitCode::SUCCESS,
-        Err(words) => {
-            println!("FAILED: {words}");
-            ExitCode::FAILURE
-        }
-    }
+    })
 }
 
-fn arguments() -> Result<Arguments, String> {
+fn arguments(given: &[String]) -> Result<Arguments, Failure> {
     let (seed, records) = (DEFAULT_SEED, DEFAULT_RECORDS);
     let mut arguments = Arguments { seed, records, replay: None, damage: Damage::default(), fault: None };
-    let mut given = std::env::args().skip(1);
-    while let Some(name) = given.next() {
-        let value = given.next().ok_or(format!("{name} lacks its value"))?;
-        let number = || value.parse().map_err(|_| format!("{name} {value}: not a number"));
-        match name.as_str() {
-            "--seed" => arguments.seed = number()?,
-            "--records" => arguments.records = number()?,
-            "--replay" => arguments.replay = Some(value),
+    let options = program::options(given, &OPTIONS)?;
+    for (name, value) in &options {
+        match *name {
+            "--seed" => arguments.seed = number(name, value)?,
+            "--records" => arguments.records = number(name, value)?,
+            "--replay" => arguments.replay = Some(value.to_string()),
             "--damage" => {
-                let read = Damage::from_text(&value);
-                arguments.damage = read.ok_or(format!("{name} {value}: not as in 3=0F,1093=01"))?;
+                let bad = || Failure::bad_use(format!("{name} {value}: not as in 3=0F,1093=01"));
+                arguments.damage = Damage::from_text(value).ok_or_else(bad)?;
             }
-            "--fault" => arguments.fault = Some(fault(&value)?),
-            _ => return Err(format!("{name}: not known; there are --seed, --records, --replay, --damage and --fault")),
+            _ => arguments.fault = Some(fault(value)?),
         }
     }
     Ok(arguments)
 }
 
-fn fault(name: &str) -> Result<&'static dyn Card, String> {
+fn fault(name: &str) -> Result<&'static dyn Card, Failure> {
     let named = FAULTS.iter().find(|fault| fault.name() == name);
     let names = || FAULTS.iter().map(|fault| fault.name()).collect::<Vec<_>>().join(", ");
-    named.map(|fault| fault as &dyn Card).ok_or_else(|| format!("{name}: not known; there are {}", names()))
+    let bad = || Failure::bad_use(format!("--fault {name}: not known; there are {}", names()));
+    named.map(|fault| fault as &dyn Card).ok_or_else(bad)
 }
 
-fn run_histories(cards: &[&dyn Card], arguments: &Arguments) -> Result<(), String> {
+/// What was found, on standard output with the rest.
+fn failed(words: String) -> Failure {
+    say_line!("FAILED: {words}");
+    Failure::failed("the comparison failed")
+}
+
+fn run_histories(cards: &[&dyn Card], arguments: &Arguments) -> Result<(), Failure> {
     let start = Instant::now();
     let tally = run(cards, arguments.seed, arguments.records).map_err(|failure| {
         let records: Vec<String> = failure.history.iter().map(|record| to_hex(record)).collect();
         let (seed, count) = (arguments.seed, failure.history.len());
-        format!("{}\nseed {seed}; records in the shortest history: {count}\n{}", failure.difference, records.join("\n"))
+        let end = format!("seed {seed}; records in the shortest history: {count}\n{}", records.join("\n"));
+        failed(format!("{}\n{end}", failure.difference))
     })?;
-    println!("{}", report(&tally));
-    println!("{:.1} s", start.elapsed().as_secs_f64());
+    say_line!("{}", report(&tally));
+    say_line!("{:.1} s", start.elapsed().as_secs_f64());
     if arguments.records >= DEFAULT_RECORDS {
-        everything_seen(&tally)?;
+        everything_seen(&tally).map_err(failed)?;
     }
     Ok(())
 }
@@ -123,14 +132,12 @@ fn everything_seen(tally: &Tally) -> Result<(), String> {
     }
 }
 
-fn replay_file(cards: &[&dyn Card], arguments: &Arguments, file: &str) -> Result<(), String> {
-    let text = std::fs::read_to_string(file).map_err(|error| format!("{file}: {error}"))?;
-    let records = text
-        .lines()
-        .enumerate()
-        .map(|(n, line)| from_hex(line).ok_or(format!("{file}, line {}: not pairs of hexadecimal digits", n + 1)));
+fn replay_file(cards: &[&dyn Card], arguments: &Arguments, file: &str) -> Result<(), Failure> {
+    let text = std::fs::read_to_string(file).map_err(|error| Failure::of_file(file, error))?;
+    let bad = |n| Failure::failed(format!("{file}: line {}: not pairs of hexadecimal digits", n + 1));
+    let records = text.lines().enumerate().map(|(n, line)| from_hex(line).ok_or_else(|| bad(n)));
     let history: Vec<Vec<u8>> = records.collect::<Result<_, _>>()?;
     let tally = replay(cards, arguments.seed, &history, &arguments.damage);
-    println!("{}", report(&tally.map_err(|difference| difference.to_string())?));
+    say_line!("{}", report(&tally.map_err(|difference| failed(difference.to_string()))?));
     Ok(())
 }

@@ -11,26 +11,11 @@ use crate::bytes::layout::Image;
 use crate::card::{linked, Card, Verdict, IMAGE};
 use crate::hex::to_hex;
 use crate::machine::record::{self, Record};
+use crate::program::{asks_help, Failure, BAD_INPUT, BAD_USE};
 use crate::refusal::Refusal;
 use crate::tables::Tables;
 use std::fs;
-use std::io::{Read, Write};
-
-/// Why the program ends with another code than 0.
-#[derive(Debug, PartialEq, Eq)]
-pub struct Failure {
-    pub code: u8,
-    pub words: String,
-}
-
-/// The input is bad.
-pub const BAD_INPUT: u8 = 1;
-/// The command line is bad, or a file cannot be read or written.
-pub const BAD_USE: u8 = 2;
-
-fn bad_use(words: String) -> Failure {
-    Failure { code: BAD_USE, words }
-}
+use std::io::Read;
 
 struct Command {
     name: &'static str,
@@ -113,29 +98,26 @@ struct Options {
     as_is: bool,
     record: bool,
     names: Names,
-    image: Option<Vec<u8>>,
+    image: Option<Image>,
     save: Option<String>,
     out: Option<String>,
     input: Option<String>,
 }
 
-/// Runs the program with its arguments, without its own name.
-pub fn run(arguments: &[String], input: &mut dyn Read, output: &mut dyn Write) -> Result<(), Failure> {
+/// Runs the program with its arguments, without its own name: what it writes to standard output.
+pub fn run(arguments: &[String], input: &mut dyn Read) -> Result<Vec<u8>, Failure> {
+    let names = || COMMANDS.map(|command| command.name).join(", ");
     let Some(name) = arguments.first() else {
-        return Err(bad_use(format!("a command is missing\n{}", help())));
+        return Err(Failure::bad_use(format!("a command is missing; there are {} and --help", names())));
     };
-    let written = |output: &mut dyn Write, bytes: &[u8]| {
-        output.write_all(bytes).map_err(|error| bad_use(format!("standard output: {error}")))
-    };
-    if is_help(name) {
-        return written(output, help().as_bytes());
+    if asks_help(&arguments[..1]) {
+        return Ok(help().into_bytes());
     }
     let Some(command) = COMMANDS.iter().find(|command| command.name == name) else {
-        let names: Vec<&str> = COMMANDS.iter().map(|command| command.name).collect();
-        return Err(bad_use(format!("'{name}' is no command; there are {} and --help", names.join(", "))));
+        return Err(Failure::bad_use(format!("'{name}' is no command; there are {} and --help", names())));
     };
-    if arguments.iter().any(|argument| is_help(argument)) {
-        return written(output, command_help(command).as_bytes());
+    if asks_help(arguments) {
+        return Ok(command_help(command).into_bytes());
     }
     let options = options(command, &arguments[1..])?;
     let bytes = read_input(options.input.as_deref(), input)?;
@@ -145,22 +127,25 @@ pub fn run(arguments: &[String], input: &mut dyn Read, output: &mut dyn Write) -
         write_file(file, image)?;
     }
     match &options.out {
-        None => written(output, &done.output),
-        Some(file) => write_file(file, &done.output),
+        None => Ok(done.output),
+        Some(file) => write_file(file, &done.output).map(|()| Vec::new()),
     }
 }
 
-fn is_help(argument: &str) -> bool {
-    argument == "--help" || argument == "-h"
-}
+/// Whose answers `judge` gives: the last engine that is linked.
+const ANSWERING: &str = match cfg!(feature = "engine") {
+    true => "the proved engine",
+    false => "the second engine; built with '--features engine', of the proved engine",
+};
 
 fn help() -> String {
     let commands = COMMANDS.iter().map(|command| format!("  {:<7} {}\n", command.name, command.about));
     format!(
         "cardtool COMMAND [OPTIONS] [FILE]\n\n{}\n\
          Without FILE, or with '-', standard input is read. 'cardtool COMMAND --help' lists the options.\n\
-         Exit code: 0; {BAD_INPUT} when the input is bad, with the place of the fault; {BAD_USE} when the command \
-         line is, or a file cannot be read or written.\n",
+         Exit code: 0, whatever a card answers; {BAD_INPUT} when the input is bad, with the place of the fault; \
+         {BAD_USE} when the command line is, or a file cannot be read or written.\n\
+         The answers are those of {ANSWERING}.\n",
         commands.collect::<String>()
     )
 }
@@ -180,18 +165,18 @@ fn options(command: &Command, arguments: &[String]) -> Result<Options, Failure> 
     while let Some(argument) = left.next() {
         if argument == "-" || !argument.starts_with('-') {
             if options.input.replace(argument.clone()).is_some() {
-                return Err(bad_use(format!("'{argument}': one FILE can be read, and one stands before it")));
+                return Err(Failure::bad_use(format!("'{argument}': one FILE can be read, and one stands before it")));
             }
             continue;
         }
         let known = OPTIONS.iter().find(|(name, ..)| name == argument && command.options.contains(name));
         let Some((name, value, _)) = known else {
             let there = command.options.join(", ");
-            return Err(bad_use(format!("'{argument}' is no option of {}; there are {there}", command.name)));
+            return Err(Failure::bad_use(format!("'{argument}' is no option of {}; there are {there}", command.name)));
         };
         let file = match value.is_empty() {
             true => None,
-            false => Some(left.next().cloned().ok_or_else(|| bad_use(format!("{name} lacks its {value}")))?),
+            false => Some(left.next().cloned().ok_or_else(|| Failure::bad_use(format!("{name} lacks its {value}")))?),
         };
         match *name {
             "--raw" => options.raw = true,
@@ -210,31 +195,32 @@ fn options(command: &Command, arguments: &[String]) -> Result<Options, Failure> 
     }
     if let Some(file) = image {
         let bytes = read_file(&file)?;
-        options.image = Some(image_bytes(options.raw, &bytes).map_err(|fault| bad_input(&file, &[fault]))?);
+        let image = image_bytes(options.raw, &bytes).and_then(|bytes| unsound::sized(&bytes).copied());
+        options.image = Some(image.map_err(|fault| bad_input(&file, &[fault]))?);
     }
     Ok(options)
 }
 
 fn bad_input(source: &str, faults: &[Fault]) -> Failure {
     let lines: Vec<String> = faults.iter().map(|fault| format!("{source}: {fault}")).collect();
-    Failure { code: BAD_INPUT, words: lines.join("\n") }
+    Failure::failed(lines.join("\n"))
 }
 
 fn read_input(file: Option<&str>, input: &mut dyn Read) -> Result<Vec<u8>, Failure> {
     let Some(file) = file else {
         let mut bytes = Vec::new();
-        input.read_to_end(&mut bytes).map_err(|error| bad_use(format!("standard input: {error}")))?;
+        input.read_to_end(&mut bytes).map_err(|error| Failure::of_file("standard input", error))?;
         return Ok(bytes);
     };
     read_file(file)
 }
 
 fn read_file(file: &str) -> Result<Vec<u8>, Failure> {
-    fs::read(file).map_err(|error| bad_use(format!("{file}: {error}")))
+    fs::read(file).map_err(|error| Failure::of_file(file, error))
 }
 
 fn write_file(file: &str, bytes: &[u8]) -> Result<(), Failure> {
-    fs::write(file, bytes).map_err(|error| bad_use(format!("{file}: {error}")))
+    fs::write(file, bytes).map_err(|error| Failure::of_file(file, error))
 }
 
 fn text_of(bytes: &[u8]) -> Result<Text, Fault> {
@@ -323,22 +309,14 @@ fn dump(options: &Options, bytes: &[u8]) -> Result<Done, Vec<Fault>> {
         return Ok(records.iter().map(dump::record).collect::<Vec<_>>().join("\n").into());
     }
     let image = image_bytes(options.raw, bytes).map_err(one)?;
-    match <&Image>::try_from(&image[..]) {
-        Ok(image) => Ok(dump::image(image).into()),
-        Err(_) => Err(unsound::faults(&image)),
-    }
+    Ok(dump::image(unsound::sized(&image).map_err(one)?).into())
 }
 
 fn judge(options: &Options, bytes: &[u8]) -> Result<Done, Vec<Fault>> {
     let text = text_of(bytes).map_err(one)?;
     let cards = linked();
     let card: &dyn Card = cards[cards.len() - 1];
-    let mut image = [0; IMAGE];
-    card.empty(&mut image);
-    if let Some(given) = &options.image {
-        let given = <&Image>::try_from(&given[..]).map_err(|_| unsound::faults(given))?;
-        image = *given;
-    }
+    let mut image = options.image.unwrap_or_else(|| empty(card));
     let mut lines = String::new();
     for (ordinal, placed) in (1..).zip(&text.records) {
         let verdict = card.judge(&mut image, &encode::bytes(&placed.record));
@@ -347,6 +325,12 @@ fn judge(options: &Options, bytes: &[u8]) -> Result<Done, Vec<Fault>> {
         lines.push_str(&format!("{ordinal} {first}: {}\n", verdict_words(verdict)));
     }
     Ok(Done { output: lines.into_bytes(), saved: Some(image_out(options.raw, &image)) })
+}
+
+fn empty(card: &dyn Card) -> Image {
+    let mut image = [0; IMAGE];
+    card.empty(&mut image);
+    image
 }
 
 fn verdict_words(verdict: Verdict) -> String {

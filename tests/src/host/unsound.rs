@@ -3,11 +3,17 @@
 use super::fault::Fault;
 use crate::bytes::layout::*;
 
+/// Bytes that are as many as an image has.
+pub fn sized(bytes: &[u8]) -> Result<&Image, Fault> {
+    let words = || format!("an image has {SIZE} bytes, here are {}", bytes.len());
+    bytes.try_into().map_err(|_| Fault::byte(bytes.len().min(SIZE), words()))
+}
+
 /// Everything that keeps an image from being sound; nothing when it is sound.
 pub fn faults(bytes: &[u8]) -> Vec<Fault> {
-    let Ok(image) = <&Image>::try_from(bytes) else {
-        let words = format!("an image has {SIZE} bytes, here are {}", bytes.len());
-        return vec![Fault::byte(bytes.len().min(SIZE), words)];
+    let image = match sized(bytes) {
+        Ok(image) => image,
+        Err(fault) => return vec![fault],
     };
     let mut look = Look { image, faults: Vec::new() };
     look.header();
