@@ -1,16 +1,25 @@
 //! Times a record of each kind on a nearly full card, every engine against the byte engine.
-//!
-//!     bench [--rounds N]
-//!     bench --count KIND [--calls N] [--of ENGINE]
-//!
-//! The second form judges one record many times, for counting instructions. KIND is 1 to 10,
-//! `check` or `read_out`; ENGINE is the last one linked, or `bytes`.
+//! `bench --help` lists the options.
 
 use second::card::{linked, Card, LONGEST_RECORD};
 use second::full_card::{timed, Timed};
+use second::program::{self, number, Failure};
+use second::{say, say_line};
 use std::hint::black_box;
 use std::process::ExitCode;
 use std::time::{Duration, Instant};
+
+const HELP: &str = "\
+bench [--rounds N]
+    times every kind, the check and the reading out on a nearly full card, N rounds (1,000) of 64 records each
+bench --count KIND [--calls N] [--of ENGINE]
+    calls one entry N times (1,000), for a profile; KIND is 1 to 10, check or read_out; ENGINE is bytes, or engine
+    when it is linked (the last one linked)
+
+Exit code: 0; 2 when the command line is bad.
+";
+
+const OPTIONS: [&str; 4] = ["--rounds", "--count", "--calls", "--of"];
 
 /// Records judged between two looks at the clock, each on its own image.
 const BATCH: usize = 64;
@@ -26,40 +35,27 @@ struct Entry {
 type Call = dyn Fn(&dyn Card, &mut [u8]);
 
 fn main() -> ExitCode {
-    match run(&std::env::args().skip(1).collect::<Vec<_>>()) {
-        Ok(()) => ExitCode::SUCCESS,
-        Err(words) => {
-            eprintln!("{words}");
-            ExitCode::FAILURE
-        }
-    }
+    program::run_or_help(HELP, run)
 }
 
-fn run(arguments: &[String]) -> Result<(), String> {
+fn run(arguments: &[String]) -> Result<(), Failure> {
     let (mut rounds, mut calls, mut count, mut of) = (1000, 1000, None, None);
-    for pair in arguments.chunks(2) {
-        let [name, value] = pair else { return Err(format!("{} lacks its value", pair[0])) };
-        let number = || value.parse().map_err(|_| format!("{name} {value}: not a number"));
-        match name.as_str() {
-            "--rounds" => rounds = number()?,
-            "--calls" => calls = number()?,
+    for (name, value) in program::options(arguments, &OPTIONS)? {
+        match name {
+            "--rounds" => rounds = number(name, value)?,
+            "--calls" => calls = number(name, value)?,
             "--count" => count = Some(value),
-            "--of" => of = Some(value),
-            _ => return Err(format!("{name}: not known; there are --rounds, --count, --calls and --of")),
+            _ => of = Some(value),
         }
     }
     let cards = linked();
-    match count {
-        None => {
-            print_table(&cards, rounds.max(1));
-            Ok(())
-        }
-        Some(entry) => {
-            let named = |card: &&&dyn Card| of.is_none_or(|name| card.name() == name);
-            let card = cards.iter().rfind(named).ok_or("--of: no such engine is linked")?;
-            repeat(*card, entry, calls)
-        }
-    }
+    let Some(entry) = count else {
+        print_table(&cards, rounds.max(1));
+        return Ok(());
+    };
+    let named = |card: &&&dyn Card| of.is_none_or(|name| card.name() == name);
+    let card = cards.iter().rfind(named).ok_or_else(|| Failure::bad_use("--of: no such engine is linked"))?;
+    repeat(*card, entry, calls)
 }
 
 fn entries() -> Vec<Entry> {
@@ -93,26 +89,32 @@ fn judging(Timed { kind, name, operations, image, record }: Timed) -> Entry {
     }
 }
 
-/// A line for each entry: nanoseconds, the ratio to the byte engine, the report's operations.
-fn print_table(cards: &[&dyn Card], rounds: usize) {
-    print!("{:<18}", "kind");
-    for card in cards {
-        print!("{:>12}", format!("{} ns", card.name()));
-    }
-    cards[1..].iter().for_each(|_| print!("{:>8}", "ratio"));
-    println!("{:>12}", "Table 8");
-    for entry in entries() {
-        let times = medians(cards, &entry, rounds);
-        print!("{:<18}", entry.name);
-        times.iter().for_each(|time| print!("{time:>12.0}"));
-        times[1..].iter().for_each(|time| print!("{:>8.2}", time / times[0]));
-        println!("{:>12}", entry.operations.map_or("-".to_string(), |operations| operations.to_string()));
-    }
-    println!("Medians of {rounds} rounds of {BATCH} records. Table 8: the report's count of operations.");
+/// The nanoseconds of a call.
+struct Time {
+    median: f64,
+    least: f64,
 }
 
-/// The median time of a call in nanoseconds, for each engine. Engines take turns.
-fn medians(cards: &[&dyn Card], entry: &Entry, rounds: usize) -> Vec<f64> {
+/// A line for each entry: nanoseconds, the ratio to the byte engine, the report's operations. Beside each median
+/// stands the least, which other work on the machine changes less.
+fn print_table(cards: &[&dyn Card], rounds: usize) {
+    say!("{:<18}", "kind");
+    cards.iter().for_each(|card| say!("{:>12}{:>8}", format!("{} ns", card.name()), "least"));
+    cards[1..].iter().for_each(|_| say!("{:>8}{:>8}", "ratio", "least"));
+    say_line!("{:>10}", "Table 8");
+    for entry in entries() {
+        let times = times(cards, &entry, rounds);
+        let Time { median, least } = times[0];
+        say!("{:<18}", entry.name);
+        times.iter().for_each(|time| say!("{:>12.0}{:>8.0}", time.median, time.least));
+        times[1..].iter().for_each(|time| say!("{:>8.2}{:>8.2}", time.median / median, time.least / least));
+        say_line!("{:>10}", entry.operations.map_or("-".to_string(), |operations| operations.to_string()));
+    }
+    say_line!("Medians of {rounds} rounds of {BATCH} records, beside each the least. Table 8: the report's count of operations.");
+}
+
+/// The time of a call, for each engine. Engines take turns.
+fn times(cards: &[&dyn Card], entry: &Entry, rounds: usize) -> Vec<Time> {
     let mut images = vec![entry.image.clone(); BATCH];
     let mut times = vec![Vec::new(); cards.len()];
     for _ in 0..rounds {
@@ -121,7 +123,7 @@ fn medians(cards: &[&dyn Card], entry: &Entry, rounds: usize) -> Vec<f64> {
             times.push(time_batch(*card, entry, &mut images));
         }
     }
-    times.into_iter().map(median).collect()
+    times.into_iter().map(time).collect()
 }
 
 fn time_batch(card: &dyn Card, entry: &Entry, images: &mut [Vec<u8>]) -> Duration {
@@ -132,19 +134,21 @@ fn time_batch(card: &dyn Card, entry: &Entry, images: &mut [Vec<u8>]) -> Duratio
     start.elapsed()
 }
 
-fn median(mut times: Vec<Duration>) -> f64 {
-    times.sort();
-    times[times.len() / 2].as_nanos() as f64 / BATCH as f64
+fn time(mut batches: Vec<Duration>) -> Time {
+    batches.sort();
+    let call = |batch: Duration| batch.as_nanos() as f64 / BATCH as f64;
+    Time { median: call(batches[batches.len() / 2]), least: call(batches[0]) }
 }
 
-fn repeat(card: &dyn Card, entry: &str, calls: usize) -> Result<(), String> {
+fn repeat(card: &dyn Card, entry: &str, calls: usize) -> Result<(), Failure> {
     let named = |known: &Entry| known.name == entry || known.name.split(' ').next() == Some(entry);
-    let entry = entries().into_iter().find(named).ok_or(format!("--count {entry}: not a kind or an entry"))?;
+    let bad = || Failure::bad_use(format!("--count {entry}: not 1 to 10, check or read_out"));
+    let entry = entries().into_iter().find(named).ok_or_else(bad)?;
     let mut image = entry.image.clone();
     for _ in 0..calls {
         image.copy_from_slice(&entry.image);
         (entry.call)(card, black_box(&mut image));
     }
-    println!("{}: {calls} calls of {}", card.name(), entry.name);
+    say_line!("{}: {calls} calls of {}", card.name(), entry.name);
     Ok(())
 }

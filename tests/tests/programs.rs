@@ -1,0 +1,132 @@
+//! The programs as they are run: their output closed or full, their help, and their exit codes.
+
+use std::fs::File;
+use std::path::PathBuf;
+use std::process::{Command, Output, Stdio};
+
+const PROGRAMS: [&str; 4] = [
+    env!("CARGO_BIN_EXE_bench"),
+    env!("CARGO_BIN_EXE_cardtool"),
+    env!("CARGO_BIN_EXE_cases"),
+    env!("CARGO_BIN_EXE_differ"),
+];
+
+/// A short run of each program, and of each of its ways to write.
+const RUNS: [&str; 11] = [
+    "bench --rounds 1",
+    "bench --count 2 --calls 1",
+    "bench --help",
+    "cardtool --help",
+    "cardtool encode RECORDS",
+    "cardtool encode --raw RECORDS",
+    "cases",
+    "cases --records",
+    "cases --stdin",
+    "differ --records 10",
+    "differ --help",
+];
+
+/// A program with its arguments, which stand apart by spaces.
+fn program(run: &str) -> Command {
+    let mut words = run.split(' ');
+    let name = words.next().expect("a program");
+    let path = PROGRAMS.into_iter().find(|path| path.ends_with(&format!("/{name}"))).expect(name);
+    let mut command = Command::new(path);
+    command.args(words.map(|word| match word {
+        "RECORDS" => PathBuf::from(env!("CARGO_MANIFEST_DIR")).join("../examples/club.txt"),
+        word => PathBuf::from(word),
+    }));
+    command.stdin(Stdio::null());
+    command
+}
+
+fn with_output(run: &str, output: impl Into<Stdio>) -> Output {
+    program(run).stdout(output).output().expect(run)
+}
+
+/// The writing end of a pipe that nobody reads.
+fn closed() -> Stdio {
+    std::io::pipe().expect("a pipe").1.into()
+}
+
+fn errors(output: &Output) -> String {
+    String::from_utf8_lossy(&output.stderr).into_owned()
+}
+
+#[test]
+fn a_closed_output_ends_a_program_quietly() {
+    for run in RUNS {
+        let ended = with_output(run, closed());
+        assert_eq!((ended.status.code(), errors(&ended).as_str()), (Some(2), ""), "{run}");
+    }
+}
+
+#[test]
+fn a_reader_that_goes_after_a_line_is_no_fault() {
+    for run in RUNS {
+        let mut child = program(run).stdout(Stdio::piped()).stderr(Stdio::piped()).spawn().expect(run);
+        let mut byte = [0];
+        let mut reader = child.stdout.take().expect("a pipe");
+        std::io::Read::read_exact(&mut reader, &mut byte).expect("a byte");
+        drop(reader);
+        // Whether the program was done before the reader went is a matter of time.
+        let ended = child.wait_with_output().expect(run);
+        assert!(matches!(ended.status.code(), Some(0 | 2)), "{run}: {}", ended.status);
+        assert_eq!(errors(&ended), "", "{run}");
+    }
+}
+
+#[test]
+fn a_full_output_is_told() {
+    for run in RUNS {
+        let name = run.split(' ').next().expect("a program");
+        let ended = with_output(run, File::create("/dev/full").expect("a full device"));
+        let told = format!("{name}: standard output: No space left on device (os error 28)\n");
+        assert_eq!((ended.status.code(), errors(&ended)), (Some(2), told), "{run}");
+    }
+}
+
+#[test]
+fn closed_errors_change_no_exit_code() {
+    for run in ["bench --bogus", "cardtool bogus", "cases --bogus", "differ --bogus"] {
+        let ended = program(run).stdout(closed()).stderr(closed()).status().expect(run);
+        assert_eq!(ended.code(), Some(2), "{run}");
+    }
+}
+
+fn fails(run: &str, code: i32, words: &str) {
+    let ended = program(run).output().expect(run);
+    assert_eq!((ended.status.code(), errors(&ended).as_str()), (Some(code), words), "{run}");
+}
+
+#[test]
+fn a_bad_command_line_is_2() {
+    fails("bench --bogus", 2, "bench: '--bogus' is not known; there are --rounds, --count, --calls, --of and --help\n");
+    fails("bench --rounds", 2, "bench: --rounds lacks its value\n");
+    fails("bench --rounds x", 2, "bench: --rounds x: not a number, or too large\n");
+    fails("bench --count 11", 2, "bench: --count 11: not 1 to 10, check or read_out\n");
+    fails("bench --count 1 --of no", 2, "bench: --of: no such engine is linked\n");
+    fails("cases --bogus", 2, "cases: '--bogus' is not known; there are --records, --stdin and --help\n");
+    fails("cases --records --stdin", 2, "cases: one option can be given\n");
+    fails("differ --damage 3", 2, "differ: --damage 3: not as in 3=0F,1093=01\n");
+    fails("differ --replay no-such-file", 2, "differ: no-such-file: No such file or directory (os error 2)\n");
+    let missing = "a command is missing; there are encode, decode, show, build, dump, judge and --help";
+    fails("cardtool", 2, &format!("cardtool: {missing}\n"));
+}
+
+#[cfg(unix)]
+#[test]
+fn an_argument_that_is_no_text_is_told() {
+    use std::ffi::OsStr;
+    use std::os::unix::ffi::OsStrExt;
+    let ended = program("cardtool show").arg(OsStr::from_bytes(b"a\xFF")).output().expect("cardtool");
+    let told = "cardtool: \"a\\xFF\" is not text in UTF-8\n";
+    assert_eq!((ended.status.code(), errors(&ended).as_str()), (Some(2), told));
+}
+
+#[test]
+fn a_difference_is_1() {
+    let ended = program("differ --fault grants-lost").output().expect("differ");
+    assert_eq!((ended.status.code(), errors(&ended).as_str()), (Some(1), "differ: the comparison failed\n"));
+    assert!(String::from_utf8_lossy(&ended.stdout).contains("\nFAILED: "));
+}
