@@ -2,6 +2,7 @@
 //! are those of an image.
 
 use second::bytes::layout::*;
+use std::collections::BTreeSet;
 use std::fs;
 use std::path::{Path, PathBuf};
 use std::process::Command;
@@ -136,4 +137,47 @@ fn the_results_are_written_alike_in_both_ways() {
         .collect();
     assert_eq!(results.len(), 5);
     assert!(results.iter().all(|(decimal, hexadecimal)| decimal == hexadecimal), "{results:?}");
+}
+
+/// The names between backquotes.
+fn quoted(text: &str) -> impl Iterator<Item = &str> {
+    text.split('`').skip(1).step_by(2)
+}
+
+/// A crate and an edit of it, which the checker must refuse.
+type Edit = (String, String);
+
+fn edits_there() -> BTreeSet<Edit> {
+    let names = |place: PathBuf| {
+        let files = fs::read_dir(place).into_iter().flatten();
+        files.map(|file| file.expect("a file").file_name().into_string().expect("a name")).collect::<Vec<_>>()
+    };
+    let crates = names(root().join("crates")).into_iter();
+    let edits = crates.flat_map(|name| {
+        let edits = names(root().join("crates").join(&name).join("must-fail"));
+        edits.into_iter().filter_map(move |file| Some((name.clone(), file.strip_suffix(".edit")?.to_string())))
+    });
+    edits.collect()
+}
+
+/// A crate has its own table, which the line before it names, or a column names the crate.
+fn edits_named(text: &str) -> Vec<Edit> {
+    let (mut named, mut own) = (Vec::new(), String::new());
+    for line in text.lines() {
+        let place = quoted(line).next().and_then(|place| place.strip_prefix("crates/")?.strip_suffix("/must-fail/"));
+        own = place.map_or(own, str::to_string);
+        match table_rows(line).pop().unwrap_or_default().as_slice() {
+            [edits, _] => named.extend(quoted(edits).map(|edit| (own.clone(), edit.to_string()))),
+            [name, edit, ..] => named.extend(quoted(edit).map(|edit| (name.clone(), edit.to_string()))),
+            _ => {}
+        }
+    }
+    named
+}
+
+#[test]
+fn every_edit_that_must_fail_is_named_once() {
+    let named = edits_named(&section(&document("docs/PROOFS.md"), "## Edits that must fail"));
+    assert_eq!(named.iter().cloned().collect::<BTreeSet<_>>(), edits_there());
+    assert_eq!(named.len(), edits_there().len());
 }
