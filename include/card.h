@@ -29,7 +29,8 @@
  *
  * What the caller owes: each pointer is not null and points to as many bytes as its length says (a length of 0 is fine), and
  * bytes that a function may write (`image` without const, and `out`) overlap nothing else that is lent in the same call.
- * The functions hold no state and may be called from several threads on different bytes.
+ * The functions hold no state: several threads may call them at once, as long as none writes bytes that another is lent.
+ * Of the C library they call at most what compilers call themselves: memcpy, memmove, memset, memcmp and bcmp.
  *
  * A card with one package on it:
  *

@@ -9,6 +9,11 @@ fn main() {
     if std::env::var_os("CARGO_FEATURE_ENGINE").is_none() {
         return;
     }
+    let target = |part: &str| std::env::var(format!("CARGO_CFG_TARGET_{part}")).unwrap_or_default();
+    if (target("ARCH").as_str(), target("OS").as_str()) != ("x86_64", "linux") {
+        println!("cargo::error=the archive is for x86-64 Linux, not for {} {}", target("ARCH"), target("OS"));
+        return;
+    }
     let directory = match std::env::var_os("CARD_ARCHIVE_DIR") {
         Some(named) => PathBuf::from(named),
         None => PathBuf::from(std::env::var_os("CARGO_MANIFEST_DIR").unwrap()).join("../target/staticlib"),

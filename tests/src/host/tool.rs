@@ -83,7 +83,7 @@ const COMMANDS: [Command; 6] = [
 
 /// Each option, what follows it, and what it does.
 const OPTIONS: [(&str, &str, &str); 7] = [
-    ("--raw", "", "records and images are bytes, not hexadecimal; records stand one after another"),
+    ("--raw", "", "bytes, not hexadecimal, for records (one after another) and images; a text stays a text"),
     ("--as-is", "", "write a record too that contradicts itself, which a card answers with 3"),
     ("--record", "", "the input is records, not an image"),
     ("--names", "FILE", "a text whose 'name' lines give AIDs their names"),
