@@ -24,13 +24,13 @@ use Rattle.geometry.specs.Geometry.{aidAt, tokAt, entryAt}
 use Rattle.geometry.specs.declared.Table.the-variants.{Calls, Grants, Needs}
 use Rattle.soundness.specs.declared.Kept.{Kept}
 use Rattle.soundness.specs.declared.Kept.the-variants.{Unmet as Unmets, Waiting as Waitings}
-use Rattle.soundness.specs.Check.{byteAt, partAt, zerosAt, sameAt, aidOk, within, rowAt, usedRow, provRow, isAid, numberBelow, isTok, newTok, tokOk, toksOk, newAid, blankOk, packageOk, packagesOk}
+use Rattle.soundness.specs.Check.{byteAt, partAt, zerosAt, sameAt, aidOk, within, rowAt, usedRow, provRow, numberAt, isTok, newTok, tokOk, toksOk, newAid, blankOk, packageOk, packagesOk}
 use Rattle.soundness.specs.Check.{grantOk, pairOk, lineOk, linesOk, isUsed, unserved, unmetOk, isProvided, waitingOk, listAt, rowSize, placeAt, countOf, rowOk, newRow, placeOk, listOk}
 use Rattle.soundness.proofs.Parts.{part-length, part-same, zero-byte, zeros-part, Filled, filled-inj, ok-filled, zeros-blank}
 use Rattle.soundness.proofs.Decoded.{piece-end, used-read, aid-read, aid-off, tok-read, tok-off, unmet-read, waiting-read}
 use Rattle.soundness.proofs.Encoded.{Bytes, tok-back, unmet-back, waiting-back, list-back, length-rows}
 use Rattle.soundness.proofs.Whole.{Full, Parts}
-use Rattle.soundness.proofs.Lookup.{below, cond-then, cond-else, tok-bytes, unmet-at, waiting-at, below-is, BelowIs, used-is, prov-is, calls-is, grants-is, needs-is}
+use Rattle.soundness.proofs.Lookup.{below, cond-then, cond-else, tok-bytes, unmet-at, waiting-at, number-same, used-is, prov-is, calls-is, grants-is, needs-is}
 use Rattle.soundness.proofs.Lookup.{found-used}
 
 -- conjunctions as they stand in the tests
@@ -115,18 +115,14 @@ module _ (L : Layout) (lf : Full L) (l : List ℕ) (bytes : Bytes l) (len : leng
         go (inl h) = aid-read L l i h ∙ ap readAid (blank-is i h f)
         go (inr h) = aid-off L l i h
 
-    aid-new : (i j : ℕ) → T (t .used i) → T (t .used j) → t .aid i ≡ t .aid j → i < j → ⊥
-    aid-new i j u v e h = go (numberBelow L l j (aidAt L j)) (eqb→eq (numberBelow L l j (aidAt L j)) j (package-used j v .1)) (below-is L l j (aidAt L j))
-      where
-        same : T (isAid L l (aidAt L j) i)
-        same =
-            let p = r .used-in i u in
-            let q = r .used-in j v in
-            part-same l (aidAt L j) (aidAt L i) aidSize (filled-inj (filled j q) (filled i p) (sym (aid-read L l j q) ∙ sym e ∙ aid-read L l i p))
+    aid-first : (i : ℕ) → T (t .used i) → numberAt L l (aidAt L i) ≡ i
+    aid-first i u = eqb→eq (numberAt L l (aidAt L i)) i (package-used i u .1)
 
-        go : (k : ℕ) → k ≡ j → BelowIs L l j (aidAt L j) k → ⊥
-        go k q (inl b) = b .1 i h same
-        go k q (inr b) = absurd (let c = b .0 in omega arith)
+    aid-inj : (i j : ℕ) → T (t .used i) → T (t .used j) → t .aid i ≡ t .aid j → i ≡ j
+    aid-inj i j u v e =
+        let p = r .used-in i u in
+        let q = r .used-in j v in
+        sym (aid-first i u) ∙ number-same L l (aidAt L i) (aidAt L j) (filled-inj (filled i p) (filled j q) (sym (aid-read L l i p) ∙ e ∙ aid-read L l j q)) ∙ aid-first j v
 
     tok-ok : (j k : ℕ) → T (t .used j) → k < m → T (tokOk L l j k)
     unfolding toksOk
@@ -178,7 +174,7 @@ module _ (L : Layout) (lf : Full L) (l : List ℕ) (bytes : Bytes l) (len : leng
       aid-valid = aid-valid;
       aid-blank = aid-blank;
       tok-blank = tok-blank;
-      aid-inj = λ i j u v e. level i j (aid-new i j u v e) (aid-new j i v u (sym e));
+      aid-inj = aid-inj;
       tok-inj = λ j k q s o e. level k q (tok-new j q k o s (sym e)) (tok-new j k q s o e);
     }
 
@@ -288,7 +284,7 @@ module _ (L : Layout) (lf : Full L) (l : List ℕ) (bytes : Bytes l) (len : leng
       caller = byteAt l (at + 19)
 
       abbrev number : ℕ
-      number = numberBelow L l n at
+      number = numberAt L l at
 
       unmet-three : T (isUsed L l caller) × T (aidOk l at) × T (unserved L l (at + 17) caller number)
       unfolding unmetOk
@@ -330,9 +326,9 @@ module _ (L : Layout) (lf : Full L) (l : List ℕ) (bytes : Bytes l) (len : leng
       abbrev service : ℕ
       service = byteAt l (at + 18)
 
-      waiting-three : T (isProvided L l callee service) × T (aidOk l at) × T (eqb (numberBelow L l n at) n)
+      waiting-three : T (isProvided L l callee service) × T (aidOk l at) × T (eqb (numberAt L l at) n)
       unfolding waitingOk
-      waiting-three = three (isProvided L l callee service) (aidOk l at) (eqb (numberBelow L l n at) n) ok
+      waiting-three = three (isProvided L l callee service) (aidOk l at) (eqb (numberAt L l at) n) ok
 
       waiting-filled : Filled (partAt l at 17) × T (validAid (readAid (partAt l at 17)))
       waiting-filled = ok-filled l at (omega arith) (waiting-three .1)
@@ -345,7 +341,7 @@ module _ (L : Layout) (lf : Full L) (l : List ℕ) (bytes : Bytes l) (len : leng
       row-absent : (j : ℕ) → T (t .used j) → t .aid j ≡ readAid (partAt l at 17) → ⊥
       row-absent j u e =
           let a = found-used L lf l bytes len na (filled packages) at (waiting-filled .0) (waiting-filled .1) j u e in
-          let b = eqb→eq (numberBelow L l n at) n (waiting-three .2) in
+          let b = eqb→eq (numberAt L l at) n (waiting-three .2) in
           let c = r .used-in j u in
           absurd (omega arith)
 

@@ -3,6 +3,7 @@ pub mod Decoded
 pub mod Encoded
 pub mod Whole
 pub mod Lookup
+pub mod Words
 pub mod Checked
 pub mod Passes
 pub mod Agree

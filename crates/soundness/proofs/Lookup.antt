@@ -10,7 +10,7 @@ use mathlib.Core.Option.{Option, none, some}
 use lib.Dec.{T, ltb, lt→ltb}
 use lib.ListN.{length, getD, drop}
 use lib.Seq.{take-take, getD-drop}
-use Rattle.policy.specs.Lists.{every, first, upto, orElse}
+use Rattle.policy.specs.Lists.{every, first, upto, orElse, eqBytes}
 use Rattle.policy.specs.Contract.{Aid, validAid}
 use Rattle.policy.specs.Layout.{Layout, size, aidSize}
 use Rattle.policy.specs.Tables.{Tables, bit, readAid, readTok, readUnmet, readWaiting, decode}
@@ -18,7 +18,7 @@ use Rattle.policy.proofs.Sets.{T-true, test, every-in, in-every, upto-in, in-up
 use Rattle.policy.proofs.Formed.{Names}
 use Rattle.geometry.specs.Geometry.{aidAt, provAt, entryAt}
 use Rattle.geometry.specs.declared.Table.the-variants.{Calls, Grants, Needs}
-use Rattle.soundness.specs.Check.{byteAt, partAt, rowAt, usedRow, provRow, isAid, numberBelow}
+use Rattle.soundness.specs.Check.{byteAt, partAt, rowAt, usedRow, provRow, sameAt, isAid, numberAt}
 use Rattle.soundness.proofs.Parts.{part-byte, part-length, same-part, part-same, Filled, filled-inj}
 use Rattle.soundness.proofs.Decoded.{piece-end, used-read, aid-read, prov-read, calls-read, grants-read, needs-read}
 use Rattle.soundness.proofs.Encoded.{Bytes, part-bytes, row-lt}
@@ -76,17 +76,25 @@ module _ (l : List ℕ) (at : ℕ) where
   }
 
 -- ---- the lowest package with an AID
-module _ (L : Layout) (l : List ℕ) (n at : ℕ) where
-  abbrev pub BelowIs : ℕ → Type 0
-  BelowIs m = ((m ≡ n) × ((k : ℕ) → k < n → T (isAid L l at k) → ⊥)) ⊎ ((m < n) × T (isAid L l at m))
+module _ (L : Layout) (l : List ℕ) (at : ℕ) where
+  abbrev packages : ℕ
+  packages = L .packages
 
-  pub below-is : BelowIs (numberBelow L l n at)
-  unfolding numberBelow
-  below-is = go (first (isAid L l at) (upto n)) (found (isAid L l at) (upto n))
+  abbrev pub NumberIs : ℕ → Type 0
+  NumberIs m = ((m ≡ packages) × ((k : ℕ) → k < packages → T (isAid L l at k) → ⊥)) ⊎ ((m < packages) × T (isAid L l at m))
+
+  pub number-is : NumberIs (numberAt L l at)
+  unfolding numberAt
+  number-is = go (first (isAid L l at) (upto packages)) (found (isAid L l at) (upto packages))
     where
-      go : (o : Option ℕ) → Found (isAid L l at) (upto n) o → BelowIs (orElse o n (λ m. m))
-      go none h = inl (refl, λ k p t. h k (in-upto n k p) t)
-      go (some m) h = inr (upto-in n (h .0), h .1)
+      go : (o : Option ℕ) → Found (isAid L l at) (upto packages) o → NumberIs (orElse o packages (λ m. m))
+      go none h = inl (refl, λ k p t. h k (in-upto packages k p) t)
+      go (some m) h = inr (upto-in packages (h .0), h .1)
+
+  -- it is the same for the same bytes
+  pub number-same : (b : ℕ) → partAt l at aidSize ≡ partAt l b aidSize → numberAt L l at ≡ numberAt L l b
+  unfolding numberAt sameAt
+  number-same b e = ap (λ (p : List ℕ). orElse (first (λ m. eqBytes p (partAt l (aidAt L m) aidSize)) (upto packages)) packages (λ m. m)) e
 
 -- ---- bits and tokens
 module _ (L : Layout) (lf : Full L) (l : List ℕ) (bytes : Bytes l) (len : length l ≡ size L) where
@@ -143,9 +151,9 @@ module _ (L : Layout) (lf : Full L) (l : List ℕ) (bytes : Bytes l) (len : leng
                 absurd (subst (λ (z : Aid). T (validAid z)) none valid)
 
         -- a used package with this AID is the one found; and none is found where none has it
-        pub found-used : (i : ℕ) → T (t .used i) → t .aid i ≡ readAid (partAt l at aidSize) → numberBelow L l n at ≡ i
-        found-used i u e = go (numberBelow L l n at) (below-is L l n at)
+        pub found-used : (i : ℕ) → T (t .used i) → t .aid i ≡ readAid (partAt l at aidSize) → numberAt L l at ≡ i
+        found-used i u e = go (numberAt L l at) (number-is L l at)
           where
-            go : (k : ℕ) → BelowIs L l n at k → k ≡ i
+            go : (k : ℕ) → NumberIs L l at k → k ≡ i
             go k (inl h) = absurd (h .1 i (names .used-lt i u) (same-aid i (names .used-lt i u) e))
             go k (inr h) = names .aid-inj k i (same-used k (h .0) (h .1)) u (aid-same k (h .0) (h .1) ∙ sym e)

@@ -23,14 +23,14 @@ use Rattle.geometry.specs.Geometry.{aidAt, tokAt, entryAt}
 use Rattle.geometry.specs.declared.Table.the-variants.{Calls, Grants, Needs}
 use Rattle.soundness.specs.declared.Kept.{Kept}
 use Rattle.soundness.specs.declared.Kept.the-variants.{Unmet as Unmets, Waiting as Waitings}
-use Rattle.soundness.specs.Check.{byteAt, partAt, zerosAt, sameAt, aidOk, within, rowAt, usedRow, provRow, numberBelow, isTok, newTok, tokOk, toksOk, newAid, blankOk, packageOk, packagesOk}
+use Rattle.soundness.specs.Check.{byteAt, partAt, zerosAt, sameAt, aidOk, within, rowAt, usedRow, provRow, numberAt, isTok, newTok, tokOk, toksOk, newAid, blankOk, packageOk, packagesOk}
 use Rattle.soundness.specs.Check.{grantOk, pairOk, lineOk, linesOk, isUsed, unserved, unmetOk, isProvided, waitingOk, rowSize, placeAt, countOf, rowOk, newRow, placeOk, listOk}
 use Rattle.soundness.proofs.Parts.{same-part, byte-zeros, part-zeros, Filled, filled-ok, blank-zeros}
 use Rattle.soundness.proofs.Decoded.{piece-end, used-read, aid-read, tok-read, unmet-read, waiting-read}
 use Rattle.soundness.proofs.Encoded.{Bytes, list-parts, length-rows}
 use Rattle.soundness.proofs.Whole.{Full, Parts}
-use Rattle.soundness.proofs.Lookup.{below-all, cond-by, tok-bytes, unmet-at, waiting-at, below-is, BelowIs, used-is, prov-is, calls-is, grants-is, needs-is, row-small, prov-small}
-use Rattle.soundness.proofs.Lookup.{aid-same, same-used}
+use Rattle.soundness.proofs.Lookup.{below-all, cond-by, tok-bytes, unmet-at, waiting-at, number-is, NumberIs, used-is, prov-is, calls-is, grants-is, needs-is, row-small, prov-small}
+use Rattle.soundness.proofs.Lookup.{aid-same, same-used, found-used}
 
 three-i : (a b c : Bool) → T a → T b → T c → T (a && b && c)
 three-i a b c x y z = and-i (a && b) c (and-i a b x y) z
@@ -65,16 +65,9 @@ module _ (L : Layout) (lf : Full L) (l : List ℕ) (bytes : Bytes l) (len : leng
 
   -- ---- packages
   new-aid : (i : ℕ) → i < n → T (t .used i) → T (newAid L l i)
-  new-aid i h u = go (numberBelow L l i (aidAt L i)) (below-is L l i (aidAt L i))
-    where
-      go : (k : ℕ) → BelowIs L l i (aidAt L i) k → T (eqb k i)
-      go k (inl b) = eqb-of (b .0)
-      go k (inr b) =
-          let p : k < n = let c = b .0 in omega arith in
-          let v : T (validAid (readAid (place i))) = subst (λ (z : Aid). T (validAid z)) (aid-read L l i h) (fo .names .aid-valid i u) in
-          let w = same-used L lf l bytes len (fo .names) filled (aidAt L i) (filled i h) v k p (b .1) in
-          let e : k ≡ i = fo .names .aid-inj k i w u (aid-same L lf l bytes len (fo .names) filled (aidAt L i) (filled i h) k p (b .1) ∙ sym (aid-read L l i h)) in
-          let c = b .0 in absurd (omega arith)
+  new-aid i h u =
+      let v : T (validAid (readAid (place i))) = subst (λ (z : Aid). T (validAid z)) (aid-read L l i h) (fo .names .aid-valid i u) in
+      eqb-of (found-used L lf l bytes len (fo .names) filled (aidAt L i) (filled i h) v i u (aid-read L l i h))
 
   -- a service with the tokens at at, where its package provides it
   tok-same : (at j k : ℕ) → j < n → k < m → T (isTok L l at j k) → T (t .provides j k) × (t .tok j k ≡ readTok (partAt l at 2))
@@ -271,11 +264,11 @@ module _ (L : Layout) (lf : Full L) (l : List ℕ) (bytes : Bytes l) (len : leng
     u-filled : Filled (partAt l at 17)
     u-filled = row-filled at 20 (omega arith) _ (unmet-valid q p) (unmet-parts .0 q p)
 
-    u-served : T (unserved L l (at + 17) (u .caller) (numberBelow L l n at))
+    u-served : T (unserved L l (at + 17) (u .caller) (numberAt L l at))
     unfolding newTok
-    u-served = go (numberBelow L l n at) (below-is L l n at)
+    u-served = go (numberAt L l at) (number-is L l at)
       where
-        go : (c : ℕ) → BelowIs L l n at c → T (unserved L l (at + 17) (u .caller) c)
+        go : (c : ℕ) → NumberIs L l at c → T (unserved L l (at + 17) (u .caller) c)
         go c (inl b) = or-l (eqb c n) (not (eqb c (u .caller)) && newTok L l m (at + 17) c) (eqb-of (b .0))
         go c (inr b) =
             let e : t .aid c ≡ u .callee = aid-same L lf l bytes len (fo .names) filled at u-filled c (b .0) (b .1) in
@@ -286,7 +279,7 @@ module _ (L : Layout) (lf : Full L) (l : List ℕ) (bytes : Bytes l) (len : leng
 
     unmet-ok : T (unmetOk L l at)
     unfolding unmetOk
-    unmet-ok = three-i (isUsed L l (u .caller)) (aidOk l at) (unserved L l (at + 17) (u .caller) (numberBelow L l n at))
+    unmet-ok = three-i (isUsed L l (u .caller)) (aidOk l at) (unserved L l (at + 17) (u .caller) (numberAt L l at))
         (subst T (used-read L l (u .caller)) (fo .unmet .off .off-used u in-u)) (aid-ok at (let h = inside in omega arith) u-filled u-valid) u-served
 
   unmets-ok : T (listOk L l Unmets)
@@ -346,17 +339,17 @@ module _ (L : Layout) (lf : Full L) (l : List ℕ) (bytes : Bytes l) (len : leng
         three-i (ltb (v .callee) n) (ltb (v .service) m) (bit (provRow L l (v .callee)) (v .service))
         (lt→ltb (v .callee) n h) (lt→ltb (v .service) m c) (subst T (prov-is L lf l bytes len (v .callee) (v .service) h c) s)
 
-    v-absent : T (eqb (numberBelow L l n place-v) n)
-    v-absent = go (numberBelow L l n place-v) (below-is L l n place-v)
+    v-absent : T (eqb (numberAt L l place-v) n)
+    v-absent = go (numberAt L l place-v) (number-is L l place-v)
       where
-        go : (c : ℕ) → BelowIs L l n place-v c → T (eqb c n)
+        go : (c : ℕ) → NumberIs L l place-v c → T (eqb c n)
         go c (inl b) = eqb-of (b .0)
         go c (inr b) = absurd (fo .waiting .wait-off v in-v c (same-used L lf l bytes len (fo .names) filled place-v v-filled v-valid c (b .0) (b .1))
             (aid-same L lf l bytes len (fo .names) filled place-v v-filled c (b .0) (b .1)))
 
     waiting-ok : T (waitingOk L l place-v)
     unfolding waitingOk
-    waiting-ok = three-i (isProvided L l (v .callee) (v .service)) (aidOk l place-v) (eqb (numberBelow L l n place-v) n)
+    waiting-ok = three-i (isProvided L l (v .callee) (v .service)) (aidOk l place-v) (eqb (numberAt L l place-v) n)
         v-provided (aid-ok place-v (let h = v-inside in omega arith) v-filled v-valid) v-absent
 
   waitings-ok : T (listOk L l Waitings)

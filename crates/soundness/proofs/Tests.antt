@@ -1,29 +1,27 @@
 -- What the code's loops and branches have shown, as tests: `search tests` at each need.
 use Prim.Native.Nat.{ℕ, _+_, _*_, _-_, _≤_, _<_}
 use native.Mathlib.Omega.{arith}
-use native.Mathlib.Nat.{add-zero, add-sub-cancel-left, add-sub-of-le, add-mul, mul-le-mul-left}
+use native.Mathlib.Nat.{add-sub-cancel-left, add-sub-of-le, add-mul, mul-le-mul-left}
 use native.Mathlib.Numerals.{add-one}
 use mathlib.Core.Path.{_≡_, refl, sym, ap, ap₂, _∙_}
 use mathlib.Core.Logic.{inl, inr}
 use mathlib.Core.Bool.{Bool, true, false, not, _&&_, _||_, cond}
 use mathlib.Core.List.{List, [], _∷_, _++_}
-use lib.Dec.{T, eqb, leb, ltb, leb→le}
-use lib.ListN.{length, getD, take, drop, length-drop}
-use lib.Seq.{take-suc, take-all, take-add, take-take, drop-drop, drop-at, getD-drop}
-use borrow.Author.Tests.{not-true, not-false, lt-ltb, le-ltb, le-leb, lt-leb, eq-eqb, ne-eqb}
+use lib.Dec.{eqb, leb, ltb}
+use lib.ListN.{length, getD, take, drop}
+use lib.Seq.{take-suc, take-all}
+use borrow.Author.Tests.{lt-ltb, le-ltb, le-leb, lt-leb, eq-eqb, ne-eqb}
 use Rattle.policy.specs.Lists.{every, eqBytes}
 use Rattle.policy.specs.Layout.{size}
-use Rattle.policy.proofs.Sets.{T-eq, T-false, true-T, false-T, and-l, and-r}
 use Rattle.geometry.specs.declared.Card.{Card}
 use Rattle.geometry.specs.declared.Card.the-variants.{Small}
 use Rattle.geometry.specs.Geometry.{layoutOf, tokAt}
 use Rattle.geometry.proofs.Bounds.{geo, layout-ok, limits, head-len, unmet-in, waiting-in}
 use Rattle.soundness.specs.declared.Kept.{Kept}
 use Rattle.soundness.specs.declared.Kept.the-variants.{Unmet, Waiting}
-use Rattle.soundness.specs.Check.{byteAt, partAt, isZero, zerosAt, sameAt, aidOk, listAt, rowSize, placeAt, numberBelow}
-use Rattle.soundness.proofs.Parts.{part-byte, part-length, same-part, part-same}
+use Rattle.soundness.specs.Check.{isZero, zerosAt, listAt, rowSize, placeAt, numberAt}
 use Rattle.soundness.proofs.Decoded.{piece-end}
-use Rattle.soundness.proofs.Lookup.{below-is, BelowIs}
+use Rattle.soundness.proofs.Lookup.{number-is, NumberIs}
 
 -- ---- what a branch tells of r, which a call ensures to be b
 pub fell : {r b : Bool} → r ≡ b → not r ≡ true → false ≡ b
@@ -125,50 +123,6 @@ pub zeros-of : (l : List ℕ) (at n : ℕ) {r : Bool} → r ≡ every isZero (ta
 unfolding zerosAt
 zeros-of l at n e = rw (add-sub-cancel-left at n) at e
 
--- ---- two parts, the second lent
-pub same-of : (l : List ℕ) (a b n : ℕ) {r : Bool} → b + n ≤ length l → r ≡ eqBytes (take (length (take (b + n - b) (drop b l))) (drop a l)) (take (b + n - b) (drop b l)) → r ≡ sameAt l a b n
-unfolding sameAt
-same-of l a b n h e =
-    let q : length (take n (drop b l)) ≡ n = part-length l b n h in
-    (rw (add-sub-cancel-left b n) at e) ∙ ap (λ (z : ℕ). eqBytes (take z (drop a l)) (partAt l b n)) q
-
--- parts that differ in a byte
-pub same-fell : (l : List ℕ) (a b n k : ℕ) → k < n → (byteAt l (a + k) ≡ byteAt l (b + k) → ⊥) → false ≡ sameAt l a b n
-same-fell l a b n k p f = sym (T-false (sameAt l a b n) (λ t. f (sym (part-byte l a n k p) ∙ ap (λ (z : List ℕ). getD z k 0) (same-part l a b n t) ∙ part-byte l b n k p)))
-
--- in their first
-pub first-fell : (l : List ℕ) (a b n : ℕ) → 0 < n → (byteAt l a ≡ byteAt l b → ⊥) → false ≡ sameAt l a b n
-first-fell l a b n p f = same-fell l a b n 0 p (λ e. f (rw (add-zero a, add-zero b) at e))
-
--- ---- two parts, compared from byte k on first
-module _ (l : List ℕ) (a b k m : ℕ) where
-  whole : (c : ℕ) → partAt l c (k + m) ≡ partAt l c k ++ partAt l (c + k) m
-  whole c = take-add k m (drop c l) ∙ ap (λ (z : List ℕ). partAt l c k ++ take m z) (drop-drop k c l)
-
-  tail : (c : ℕ) → c + k ≤ length l → drop k (partAt l c (k + m)) ≡ partAt l (c + k) m
-  tail c h = ap (drop k) (whole c) ∙ drop-at (partAt l c k) (partAt l (c + k) m) k (part-length l c k h)
-
-  pub tail-fell : {r : Bool} → a + k ≤ length l → b + k ≤ length l → r ≡ sameAt l (a + k) (b + k) m → not r ≡ true → true ≡ not (sameAt l a b (k + m))
-  tail-fell {r} h i e f =
-      sym (ap not (T-false (sameAt l a b (k + m)) (λ t. false-T (sym e ∙ not-true r f)
-      (part-same l (a + k) (b + k) m (sym (tail a h) ∙ ap (drop k) (same-part l a b (k + m) t) ∙ tail b i)))))
-
-  pub tail-same : {r q : Bool} → r ≡ sameAt l (a + k) (b + k) m → not r ≡ false → q ≡ sameAt l a b k → not q ≡ not (sameAt l a b (k + m))
-  tail-same {r} e f g =
-      let rest = same-part l (a + k) (b + k) m (true-T (sym e ∙ not-false r f)) in
-      let front : (c : ℕ) → partAt l c k ≡ take k (partAt l c (k + m)) = λ c. sym (take-take k (k + m) (drop c l) (omega arith)) in
-      ap not (g ∙ T-eq (sameAt l a b k) (sameAt l a b (k + m))
-      (λ t. part-same l a b (k + m) (whole a ∙ ap₂ _++_ (same-part l a b k t) rest ∙ sym (whole b)))
-      (λ t. part-same l a b k (front a ∙ ap (take k) (same-part l a b (k + m) t) ∙ sym (front b))))
-
--- an AID that passed has a length of 16 at most
-pub aid-within : (l : List ℕ) (at : ℕ) {r : Bool} → r ≡ aidOk l at → not r ≡ false → byteAt l at ≤ 16
-unfolding aidOk
-aid-within l at {r} e f =
-    let n = byteAt l at in
-    let z = zerosAt l (at + (1 + n)) (16 - n) in
-    leb→le n 16 (and-r (leb 5 n) (leb n 16) (and-l (leb 5 n && leb n 16) z (true-T (sym e ∙ not-false r f))))
-
 -- ---- the tokens of a package
 pub one-service : (c : Card) → 0 < layoutOf c .services
 one-service Small = omega arith
@@ -193,8 +147,11 @@ pub row-in : (c : Card) (k : Kept) (r : ℕ) → r < layoutOf c .capacity → pl
 row-in c Unmet r h = unmet-in c r h
 row-in c Waiting r h = waiting-in c r h
 
-pub row-some : (k : Kept) (w : ℕ) → w ≡ rowSize k → 0 < w
-row-some k w e = let h = row-low k in omega arith
+pub row-least : (k : Kept) (w : ℕ) → w ≡ rowSize k → 16 ≤ w
+row-least k w e = let h = row-low k in omega arith
+
+pub row-most : (k : Kept) (w : ℕ) → w ≡ rowSize k → w ≤ 24
+row-most k w e = let h = row-low k in omega arith
 
 pub list-len : (c : Card) (k : Kept) (n a : ℕ) → n ≡ size (layoutOf c) → a ≡ listAt (layoutOf c) k → a < n
 list-len c k n a e p = let h = list-in c k in omega arith
@@ -208,19 +165,6 @@ unmet-row c r n a e p h = let i = row-in c Unmet r h in omega arith
 pub waiting-row : (c : Card) (r n a : ℕ) → n ≡ size (layoutOf c) → a ≡ placeAt (layoutOf c) Waiting r → r < layoutOf c .capacity → a + 19 ≤ n
 waiting-row c r n a e p h = let i = row-in c Waiting r h in omega arith
 
--- two rows, by what follows their AIDs and then by these
-module _ (c : Card) (k : Kept) (r q : ℕ) (l : List ℕ) (len : length l ≡ size (layoutOf c)) (hr : r < layoutOf c .capacity) (hq : q < layoutOf c .capacity)
-    {a b s : ℕ} (pa : a ≡ placeAt (layoutOf c) k r) (pb : b ≡ placeAt (layoutOf c) k q) (ps : s ≡ rowSize k) {x : Bool} (e : x ≡ sameAt l (a + 17) (b + 17) (s - 17)) where
-  rows : not (sameAt l a b (17 + (s - 17))) ≡ not (sameAt l (placeAt (layoutOf c) k r) (placeAt (layoutOf c) k q) (rowSize k))
-  rows = let w : 17 + (s - 17) ≡ rowSize k = omega (arith, row-low k) in λ i. not (sameAt l (pa i) (pb i) (w i))
-
-  pub rows-differ : not x ≡ true → true ≡ not (sameAt l (placeAt (layoutOf c) k r) (placeAt (layoutOf c) k q) (rowSize k))
-  rows-differ f =
-      tail-fell l a b 17 (s - 17) (omega (arith, row-in c k r hr, row-low k)) (omega (arith, row-in c k q hq, row-low k)) e f ∙ rows
-
-  pub rows-by-aid : {y : Bool} → not x ≡ false → y ≡ sameAt l a b 17 → not y ≡ not (sameAt l (placeAt (layoutOf c) k r) (placeAt (layoutOf c) k q) (rowSize k))
-  rows-by-aid f g = tail-same l a b 17 (s - 17) e f g ∙ rows
-
 -- a place of a list is no large number
 pub place-low : (c : Card) (k : Kept) (r s : ℕ) → s ≡ rowSize k → r ≤ layoutOf c .capacity → r * s ≤ 640
 place-low c k r s e h = let i : r * s ≤ r * 20 = mul-le-mul-left r (let w = row-low k in omega arith) in let m = limits c in omega arith
@@ -233,11 +177,11 @@ rest-len c k r n a p s e b q w h =
     ap (λ (x : ℕ). x * rowSize k) (sym (add-sub-of-le h)) ∙ add-mul r (layoutOf c .capacity - r) (rowSize k) in
     rw (q, w) (omega arith)
 
--- ---- what was found is one of those below, or their number
-pub number-in : (c : Card) (l : List ℕ) (n at : ℕ) {m : ℕ} → m ≡ numberBelow (layoutOf c) l n at → n ≡ layoutOf c .packages → m ≤ layoutOf c .packages
-number-in c l n at {m} e q = go (below-is (layoutOf c) l n at)
+-- ---- what was found is a package, or the number of packages
+pub number-in : (c : Card) (l : List ℕ) (at : ℕ) {m : ℕ} → m ≡ numberAt (layoutOf c) l at → m ≤ layoutOf c .packages
+number-in c l at {m} e = go (number-is (layoutOf c) l at)
   where
-    go : BelowIs (layoutOf c) l n at (numberBelow (layoutOf c) l n at) → m ≤ layoutOf c .packages
+    go : NumberIs (layoutOf c) l at (numberAt (layoutOf c) l at) → m ≤ layoutOf c .packages
     go (inl b) = let h = b .0 in omega arith
     go (inr b) = let h = b .0 in omega arith
 
@@ -262,6 +206,6 @@ pub head-of : (c : Card) (l h : List ℕ) → length l ≡ size (layoutOf c) →
     → eqb (getD l 0 0) (getD h 0 0) && eqb (getD l 1 0) (getD h 1 0) && eqb (getD l 2 0) (getD h 2 0) ≡ eqBytes (take 3 l) (layoutOf c .header)
 head-of c l h e p = head-is l h (head-len c 2 (length l) e (omega arith)) (ap length p ∙ layout-ok c .header-size) ∙ ap (eqBytes (take 3 l)) p
 
-pub ruleset places = (tokens-len, list-len, row-len, rest-len, row-some, unmet-row, waiting-row, aid-within, geo)
+pub ruleset places = (tokens-len, list-len, row-len, rest-len, row-least, row-most, unmet-row, waiting-row, geo)
 
 pub ruleset tests = (and-fell, and-rest, and-held, or-held, or-rest, cond-held, cond-fell, not-held, not-fell, not-is, leb-held, leb-fell, ltb-held, ltb-fell, eqb-held, eqb-fell, eqb-is, fell, held, took, left)

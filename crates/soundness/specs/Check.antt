@@ -1,7 +1,7 @@
 -- The check of an image of the right length, as code makes it: tests of its bytes, for the items of document 01, 'An image is sound when'.
 use Prim.Native.Nat.{ℕ, _+_, _*_, _-_}
 use mathlib.Core.Bool.{Bool, not, _&&_, _||_, cond}
-use mathlib.Core.List.{List}
+use mathlib.Core.List.{List, [], _∷_}
 use lib.Dec.{eqb, leb, ltb}
 use lib.ListN.{getD, take, drop}
 use Rattle.policy.specs.Lists.{implies, every, first, upto, orElse, eqBytes}
@@ -28,6 +28,11 @@ zerosAt l at n = every isZero (partAt l at n)
 
 unfoldable pub sameAt : List ℕ → ℕ → ℕ → ℕ → Bool
 sameAt l a b n = eqBytes (partAt l a n) (partAt l b n)
+
+-- bytes as a number, the first the least
+abbrev pub little : List ℕ → ℕ
+little [] = 0
+little (b ∷ bs) = b + 256 * little bs
 
 -- a valid AID, and zeros to the end of its place
 unfoldable pub aidOk : List ℕ → ℕ → Bool
@@ -64,9 +69,9 @@ module _ (L : Layout) (l : List ℕ) where
   abbrev pub isAid : ℕ → ℕ → Bool
   isAid at n = sameAt l at (aidAt L n) aidSize
 
-  -- the lowest of the first n packages that has the AID at at; n where none has
-  unfoldable pub numberBelow : ℕ → ℕ → ℕ
-  numberBelow n at = orElse (first (isAid at) (upto n)) n (λ m. m)
+  -- the lowest package that has the AID at at; the number of packages where none has
+  unfoldable pub numberAt : ℕ → ℕ
+  numberAt at = orElse (first (isAid at) (upto (L .packages))) (L .packages) (λ m. m)
 
   abbrev pub isTok : ℕ → ℕ → ℕ → Bool
   isTok at j k = bit (provRow j) k && sameAt l at (tokAt L j k) 2
@@ -85,8 +90,9 @@ module _ (L : Layout) (l : List ℕ) where
   unfoldable pub toksOk : ℕ → Bool
   toksOk j = every (tokOk j) (upto (L .services))
 
+  -- the first package with its AID is n
   abbrev pub newAid : ℕ → Bool
-  newAid n = eqb (numberBelow n (aidAt L n)) n
+  newAid n = eqb (numberAt (aidAt L n)) n
 
   unfoldable pub blankOk : ℕ → Bool
   blankOk n = zerosAt l (aidAt L n) aidSize && eqb (provRow n) 0 && zerosAt l (tokAt L n 0) (L .services * 2)
@@ -123,14 +129,14 @@ module _ (L : Layout) (l : List ℕ) where
   unserved at caller n = eqb n (L .packages) || (not (eqb n caller) && newTok (L .services) at n)
 
   unfoldable pub unmetOk : ℕ → Bool
-  unmetOk at = isUsed (byteAt l (at + 19)) && aidOk l at && unserved (at + 17) (byteAt l (at + 19)) (numberBelow (L .packages) at)
+  unmetOk at = isUsed (byteAt l (at + 19)) && aidOk l at && unserved (at + 17) (byteAt l (at + 19)) (numberAt at)
 
   -- ---- 'every waiting grant has a valid AID that is not installed, a used callee and a provided service'
   abbrev pub isProvided : ℕ → ℕ → Bool
   isProvided j k = ltb j (L .packages) && ltb k (L .services) && bit (provRow j) k
 
   unfoldable pub waitingOk : ℕ → Bool
-  waitingOk at = isProvided (byteAt l (at + 17)) (byteAt l (at + 18)) && aidOk l at && eqb (numberBelow (L .packages) at) (L .packages)
+  waitingOk at = isProvided (byteAt l (at + 17)) (byteAt l (at + 18)) && aidOk l at && eqb (numberAt at) (L .packages)
 
   -- ---- 'list counts are at most 16; no list row repeats'; and the places past the count are zero
   abbrev pub countOf : Kept → ℕ

@@ -1,9 +1,9 @@
 // Bytes of an image: zeros, the same bytes, and the place of an AID.
 ghost use mathlib.Core.Path.{_≡_};
 ghost use Prim.Native.Nat.{_+_, _≤_, _<_};
-ghost use lib.ListN.{length, getD};
+ghost use lib.ListN.{length};
 ghost use Rattle.policy.specs.Lists.{every};
-ghost use Rattle.soundness.specs.Check.{isZero, zerosAt, sameAt, aidOk};
+ghost use Rattle.soundness.specs.Check.{partAt, isZero, zerosAt, sameAt, little, aidOk};
 
 // Every byte is zero.
 fn zeros(part: &[u8]) -> bool
@@ -25,28 +25,47 @@ pub fn zeros_at(img: &[u8], at: usize, n: usize) -> bool
     zeros(&img[at..end])
 }
 
-// The n bytes from a on are those from b on.
-pub fn same_at(img: &[u8], a: usize, b: usize, n: usize) -> bool
-    requires { ⌜ (a + n ≤ length (now img)) × (b + n ≤ length (now img)) ⌝ }
-    ensures { λ r. ⌜ r ≡ sameAt (now (img .entry)) a b n ⌝ }
+// The 8 bytes from at on, as a number, the first the least.
+fn word(img: &[u8], at: usize) -> u64
+    requires { ⌜ at + 8 ≤ length (now img) ⌝ }
+    ensures { λ r. ⌜ r ≡ little (partAt (now (img .entry)) at 8) ⌝ }
 {
-    let end = b + n;
-    rows::same_at(img, a, &img[b..end])
+    let mut w: u64 = 0;
+    let mut k: usize = 8;
+    while 0 < k {
+        k -= 1;
+        w = w * 256 + img[at + k] as u64;
+    }
+    w
 }
 
-// The AIDs in the places at a and b are the same. Most differ in their length or in their last byte.
+// The 2 bytes from at on, as a number.
+pub fn pair(img: &[u8], at: usize) -> u16
+    requires { ⌜ at + 2 ≤ length (now img) ⌝ }
+    ensures { λ r. ⌜ r ≡ little (partAt (now (img .entry)) at 2) ⌝ }
+{
+    img[at] as u16 + 256 * img[at + 1] as u16
+}
+
+// The n bytes from a on are those from b on: the last 8, the first 8, and the 8 after these, which may overlap the last.
+pub fn same_row(img: &[u8], a: usize, b: usize, n: usize) -> bool
+    requires { ⌜ (16 ≤ n) × (n ≤ 24) × (a + n ≤ length (now img)) × (b + n ≤ length (now img)) ⌝ }
+    ensures { λ r. ⌜ r ≡ sameAt (now (img .entry)) a b n ⌝ }
+{
+    let end = n - 8;
+    (word(img, a + end) == word(img, b + end))
+        & (word(img, a) == word(img, b))
+        & (word(img, a + 8) == word(img, b + 8))
+}
+
+// The AIDs in the places at a and b are the same: two words and a byte.
 pub fn same_aid(img: &[u8], a: usize, b: usize) -> bool
-    requires { ⌜ (a + 17 ≤ length (now img)) × (b + 17 ≤ length (now img)) × (getD (now img) a 0 ≤ 16) ⌝ }
+    requires { ⌜ (a + 17 ≤ length (now img)) × (b + 17 ≤ length (now img)) ⌝ }
     ensures { λ r. ⌜ r ≡ sameAt (now (img .entry)) a b 17 ⌝ }
 {
-    if img[a] != img[b] {
-        return false;
-    }
-    let last = img[a] as usize;
-    if img[a + last] != img[b + last] {
-        return false;
-    }
-    same_at(img, a, b, 17)
+    (word(img, a) == word(img, b))
+        & (word(img, a + 8) == word(img, b + 8))
+        & (img[a + 16] == img[b + 16])
 }
 
 // A valid AID stands at at, with zeros to the end of its place.

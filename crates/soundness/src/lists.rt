@@ -5,7 +5,7 @@ ghost use lib.ListN.{length, getD};
 ghost use Rattle.policy.specs.Lists.{every, upto};
 ghost use Rattle.policy.specs.Layout.{size as sizeOf};
 ghost use Rattle.geometry.specs.Geometry.{layoutOf};
-ghost use Rattle.soundness.specs.Check.{isUsed, unserved as unservedBy, unmetOk, isProvided, waitingOk, listAt, rowSize, placeAt, countOf, rowOk, newRow, otherRow, placeOk, listOk};
+ghost use Rattle.soundness.specs.Check.{isUsed, unserved as unservedBy, unmetOk, isProvided, waitingOk, listAt, rowSize, placeAt, countOf, rowOk, newRow, placeOk, listOk};
 use crate::Kept;
 use crate::bytes;
 use crate::packages;
@@ -56,7 +56,7 @@ fn unmet_ok(img: &[u8], c: Card, at: usize) -> bool
     if !bytes::aid_ok(img, at) {
         return false;
     }
-    let n = packages::number_below(img, c, geometry::packages(c), at);
+    let n = packages::number_of(img, c, at);
     unserved(img, c, at + 17, caller, n)
 }
 
@@ -88,7 +88,7 @@ fn waiting_ok(img: &[u8], c: Card, at: usize) -> bool
         return false;
     }
     let n = geometry::packages(c);
-    packages::number_below(img, c, n, at) == n
+    packages::number_of(img, c, at) == n
 }
 
 fn list_at(c: Card, k: Kept) -> usize
@@ -129,27 +129,13 @@ fn row_ok(img: &[u8], c: Card, k: Kept, r: usize) -> bool
     }
 }
 
-// Rows r and q differ: most do after their AIDs already.
-fn other_row(img: &[u8], c: Card, k: Kept, r: usize, q: usize) -> bool
-    requires { ⌜ (length (now img) ≡ sizeOf (layoutOf c)) × (r < layoutOf c .capacity) × (q < layoutOf c .capacity) ⌝ }
-    ensures { λ x. ⌜ x ≡ otherRow (layoutOf c) (now (img .entry)) k r q ⌝ }
-{
-    let a = place_at(c, k, r);
-    let b = place_at(c, k, q);
-    let tail = row_size(k) - 17;
-    if !bytes::same_at(img, a + 17, b + 17, tail) {
-        return true;
-    }
-    !bytes::same_at(img, a, b, 17)
-}
-
 // No row before r is the same as row r.
 fn new_row(img: &[u8], c: Card, k: Kept, r: usize) -> bool
     requires { ⌜ (length (now img) ≡ sizeOf (layoutOf c)) × (r < layoutOf c .capacity) ⌝ }
     ensures { λ x. ⌜ x ≡ newRow (layoutOf c) (now (img .entry)) k r ⌝ }
 {
     for q in 0..r {
-        if !other_row(img, c, k, r, q) {
+        if bytes::same_row(img, place_at(c, k, r), place_at(c, k, q), row_size(k)) {
             return false;
         }
     }

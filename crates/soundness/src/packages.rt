@@ -1,11 +1,11 @@
 // Packages: AIDs that are valid and differ, tokens that differ, and zeros where no package or service stands.
 ghost use mathlib.Core.Path.{_≡_};
 ghost use Prim.Native.Nat.{_+_, _≤_, _<_};
-ghost use lib.ListN.{length, getD};
+ghost use lib.ListN.{length};
 ghost use Rattle.policy.specs.Layout.{size as sizeOf};
 ghost use Rattle.policy.specs.Tables.{bit};
 ghost use Rattle.geometry.specs.Geometry.{layoutOf};
-ghost use Rattle.soundness.specs.Check.{isAid, otherTok, numberBelow, newTok, tokOk, toksOk, blankOk, packageOk, packagesOk, usedRow, provRow};
+ghost use Rattle.soundness.specs.Check.{otherTok, numberAt, newTok, tokOk, toksOk, blankOk, packageOk, packagesOk, usedRow, provRow};
 use crate::bytes;
 use geometry::Card;
 
@@ -33,21 +33,14 @@ pub fn provides(img: &[u8], c: Card, j: usize, k: usize) -> bool
     bits::has_bit(prov_row(img, c, j), k)
 }
 
-// Package n has the AID at at.
-fn is_aid(img: &[u8], c: Card, at: usize, n: usize) -> bool
-    requires { ⌜ (length (now img) ≡ sizeOf (layoutOf c)) × (at + 17 ≤ length (now img)) × (getD (now img) at 0 ≤ 16) × (n < layoutOf c .packages) ⌝ }
-    ensures { λ r. ⌜ r ≡ isAid (layoutOf c) (now (img .entry)) at n ⌝ }
+// The lowest package that has the AID at at; the number of packages where none has.
+pub fn number_of(img: &[u8], c: Card, at: usize) -> usize
+    requires { ⌜ (length (now img) ≡ sizeOf (layoutOf c)) × (at + 17 ≤ length (now img)) ⌝ }
+    ensures { λ r. ⌜ r ≡ numberAt (layoutOf c) (now (img .entry)) at ⌝ }
 {
-    bytes::same_aid(img, at, geometry::aid_at(c, n))
-}
-
-// The lowest of the first n packages that has the AID at at; n where none has.
-pub fn number_below(img: &[u8], c: Card, n: usize, at: usize) -> usize
-    requires { ⌜ (length (now img) ≡ sizeOf (layoutOf c)) × (n ≤ layoutOf c .packages) × (at + 17 ≤ length (now img)) × (getD (now img) at 0 ≤ 16) ⌝ }
-    ensures { λ r. ⌜ r ≡ numberBelow (layoutOf c) (now (img .entry)) n at ⌝ }
-{
+    let n = geometry::packages(c);
     for m in 0..n {
-        if is_aid(img, c, at, m) {
+        if bytes::same_aid(img, at, geometry::aid_at(c, m)) {
             return m;
         }
     }
@@ -62,7 +55,7 @@ fn other_tok(img: &[u8], c: Card, at: usize, j: usize, k: usize) -> bool
     if !provides(img, c, j, k) {
         return true;
     }
-    !bytes::same_at(img, at, geometry::tok_at(c, j, k), 2)
+    bytes::pair(img, at) != bytes::pair(img, geometry::tok_at(c, j, k))
 }
 
 // None of the first n services of package j has the tokens at at.
@@ -129,7 +122,7 @@ fn package_ok(img: &[u8], c: Card, n: usize) -> bool
     if !bytes::aid_ok(img, at) {
         return false;
     }
-    if number_below(img, c, n, at) != n {
+    if number_of(img, c, at) != n {
         return false;
     }
     toks_ok(img, c, n)

@@ -1,8 +1,6 @@
 -- `bytes::same_aid` meets its contract.
-use native.Mathlib.Omega.{arith}
-use lib.ListN.{getD}
 use borrow.Author.Needs.{needs}
-use Rattle.soundness.proofs.Tests.{first-fell, same-fell}
+use Rattle.soundness.proofs.Words.{aid-same}
 use Rattle.soundness.proofs.bytes.same_aid.Statement.{statement}
 use Rattle.soundness.proofs.bytes.same_aid.Tie as tie
 
@@ -10,17 +8,16 @@ pub same-aid-spec : {M : Type 1} → statement M
 same-aid-spec =
     tie.close
     (tie.spec
-    (λ c. search needs)
-    (λ c. search needs)
-    (λ c. search (first-fell, needs))
-    (λ c. search needs)
-    (λ c. search needs)
-    (λ c. search needs)
-    (λ c. search needs)
-    (λ c. search needs)
-    (λ c. search needs)
-    (λ c. let s = c .before .before .before .before .before .before .before .before in
-    let a = s .args in
-    same-fell (a .img .now) (a .a) (a .b) 17 (getD (a .img .now) (a .a) 0) (omega (arith, s .pre .2)) (c .if2 .taken))
     (λ c κs. search needs)
-    (λ c. search needs))
+    (λ c κs. search needs)
+    (λ c. search needs)
+    (λ c κs. search needs)
+    (λ c. search needs)
+    (λ c κs. search needs)
+    (λ c. search needs)
+    (λ c. search needs)
+    (λ c. search needs)
+    (λ c. search needs)
+    (λ c. let s = c .before .before .before .before .before .before .before in
+    let a = s .args in
+    aid-same (a .img .now) (λ k. c .shared-slice-known3 .given k .fits) (a .a) (a .b) (c .before .before .before .before .before .word .ensures) (c .before .before .before .before .word2 .ensures) (c .before .before .before .word3 .ensures) (c .before .before .word4 .ensures) (s .pre .0) (s .pre .1)))

@@ -1,7 +1,8 @@
 -- `lists::new_row` meets its contract.
-use mathlib.Core.Path.{_≡_}
-use mathlib.Core.Bool.{true}
-use Prim.Native.Nat.{_≤_, _-_}
+use mathlib.Core.Path.{_≡_, ap}
+use mathlib.Core.Bool.{Bool, true, not}
+use Prim.Native.Nat.{_≤_, _<_, _-_}
+use native.Mathlib.Omega.{arith}
 use Rattle.policy.specs.Lists.{every, upto}
 use Rattle.bits.proofs.Loops.{early}
 use Rattle.geometry.specs.Geometry.{layoutOf}
@@ -23,8 +24,15 @@ new-row-spec =
     (tie.spec Inv-loop μ-loop
     (λ c. search (early, places))
     (λ c κs. search (early, places))
+    (λ c κs. search (early, places))
+    (λ c κs. search (early, places))
+    (λ c κs. let h : c .before .before .before .before .loop .q < layoutOf (c .before .before .before .before .before .before .args .c) .capacity = omega arith in search places)
+    (λ c. let e = ap not (rw (c .before .before .before .before .place-at .ensures, c .before .before .before .place-at2 .ensures, c .before .before .row-size .ensures) at (c .before .same-row .ensures)) in
+    let h = ap (λ (b : Bool). not (not b)) (c .if1 .taken) in
+    search (early, places))
     (λ c. search (early, places))
     (λ c. search (early, places))
-    (λ c. search (early, places))
-    (λ c. search (early, places))
+    (λ c. let e = ap not (rw (c .before .before .before .before .place-at .ensures, c .before .before .before .place-at2 .ensures, c .before .before .row-size .ensures) at (c .before .same-row .ensures)) in
+    let h = ap (λ (b : Bool). not (not b)) (c .if1 .left) in
+    search (early, places))
     (λ c. search (early, places)))
