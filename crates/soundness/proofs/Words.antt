@@ -57,7 +57,7 @@ module _ (l : List ℕ) where
     word-end zero p e = let a : at + 0 ≡ at = omega arith in e ∙ ap (λ (x : ℕ). little (partAt l x 8)) a
     word-end (suc k) p e = absurd (omega arith)
 
--- w has room for one byte more, and with it for the rest
+-- w has room for one byte more, and then for those that are left
 pub word-room : (k : ℕ) {w : ℕ} → 0 < k → w < 256 ^ (8 - k) → w < 256 ^ 7
 word-room k p h = let m : 256 ^ (8 - k) ≤ 256 ^ 7 = let s : 8 - k ≤ 7 = omega arith in pow-le-pow-right (zero-lt-suc 255) s in lt-of-lt-of-le h m
 
