@@ -7,11 +7,13 @@ use mathlib.Core.Bool.{Bool, true, _&&_, _||_, cond, and-true}
 use mathlib.Core.List.{List, [], _∷_}
 use lib.Dec.{eqb, eqb→eq, eqb-refl, ltb, leb·zero, leb·suc-zero, leb·suc-suc}
 use lib.ListN.{length, getD}
-use Rattle.policy.specs.Tables.{Waiting, bit}
+use Rattle.policy.specs.Tables.{bit}
 use Rattle.policy.specs.Draft.{put2, put3}
 use Rattle.policy.proofs.Sets.{T-true, and-r, cond-false}
+use Rattle.image.specs.Read.{maskOf}
+use Rattle.engine.proofs.Callers.{named}
 use Rattle.engine.proofs.Marks.{marked, marks, marked-is}
-use Rattle.loading.specs.Writes.{dueGrants}
+use Rattle.loading.specs.Writes.{listed}
 
 -- ---- one write for each element of a list, at the places from k on
 module _ {A B : Type 0} (f : ℕ → A → B → B) where
@@ -40,7 +42,7 @@ module _ {A B C : Type 0} (f : ℕ → A → B → B) (see : B → ℕ → C) (n
       ap (see (each f (suc k) l (f k s b))) e ∙ from-on (suc k) l d (f k s b) r ∙ ap (atRow l r d) (away k (suc k + r) s b (λ q. omega arith) ∙ ap (see b) (sym e))
       ∙ sym (ap (λ (c : Bool). cond c (new (getD l r d) (see b (k + suc r))) (see b (k + suc r))) (leb·suc-suc (suc r) (length l)))
 
-  pub each-row : (l : List A) (d : A) (b : B) (r : ℕ) → see (each f 0 l b) r ≡ cond (ltb r (length l)) (new (getD l r d) (see b r)) (see b r)
+  each-row : (l : List A) (d : A) (b : B) (r : ℕ) → see (each f 0 l b) r ≡ cond (ltb r (length l)) (new (getD l r d) (see b r)) (see b r)
   each-row l d b r = ap (see (each f 0 l b)) (sym (zero-add r)) ∙ from-on 0 l d b r ∙ ap (λ (z : ℕ). atRow l r d (see b z)) (zero-add r)
 
 -- the values v of the elements, in row n
@@ -50,15 +52,15 @@ put-rows n v l d b x y = each-row (λ k s. put2 n k (v s)) (λ b. b x) (λ s w. 
     (λ k z s b h. cond-false (eqb x n && eqb z k) (v s) (b x z) (λ q. h (eqb→eq z k (and-r (eqb x n) (eqb z k) q))))
     (λ k s b. ap (λ (c : Bool). cond c (v s) (b x k)) (ap (λ (c : Bool). eqb x n && c) (T-true (eqb k k) (eqb-refl k)) ∙ and-true (eqb x n))) l d b y
 
--- ---- the waiting grants whose bits the mask has
-pub due-grants : (f : Waiting → Bool) (mask n : ℕ) (l : List Waiting) → ((r : ℕ) (d : Waiting) → r < length l → bit mask r ≡ f (getD l r d)) → (b : ℕ → ℕ → ℕ → Bool) (x y z : ℕ)
-    → dueGrants mask n 0 l b x y z ≡ b x y z || (eqb y n && marks f (λ w. w .callee) (λ w. w .service) n x z l)
-due-grants f mask n l h b x y z = ap (λ (c : ℕ → ℕ → ℕ → Bool). c x y z) (same 0 l (λ r d p. ap (bit mask) (zero-add r) ∙ h r d p) b) ∙ marked-is f (λ w. w .callee) (λ w. w .service) n l b x y z
-  where
-    same : (k : ℕ) (l : List Waiting) → ((r : ℕ) (d : Waiting) → r < length l → bit mask (k + r) ≡ f (getD l r d)) → (b : ℕ → ℕ → ℕ → Bool)
-        → dueGrants mask n k l b ≡ marked f (λ w. w .callee) (λ w. w .service) n l b
-    same k [] h b = refl
-    same k (w ∷ l) h b =
-        let e : bit mask k ≡ f w = ap (bit mask) (sym (add-zero k)) ∙ h 0 w (omega arith) in
-        same (suc k) l (λ r d p. ap (bit mask) (suc-add k r ∙ sym (add-suc k r)) ∙ h (suc r) d (suc-le-suc p)) (cond (bit mask k) (put3 (w .callee) n (w .service) true b) b)
-        ∙ ap (λ (v : Bool). marked f (λ w. w .callee) (λ w. w .service) n l (cond v (put3 (w .callee) n (w .service) true b) b)) e
+-- ---- the rows of a list that the mask names, where it is that of those that pass
+module _ {A : Type 0} (f : A → Bool) (row service : A → ℕ) (mask n : ℕ) where
+  listed-marked : (k : ℕ) (l : List A) → ((r : ℕ) (d : A) → r < length l → bit mask (k + r) ≡ f (getD l r d)) → (b : ℕ → ℕ → ℕ → Bool) → listed row service mask n k l b ≡ marked f row service n l b
+  listed-marked k [] h b = refl
+  listed-marked k (x ∷ l) h b =
+      let e : bit mask k ≡ f x = ap (bit mask) (sym (add-zero k)) ∙ h 0 x (omega arith) in
+      listed-marked (suc k) l (λ r d p. ap (bit mask) (suc-add k r ∙ sym (add-suc k r)) ∙ h (suc r) d (suc-le-suc p)) (cond (bit mask k) (put3 (row x) n (service x) true b) b)
+      ∙ ap (λ (v : Bool). marked f row service n l (cond v (put3 (row x) n (service x) true b) b)) e
+
+  pub listed-is : (l : List A) → mask ≡ maskOf f l → (b : ℕ → ℕ → ℕ → Bool) (x y z : ℕ) → listed row service mask n 0 l b x y z ≡ b x y z || (eqb y n && marks f row service n x z l)
+  listed-is l e b x y z =
+      ap (λ (c : ℕ → ℕ → ℕ → Bool). c x y z) (listed-marked 0 l (λ r d p. ap (bit mask) (zero-add r) ∙ named f l mask r d e p) b) ∙ marked-is f row service n l b x y z

@@ -22,8 +22,8 @@ use Rattle.image.proofs.Clears.{wrote-then}
 use Rattle.record.specs.Meaning.{itemsIn, Uncons}
 use Rattle.record.specs.declared.Items.{Items}
 use Rattle.record.proofs.Loops.{Todo, todo-end, todo-next}
-use Rattle.engine.specs.Services.{CallersIn}
-use Rattle.loading.specs.Writes.{named, openedOne, openedAll}
+use Rattle.engine.specs.Services.{opened}
+use Rattle.loading.specs.Writes.{named, openedAll}
 
 -- ---- its number and its AID
 module _ (c : Card) {old : List ℕ} (h : Laid (layoutOf c) old) (n : ℕ) (inside : n < layoutOf c .packages) (row with : ℕ) (e : row ≡ rowOf (layoutOf c .packages) (decode (layoutOf c) old .used))
@@ -40,25 +40,23 @@ module _ (c : Card) {old : List ℕ} (h : Laid (layoutOf c) old) (n : ℕ) (insi
       subst (λ (f : ℕ → Bool). Wrote (layoutOf c) img′ (withAid n a (withUsed f (decode (layoutOf c) old)))) (more .1) (wrote-then (layoutOf c) (withAid n a) w v)
 
 -- ---- its services: those of todo are to come, with the numbers from k on
-pub record Opening (L : Layout) (n : ℕ) (a : Aid) (t₀ : Tables) (all : List Tok) (rec : List ℕ) (img : List ℕ) (todo : Items) (k : ℕ) : Type 0 where
+pub record Opening (L : Layout) (n : ℕ) (t₀ : Tables) (all : List Tok) (rec : List ℕ) (img : List ℕ) (todo : Items) (k : ℕ) : Type 0 where
   pub laid : Laid L img
-  pub callers : CallersIn L (decode L img .unmet)
-  pub left : Todo tokens rec todo (λ l. openedAll n a k l (decode L img)) (openedAll n a 0 all t₀)
+  pub left : Todo tokens rec todo (λ l. openedAll n k l (decode L img)) (openedAll n 0 all t₀)
   pub fits : k + length (itemsIn tokens rec todo) ≤ L .services
 
-module _ (L : Layout) (n : ℕ) (a : Aid) (t₀ : Tables) (all : List Tok) {rec img : List ℕ} {todo : Items} {k : ℕ} (g : Opening L n a t₀ all rec img todo k) where
-  pub opening-end : todo .count ≤ 0 → Wrote L img (openedAll n a 0 all t₀)
+module _ (L : Layout) (n : ℕ) (t₀ : Tables) (all : List Tok) {rec img : List ℕ} {todo : Items} {k : ℕ} (g : Opening L n t₀ all rec img todo k) where
+  pub opening-end : todo .count ≤ 0 → Wrote L img (openedAll n 0 all t₀)
   opening-end e = record { laid = g .laid; tables = todo-end (g .left) e }
 
   module _ {s : Tok} {rest : Items} (u : Uncons tokens rec todo s rest) where
     pub opening-fits : k + 1 + length (itemsIn tokens rec rest) ≤ L .services
     opening-fits = let h : k + length (s ∷ itemsIn tokens rec rest) ≤ L .services = subst (λ (l : List Tok). k + length l ≤ L .services) (u .same) (g .fits) in omega (arith, h)
 
-    pub opening-next : {img′ : List ℕ} → Wrote L img′ (openedOne n a k s (decode L img)) → Opening L n a t₀ all rec img′ rest (k + 1)
+    pub opening-next : {img′ : List ℕ} → Wrote L img′ (opened n k s (decode L img)) → Opening L n t₀ all rec img′ rest (k + 1)
     opening-next {img′} w = record {
       laid = w .laid;
-      callers = subst (λ (v : Tables). CallersIn L (v .unmet)) (sym (w .tables)) (g .callers);
-      left = todo-next (g .left) u (λ l. openedAll n a (k + 1) l (decode L img′))
-          (ap (openedAll n a (suc k) (itemsIn tokens rec rest)) (sym (w .tables)) ∙ ap (λ (m : ℕ). openedAll n a m (itemsIn tokens rec rest) (decode L img′)) (sym (add-one k)));
+      left = todo-next (g .left) u (λ l. openedAll n (k + 1) l (decode L img′))
+          (ap (openedAll n (suc k) (itemsIn tokens rec rest)) (sym (w .tables)) ∙ ap (λ (m : ℕ). openedAll n m (itemsIn tokens rec rest) (decode L img′)) (sym (add-one k)));
       fits = opening-fits;
     }

@@ -184,9 +184,9 @@ module _ (L : Layout) (v : Tables) (names : Names L (v .used) (v .aid) (v .tok) 
         (λ q. let f = eqb→eq y j q in and-i u e (subst (λ (z : ℕ). T (v .used z)) (sym f) (h .0)) (eqAid-of (ap (v .aid) f ∙ h .1)))
         (λ q. eqb-of (names .aid-inj y j (and-l u e q) (h .0) (eqAid→ (v .aid y) (r .aid) (and-r u e q) ∙ sym (h .1))))
 
-    found-is : (s : Tok) (z : ℕ) (o : Option ℕ) → ServiceIs v n s o → T (isSome o) → eqb z (orElse o 0 (λ k. k)) ≡ v .provides n z && eqTok (v .tok n z) s
-    found-is s z none h q = absurd q
-    found-is s z (some k) h q =
+    pub found-is : (d : ℕ) (s : Tok) (z : ℕ) (o : Option ℕ) → ServiceIs v n s o → T (isSome o) → eqb z (orElse o d (λ k. k)) ≡ v .provides n z && eqTok (v .tok n z) s
+    found-is d s z none h q = absurd q
+    found-is d s z (some k) h q =
         let p = v .provides n z in
         let e = eqTok (v .tok n z) s in
         T-eq (eqb z k) (p && e)
@@ -214,7 +214,7 @@ module _ (L : Layout) (v : Tables) (names : Names L (v .used) (v .aid) (v .tok) 
             (append-assoc w (waitFor r ∷ []) (map waitFor (strange l)) i) v)
         go (some j) h ih = ih (put3 n j (serviceFound (r .tok)) true g) w
             ∙ (λ i. withGrants (λ x y z. grant-more (eqb x n) (eqb y j) (eqb z (serviceFound (r .tok))) (g x y z) (v .provides n z) (v .used y) (eqAid (v .aid y) (r .aid)) (eqTok (v .tok n z) (r .tok))
-            (hasRow (record { aid = v .aid y; tok = v .tok n z }) l) (holder-is r y (some j) h) (found-is (r .tok) z (serviceOf L v n (r .tok)) (service-is L v names n (r .tok)) (all r (here refl))) i)
+            (hasRow (record { aid = v .aid y; tok = v .tok n z }) l) (holder-is r y (some j) h) (found-is 0 (r .tok) z (serviceOf L v n (r .tok)) (service-is L v names n (r .tok)) (all r (here refl))) i)
             (w ++ map waitFor (strange l)) v)
 
 -- ---- the rows of a newcomer, with number n and contract k, on the card that it has joined
@@ -238,13 +238,16 @@ module _ (L : Layout) (t : Tables) (n : ℕ) (k : Contract) (new : Newcomer L t 
       ∙ (λ i. withCalls (λ x y z. own-row (eqb x n) (namedIn L t n k (k .calls) y z)
       (cond (eqb y n) (on .provides n z && hasUnmet (callRow x (serviceAt on n z)) (t .unmet)) (t .calls x y z)) i) (after .unmet) on)
 
-  -- its grants are of services that it provides
-  pub grants-found : Provided L on names-joined n (k .grants)
-  grants-found r m = go (serviceOf L on n (r .tok)) (service-is L on names-joined n (r .tok))
+  -- its services are there; its grants are of them
+  pub service-found : {s : Tok} → In s (k .provides) → T (isSome (serviceOf L on n s))
+  service-found {s} m = go (serviceOf L on n s) (service-is L on names-joined n s)
     where
-      go : (o : Option ℕ) → ServiceIs on n (r .tok) o → T (isSome o)
-      go none h = let q = in-tok L t n k new (new .grants-provided r m) in h (q .0) (q .1) (q .2)
+      go : (o : Option ℕ) → ServiceIs on n s o → T (isSome o)
+      go none h = let q = in-tok L t n k new m in h (q .0) (q .1) (q .2)
       go (some z) h = tt
+
+  pub grants-found : Provided L on names-joined n (k .grants)
+  grants-found r m = service-found (new .grants-provided r m)
 
   -- and to packages that were installed before it, or wait
   present-same : (r : Row) → In r (k .grants) → present L on (r .aid) ≡ present L t (r .aid)

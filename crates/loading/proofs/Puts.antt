@@ -1,8 +1,8 @@
 -- Kind 1: the writes of a load, one after another, leave its tables. Assumes nothing.
-use Prim.Native.Nat.{ℕ, suc, _+_, _≤_, _<_}
+use Prim.Native.Nat.{ℕ, _+_, _≤_, _<_}
 use mathlib.Core.Path.{_≡_, refl, sym, ap, _∙_, subst}
 use mathlib.Core.Bool.{not}
-use mathlib.Core.List.{List, [], _∷_}
+use mathlib.Core.List.{List}
 use lib.Dec.{T}
 use lib.ListN.{length}
 use Rattle.policy.specs.Lists.{every, isSome}
@@ -11,7 +11,7 @@ use Rattle.policy.specs.Layout.{Layout}
 use Rattle.policy.specs.Record.{load}
 use Rattle.policy.specs.Tables.{Tables, decode}
 use Rattle.policy.specs.Lookup.{serviceOf}
-use Rattle.policy.specs.Draft.{loadAt}
+use Rattle.policy.specs.Draft.{loadedNames, loadAt}
 use Rattle.policy.specs.ShortCheck.{count}
 use Rattle.policy.specs.Judge.{Out}
 use Rattle.policy.specs.Settled.{settled, Gives}
@@ -24,16 +24,12 @@ use Rattle.engine.specs.Asked.{Asked}
 use Rattle.engine.specs.Services.{CallersIn}
 use Rattle.engine.proofs.Edits.{accepted-gives}
 use Rattle.loading.specs.Loads.{served, present, Accepts, Decides, withoutRows}
-use Rattle.loading.specs.Writes.{named, openedOne, openedAll, GrantsIn, due, calledAll, grantedAll, neededAll, joined}
+use Rattle.loading.specs.Writes.{named, openedAll, metAll, CallOn, GrantsIn, due, calledAll, grantedAll, neededAll, joined}
 use Rattle.loading.specs.declared.decide.Decided.{Decided}
-use Rattle.loading.proofs.Joined.{on-card}
+use Rattle.loading.proofs.Joined.{services-on, calls-there, on-card}
 use Rattle.loading.proofs.OwnRows.{needed-is}
 use Rattle.loading.proofs.OwnRoom.{calls-room, grants-there, grants-room, needs-there}
 use Rattle.loading.proofs.Newcomers.{newcomer-at, load-fits, load-kept}
-
-opened-waiting : (n : ℕ) (a : Aid) (k : ℕ) (l : List Tok) (t : Tables) → openedAll n a k l t .waiting ≡ t .waiting
-opened-waiting n a k [] t = refl
-opened-waiting n a k (s ∷ l) t = opened-waiting n a (suc k) l (openedOne n a k s t)
 
 module _ (L : Layout) (img : List ℕ) (a : Aid) (p : List Tok) (c g n : List Row) (ask : Asked L img a (load p c g n)) (d : Decided) (ok : Accepts L img a p c g n d) where
   abbrev t : Tables
@@ -57,49 +53,54 @@ module _ (L : Layout) (img : List ℕ) (a : Aid) (p : List Tok) (c g n : List Ro
   pub aid-short : length a ≤ 16
   aid-short = valid-short a (ask .first-valid)
 
-  module _ {i₁ : List ℕ} (w₁ : Wrote L i₁ (named (d .at) a (decode L img))) where
-    pub callers-in : CallersIn L (decode L i₁ .unmet)
-    callers-in = subst (λ (v : Tables). CallersIn L (v .unmet)) (sym (w₁ .tables)) (λ u m. formed .names .used-lt (u .caller) (formed .unmet .off .off-used u m))
+  module _ {i₁ i₂ : List ℕ} (w₁ : Wrote L i₁ (named (d .at) a (decode L img))) (w₂ : Wrote L i₂ (openedAll (d .at) 0 p (decode L i₁))) where
+    opened-is : decode L i₂ ≡ loadedNames L t (d .at) contract
+    opened-is = w₂ .tables ∙ ap (openedAll (d .at) 0 p) (w₁ .tables) ∙ services-on L t (d .at) contract new (ask .first-valid)
 
-    module _ {i₂ : List ℕ} (w₂ : Wrote L i₂ (openedAll (d .at) a 0 p (decode L i₁))) where
-      pub grants-in : GrantsIn L (decode L i₂ .waiting)
-      grants-in =
-          let e : decode L i₂ .waiting ≡ t .waiting =
-          ap (λ (v : Tables). v .waiting) (w₂ .tables) ∙ opened-waiting (d .at) a 0 p (decode L i₁) ∙ ap (λ (v : Tables). v .waiting) (w₁ .tables) in
-          subst (GrantsIn L) (sym e) (λ w m. let q = formed .waiting .wait-prov w m in (formed .names .used-lt (w .callee) (formed .names .prov-used (w .callee) (w .service) q), formed .names .prov-lt (w .callee) (w .service) q))
+    pub callers-in : CallersIn L (decode L i₂ .unmet)
+    callers-in = subst (λ (v : Tables). CallersIn L (v .unmet)) (sym opened-is) (λ u m. formed .names .used-lt (u .caller) (formed .unmet .off .off-used u m))
 
-      module _ {i₃ i₄ : List ℕ} (w₃ : Wrote L i₃ (due (d .waiting) (d .at) (decode L i₂))) (w₄ : Wrote L i₄ (withoutRows (d .met) (d .waiting) (decode L i₃))) where
-        joined-is : decode L i₄ ≡ on
+    pub calls-on : (r : ℕ) → r < length (decode L i₂ .unmet) → CallOn L (d .met) (d .at) (decode L i₂) r
+    calls-on = subst (λ (v : Tables). (r : ℕ) → r < length (v .unmet) → CallOn L (d .met) (d .at) v r) (sym opened-is)
+        (calls-there L t (d .at) contract new (ask .first-valid) (d .met) (ok .met-is))
+
+    module _ {i₃ : List ℕ} (w₃ : Wrote L i₃ (metAll L (d .met) (d .at) (decode L i₂))) where
+      pub grants-in : GrantsIn L (decode L i₃ .waiting)
+      grants-in = subst (λ (v : Tables). GrantsIn L (v .waiting)) (sym (w₃ .tables ∙ ap (metAll L (d .met) (d .at)) opened-is))
+          (λ w m. let q = formed .waiting .wait-prov w m in (formed .names .used-lt (w .callee) (formed .names .prov-used (w .callee) (w .service) q), formed .names .prov-lt (w .callee) (w .service) q))
+
+      module _ {i₄ i₅ : List ℕ} (w₄ : Wrote L i₄ (due (d .waiting) (d .at) (decode L i₃))) (w₅ : Wrote L i₅ (withoutRows (d .met) (d .waiting) (decode L i₄))) where
+        joined-is : decode L i₅ ≡ on
         joined-is =
-            w₄ .tables
+            w₅ .tables
             ∙ ap (withoutRows (d .met) (d .waiting))
-            (w₃ .tables ∙ ap (due (d .waiting) (d .at)) (w₂ .tables ∙ ap (openedAll (d .at) a 0 p) (w₁ .tables)))
-            ∙ on-card L t (d .at) contract new (d .met) (d .waiting) (ok .met-is) (ok .waiting-is)
+            (w₄ .tables ∙ ap (due (d .waiting) (d .at)) (w₃ .tables ∙ ap (metAll L (d .met) (d .at)) (w₂ .tables ∙ ap (openedAll (d .at) 0 p) (w₁ .tables))))
+            ∙ on-card L t (d .at) contract new (ask .first-valid) (d .met) (d .waiting) (ok .met-is) (ok .waiting-is)
 
-        pub calls-fit : length (decode L i₄ .unmet) + count (λ x. not (served L (decode L i₄) x)) c ≤ L .capacity
+        pub calls-fit : length (decode L i₅ .unmet) + count (λ x. not (served L (decode L i₅) x)) c ≤ L .capacity
         calls-fit = subst (λ (v : Tables). length (v .unmet) + count (λ x. not (served L v x)) c ≤ L .capacity) (sym joined-is)
             (calls-room L t (d .at) contract new (ask .first-valid) (load-fits L img a p c g n ask d ok))
 
-        module _ {i₅ : List ℕ} (w₅ : Wrote L i₅ (calledAll L (d .at) c (decode L i₄))) where
-          called-is : decode L i₅ ≡ calledAll L (d .at) c on
-          called-is = w₅ .tables ∙ ap (calledAll L (d .at) c) joined-is
+        module _ {i₆ : List ℕ} (w₆ : Wrote L i₆ (calledAll L (d .at) c (decode L i₅))) where
+          called-is : decode L i₆ ≡ calledAll L (d .at) c on
+          called-is = w₆ .tables ∙ ap (calledAll L (d .at) c) joined-is
 
-          pub grants-provided : T (every (λ x. isSome (serviceOf L (decode L i₅) (d .at) (x .tok))) g)
+          pub grants-provided : T (every (λ x. isSome (serviceOf L (decode L i₆) (d .at) (x .tok))) g)
           grants-provided = subst (λ (v : Tables). T (every (λ x. isSome (serviceOf L v (d .at) (x .tok))) g)) (sym called-is) (grants-there L t (d .at) contract new (ask .first-valid))
 
-          pub grants-fit : length (decode L i₅ .waiting) + count (λ x. not (present L (decode L i₅) (x .aid))) g ≤ L .capacity
+          pub grants-fit : length (decode L i₆ .waiting) + count (λ x. not (present L (decode L i₆) (x .aid))) g ≤ L .capacity
           grants-fit = subst (λ (v : Tables). length (v .waiting) + count (λ x. not (present L v (x .aid))) g ≤ L .capacity) (sym called-is)
               (grants-room L t (d .at) contract new (ask .first-valid) (load-fits L img a p c g n ask d ok))
 
-          module _ {i₆ : List ℕ} (w₆ : Wrote L i₆ (grantedAll L (d .at) g (decode L i₅))) where
-            granted-is : decode L i₆ ≡ grantedAll L (d .at) g (calledAll L (d .at) c on)
-            granted-is = w₆ .tables ∙ ap (grantedAll L (d .at) g) called-is
+          module _ {i₇ : List ℕ} (w₇ : Wrote L i₇ (grantedAll L (d .at) g (decode L i₆))) where
+            granted-is : decode L i₇ ≡ grantedAll L (d .at) g (calledAll L (d .at) c on)
+            granted-is = w₇ .tables ∙ ap (grantedAll L (d .at) g) called-is
 
-            pub needs-served : T (every (served L (decode L i₆)) n)
+            pub needs-served : T (every (served L (decode L i₇)) n)
             needs-served = subst (λ (v : Tables). T (every (served L v) n)) (sym granted-is) (needs-there L t (d .at) contract new (ask .first-valid) (load-kept L img a p c g n ask d ok))
 
-            pub put-is : {i₇ : List ℕ} → Wrote L i₇ (neededAll L (d .at) n (decode L i₆)) → Wrote L i₇ (loadAt L (decode L img) (d .at) contract .tables)
-            put-is w₇ = record { laid = w₇ .laid; tables = w₇ .tables ∙ ap (neededAll L (d .at) n) granted-is ∙ needed-is L t (d .at) contract new (ask .first-valid) }
+            pub put-is : {i₈ : List ℕ} → Wrote L i₈ (neededAll L (d .at) n (decode L i₇)) → Wrote L i₈ (loadAt L (decode L img) (d .at) contract .tables)
+            put-is w₈ = record { laid = w₈ .laid; tables = w₈ .tables ∙ ap (neededAll L (d .at) n) granted-is ∙ needed-is L t (d .at) contract new (ask .first-valid) }
 
 -- ---- the verdict
 module _ (L : Layout) (img : List ℕ) (a : Aid) (p : List Tok) (c g n : List Row) (d : Decided) (says : Decides L img a p c g n d) {number second : ℕ} where

@@ -1,67 +1,117 @@
--- Waiting grants that become bits, row by row. Assumes nothing.
+-- Rows of a list that become bits where a mask names them, row by row: the waiting grants and the unmet calls. Assumes nothing.
 use Prim.Native.Nat.{ℕ, suc, _+_, _≤_, _<_}
 use native.Mathlib.Numerals.{add-one}
-use mathlib.Core.Path.{_≡_, sym, ap, _∙_, subst}
+use mathlib.Core.Path.{_≡_, refl, sym, ap, ap₂, _∙_, subst}
 use mathlib.Core.Bool.{Bool, true, false, cond}
-use mathlib.Core.List.{List, _∷_}
-use lib.ListN.{length, getD, drop, drop-of-length-le}
+use mathlib.Core.List.{List}
+use lib.ListN.{length, drop, drop-of-length-le}
 use lib.Seq.{drop-cons}
+use Rattle.policy.specs.Contract.{Tok}
 use Rattle.policy.specs.Layout.{Layout}
-use Rattle.policy.specs.Tables.{Tables, Waiting, bit, decode}
-use Rattle.policy.specs.Draft.{put3, withGrants}
+use Rattle.policy.specs.Tables.{Tables, Unmet, Waiting, decode}
+use Rattle.policy.specs.Lookup.{serviceOf}
+use Rattle.policy.specs.Draft.{put3}
 use Rattle.image.specs.Laid.{Laid}
 use Rattle.image.specs.Wrote.{Wrote}
-use Rattle.image.specs.Read.{noWaiting, waitingRow}
-use Rattle.loading.specs.Writes.{dueGrants, dueOne, due, GrantsIn}
+use Rattle.image.specs.Read.{numberOr, tokens, noUnmet, unmetRow, noWaiting, waitingRow}
+use Rattle.engine.specs.Services.{CallersIn}
+use Rattle.loading.specs.Writes.{dueRows, dueOne, GrantsIn, serviceNumber, metRows, metOne, CallOn}
 use Rattle.engine.proofs.Callers.{in-row}
 
+-- ---- one row: f gives the tables with new bits, b are the old ones, d says whether the mask names the row
+module _ (L : Layout) (f : (ℕ → ℕ → ℕ → Bool) → Tables) (b : ℕ → ℕ → ℕ → Bool) (i n k : ℕ) {img : List ℕ} (v : Bool) {d : Bool} (e : v ≡ d) where
+  pub not-listed : v ≡ false → Wrote L img (f b) → Wrote L img (f (cond d (put3 i n k true b) b))
+  not-listed q w = subst (λ (x : Bool). Wrote L img (f (cond x (put3 i n k true b) b))) (sym q ∙ e) w
+
+  pub is-listed : (i′ k′ : ℕ) → v ≡ true → i′ ≡ i → k′ ≡ k → Wrote L img (f (put3 i′ n k′ true b)) → Wrote L img (f (cond d (put3 i n k true b) b))
+  is-listed i′ k′ q p s w = subst (λ (x : Bool). Wrote L img (f (cond x (put3 i n k true b) b))) (sym q ∙ e)
+      (subst (λ (x : ℕ). Wrote L img (f (put3 x n k true b))) p (subst (λ (x : ℕ). Wrote L img (f (put3 i′ n x true b))) s w))
+
+-- the number of the service with the tokens that were read
+pub number-read : (L : Layout) (t : Tables) (n : ℕ) (s : Tok) (k x y : ℕ) → k ≡ numberOr (L .services) (serviceOf L t n (tokens x y)) → x ≡ s .itf → y ≡ s .mth → k ≡ serviceNumber L t n s
+number-read L t n s k x y e p q = e ∙ ap₂ (λ (x y : ℕ). numberOr (L .services) (serviceOf L t n (tokens x y))) p q
+
+-- ---- what row r does to the tables and asks of them, what those from r on do, and what all ask
+pub record ListTurns : Type 1 where
+  pub count : Tables → ℕ
+  pub one : ℕ → Tables → Tables
+  pub from : ℕ → Tables → Tables
+  pub Asks : ℕ → Tables → Type 0
+  pub AllAsk : Tables → Type 0
+  pub none-is : (r : ℕ) (t : Tables) → count t ≤ r → from r t ≡ t
+  pub first-is : (r : ℕ) (t : Tables) → r < count t → from r t ≡ from (suc r) (one r t)
+  pub count-is : (r : ℕ) (t : Tables) → count (one r t) ≡ count t
+  pub here : (r : ℕ) (t : Tables) → r < count t → AllAsk t → Asks r t
+  pub still : (r : ℕ) (t : Tables) → AllAsk t → AllAsk (one r t)
+
+-- the rows from r on are to come, of those that were to go into the tables t
+pub record Settling (L : Layout) (s : ListTurns) (t : Tables) (img : List ℕ) (r : ℕ) : Type 0 where
+  pub laid : Laid L img
+  pub counts : s .count (decode L img) ≡ s .count t
+  pub asks : s .AllAsk (decode L img)
+  pub rest : s .from r (decode L img) ≡ s .from 0 t
+
+module _ (L : Layout) (s : ListTurns) where
+  pub settling-start : {img : List ℕ} → Laid L img → s .AllAsk (decode L img) → Settling L s (decode L img) img 0
+  settling-start h a = record { laid = h; counts = refl; asks = a; rest = refl }
+
+  module _ (t : Tables) {img : List ℕ} {r : ℕ} (g : Settling L s t img r) where
+    pub settling-end : s .count t ≤ r → Wrote L img (s .from 0 t)
+    settling-end h = record { laid = g .laid; tables = sym (s .none-is r (decode L img) (subst (λ (m : ℕ). m ≤ r) (sym (g .counts)) h)) ∙ g .rest }
+
+    module _ (h : r < s .count t) where
+      inside : r < s .count (decode L img)
+      inside = subst (λ (m : ℕ). r < m) (sym (g .counts)) h
+
+      pub settling-here : s .Asks r (decode L img)
+      settling-here = s .here r (decode L img) inside (g .asks)
+
+      pub settling-next : {img′ : List ℕ} → Wrote L img′ (s .one r (decode L img)) → Settling L s t img′ (r + 1)
+      settling-next {img′} w = subst (Settling L s t img′) (sym (add-one r)) (record {
+        laid = w .laid;
+        counts = ap (s .count) (w .tables) ∙ s .count-is r (decode L img) ∙ g .counts;
+        asks = subst (s .AllAsk) (sym (w .tables)) (s .still r (decode L img) (g .asks));
+        rest = ap (s .from (suc r)) (w .tables) ∙ sym (s .first-is r (decode L img) inside) ∙ g .rest;
+      })
+
+-- ---- the two lists
 module _ (L : Layout) (mask n : ℕ) where
-  -- ---- one row
-  module _ (img : List ℕ) (r : ℕ) (b : Bool) (e : b ≡ bit mask r) where
-    abbrev t : Tables
-    t = decode L img
+  abbrev pub grants : ListTurns
+  grants = record {
+    count = λ t. length (t .waiting);
+    one = dueOne mask n;
+    from = λ r t. dueRows mask n r (drop r (t .waiting)) t;
+    Asks = λ r t. (r < length (t .waiting)) × (waitingRow t r .callee < L .packages) × (waitingRow t r .service < L .services);
+    AllAsk = λ t. GrantsIn L (t .waiting);
+    none-is = λ r t h. ap (λ (l : List Waiting). dueRows mask n r l t) (drop-of-length-le (t .waiting) {i = r} h);
+    first-is = λ r t h. ap (λ (l : List Waiting). dueRows mask n r l t) (drop-cons (t .waiting) r noWaiting h);
+    count-is = λ r t. refl;
+    here = λ r t h by. let q = by (waitingRow t r) (in-row (t .waiting) r noWaiting h) in (h, q .0, q .1);
+    still = λ r t by. by;
+  }
 
-    abbrev rowBy : Bool → Tables
-    rowBy d = withGrants (cond d (put3 (waitingRow t r .callee) n (waitingRow t r .service) true (t .grants)) (t .grants)) (t .waiting) t
+  -- bits change no service number
+  abbrev pub CallsOn : Tables → Type 0
+  CallsOn t = CallersIn L (t .unmet) × ((r : ℕ) → r < length (t .unmet) → CallOn L mask n t r)
 
-    pub not-due : b ≡ false → Laid L img → Wrote L img (dueOne mask n r t)
-    not-due q h = record { laid = h; tables = ap rowBy (sym q ∙ e) }
+  pub met-first : (r : ℕ) (t : Tables) → r < length (t .unmet) → metRows L mask n r (drop r (t .unmet)) t ≡ metRows L mask n (suc r) (drop (suc r) (t .unmet)) (metOne L mask n r t)
+  unfolding serviceOf
+  met-first r t h = ap (λ (l : List Unmet). metRows L mask n r l t) (drop-cons (t .unmet) r noUnmet h)
 
-    pub is-due : {img′ : List ℕ} (j k : ℕ) → b ≡ true → j ≡ waitingRow t r .callee → k ≡ waitingRow t r .service → Wrote L img′ (withGrants (put3 j n k true (t .grants)) (t .waiting) t)
-        → Wrote L img′ (dueOne mask n r t)
-    is-due {img′} j k q p s w = subst (λ (d : Bool). Wrote L img′ (rowBy d)) (sym q ∙ e)
-        (subst (λ (i : ℕ). Wrote L img′ (withGrants (put3 i n (waitingRow t r .service) true (t .grants)) (t .waiting) t)) p
-        (subst (λ (i : ℕ). Wrote L img′ (withGrants (put3 j n i true (t .grants)) (t .waiting) t)) s w))
+  pub calls-still : (r : ℕ) (t : Tables) → CallsOn t → CallsOn (metOne L mask n r t)
+  unfolding serviceOf
+  calls-still r t q = q
 
-  -- ---- a loop over them: those from r on are still to become bits
-  abbrev dueFrom : ℕ → List Waiting → Tables → Tables
-  dueFrom r l t = withGrants (dueGrants mask n r l (t .grants)) (t .waiting) t
-
-  pub record Settling (t₀ : Tables) (img : List ℕ) (r : ℕ) : Type 0 where
-    pub laid : Laid L img
-    pub rows : decode L img .waiting ≡ t₀ .waiting
-    pub rest : dueFrom r (drop r (t₀ .waiting)) (decode L img) ≡ due mask n t₀
-
-  module _ (t₀ : Tables) {img : List ℕ} {r : ℕ} (m : Settling t₀ img r) where
-    pub settling-next : {img′ : List ℕ} → r < length (t₀ .waiting) → Wrote L img′ (dueOne mask n r (decode L img)) → Settling t₀ img′ (r + 1)
-    settling-next {img′} h w = subst (Settling t₀ img′) (sym (add-one r)) (record {
-      laid = w .laid;
-      rows = ap (λ (v : Tables). v .waiting) (w .tables) ∙ m .rows;
-      rest = ap (dueFrom (suc r) (drop (suc r) (t₀ .waiting))) (w .tables)
-          ∙ ap (λ (l : List Waiting). dueFrom r (getD l r noWaiting ∷ drop (suc r) (t₀ .waiting)) (decode L img)) (m .rows)
-          ∙ ap (λ (l : List Waiting). dueFrom r l (decode L img)) (sym (drop-cons (t₀ .waiting) r noWaiting h))
-          ∙ m .rest;
-    })
-
-    pub settling-inside : r < length (t₀ .waiting) → r < length (decode L img .waiting)
-    settling-inside h = subst (λ (l : List Waiting). r < length l) (sym (m .rows)) h
-
-    pub settling-numbers : GrantsIn L (t₀ .waiting) → r < length (t₀ .waiting) → (waitingRow (decode L img) r .callee < L .packages) × (waitingRow (decode L img) r .service < L .services)
-    settling-numbers by h = subst (λ (l : List Waiting). (getD l r noWaiting .callee < L .packages) × (getD l r noWaiting .service < L .services)) (sym (m .rows))
-        (by (getD (t₀ .waiting) r noWaiting) (in-row (t₀ .waiting) r noWaiting h))
-
-    pub settling-end : length (t₀ .waiting) ≤ r → Wrote L img (due mask n t₀)
-    settling-end h = record {
-      laid = m .laid;
-      tables = ap (λ (l : List Waiting). dueFrom r l (decode L img)) (sym (drop-of-length-le (t₀ .waiting) {i = r} h)) ∙ m .rest;
-    }
+  abbrev pub calls : ListTurns
+  calls = record {
+    count = λ t. length (t .unmet);
+    one = metOne L mask n;
+    from = λ r t. metRows L mask n r (drop r (t .unmet)) t;
+    Asks = λ r t. (r < length (t .unmet)) × (unmetRow t r .caller < L .packages) × CallOn L mask n t r;
+    AllAsk = CallsOn;
+    none-is = λ r t h. ap (λ (l : List Unmet). metRows L mask n r l t) (drop-of-length-le (t .unmet) {i = r} h);
+    first-is = met-first;
+    count-is = λ r t. refl;
+    here = λ r t h q. (h, q .0 (unmetRow t r) (in-row (t .unmet) r noUnmet h), q .1 r h);
+    still = calls-still;
+  }

@@ -2,7 +2,7 @@
 ghost use mathlib.Core.Path.{_≡_};
 ghost use mathlib.Core.Bool.{not};
 ghost use mathlib.Core.Option.{none};
-ghost use Prim.Native.Nat.{_+_, _≤_, _<_};
+ghost use Prim.Native.Nat.{ℕ, _+_, _≤_, _<_};
 ghost use lib.Dec.{T};
 ghost use lib.ListN.{length};
 ghost use Rattle.policy.specs.Lists.{every, isSome};
@@ -14,12 +14,12 @@ ghost use Rattle.policy.specs.ShortCheck.{count};
 ghost use Rattle.geometry.specs.Geometry.{layoutOf};
 ghost use Rattle.image.specs.Laid.{Laid};
 ghost use Rattle.image.specs.Wrote.{Wrote};
-ghost use Rattle.image.specs.Read.{waitingRow};
+ghost use Rattle.image.specs.Read.{unmetRow, waitingRow};
 ghost use Rattle.record.specs.Meaning.{AidFits, Stands, aidIn, rowIn, itemsIn, tokOf};
 ghost use Rattle.engine.specs.Asked.{Asked};
 ghost use Rattle.engine.specs.Services.{CallersIn};
 ghost use Rattle.loading.specs.Loads.{served, present, Accepts, withoutRows};
-ghost use Rattle.loading.specs.Writes.{named, openedOne, openedAll, GrantsIn, dueOne, due, calledAll, serviceNumber, grantedAll, neededAll};
+ghost use Rattle.loading.specs.Writes.{named, openedAll, CallOn, metOne, metAll, GrantsIn, dueOne, due, calledAll, serviceNumber, grantedAll, neededAll};
 use crate::decide;
 use crate::decide::Decided;
 use geometry::Card;
@@ -41,34 +41,52 @@ fn name(img: &mut [u8], c: Card, n: usize, aid: &[u8])
     image::write::put_aid(img, c, n, aid);
 }
 
-// Package n provides service k with these tokens; the unmet calls on it become bits.
-fn open(img: &mut [u8], c: Card, n: usize, aid: &[u8], k: usize, t: Tokens)
-    requires laid { ⌜ Laid (layoutOf c) (now img) ⌝ }
-    requires by { ⌜ CallersIn (layoutOf c) (decode (layoutOf c) (now img) .unmet) ⌝ }
-    requires numbers { ⌜ (n < layoutOf c .packages) × (k < layoutOf c .services) ⌝ }
-    ensures { λ _. ⌜ Wrote (layoutOf c) (now (img .exit)) (openedOne n (now (aid .entry)) k (tokOf t) (decode (layoutOf c) (now (img .entry)))) ⌝ }
-{
-    engine::services::meet_calls(img, c, aid, t.interface, t.method, n, k);
-    engine::services::open_service(img, c, n, k, t.interface, t.method);
-}
-
 // Package n provides the services of the record: they take 0, 1, 2 in record order.
-fn open_all(img: &mut [u8], c: Card, n: usize, aid: &[u8], rec: &[u8], provides: Items)
+fn open_all(img: &mut [u8], c: Card, n: usize, rec: &[u8], provides: Items)
     requires laid { ⌜ Laid (layoutOf c) (now img) ⌝ }
-    requires by { ⌜ CallersIn (layoutOf c) (decode (layoutOf c) (now img) .unmet) ⌝ }
     requires stands { ⌜ Stands tokens (now rec) provides ⌝ }
     requires numbers { ⌜ (n < layoutOf c .packages) × (length (itemsIn tokens (now rec) provides) ≤ layoutOf c .services) ⌝ }
-    ensures { λ _. ⌜ Wrote (layoutOf c) (now (img .exit))
-        (openedAll n (now (aid .entry)) 0 (itemsIn tokens (now (rec .entry)) provides) (decode (layoutOf c) (now (img .entry)))) ⌝ }
+    ensures { λ _. ⌜ Wrote (layoutOf c) (now (img .exit)) (openedAll n 0 (itemsIn tokens (now (rec .entry)) provides) (decode (layoutOf c) (now (img .entry)))) ⌝ }
 {
     let mut todo = provides;
     let mut k = 0;
     while 0 < todo.count {
         let s = record::steps::take_tokens(rec, todo);
         let t = s.tokens;
-        open(img, c, n, aid, k, t);
+        engine::services::open_service(img, c, n, k, t.interface, t.method);
         todo = s.rest;
         k += 1;
+    }
+}
+
+// Unmet call r, if the mask names it, becomes a bit, on package n's service with its tokens.
+fn meet_row(img: &mut [u8], c: Card, n: usize, met: u32, r: usize)
+    requires laid { ⌜ Laid (layoutOf c) (now img) ⌝ }
+    requires inside { ⌜ r < length (decode (layoutOf c) (now img) .unmet) ⌝ }
+    requires numbers { ⌜ (unmetRow (decode (layoutOf c) (now img)) r .caller < layoutOf c .packages) × (n < layoutOf c .packages) ⌝ }
+    requires there { ⌜ CallOn (layoutOf c) met n (decode (layoutOf c) (now img)) r ⌝ }
+    ensures { λ _. ⌜ Wrote (layoutOf c) (now (img .exit)) (metOne (layoutOf c) met n r (decode (layoutOf c) (now (img .entry)))) ⌝ }
+{
+    if engine::services::has_row(met, r) {
+        let i = image::lists::unmet_caller(img, c, r);
+        let interface = image::lists::unmet_interface(img, c, r);
+        let method = image::lists::unmet_method(img, c, r);
+        let k = image::read::find_service(img, c, n, interface, method);
+        image::write::set_bit(img, c, Table::Calls, i, n, k);
+    }
+}
+
+// The unmet calls of the mask become bits, on package n's services.
+fn meet(img: &mut [u8], c: Card, n: usize, met: u32)
+    requires laid { ⌜ Laid (layoutOf c) (now img) ⌝ }
+    requires by { ⌜ CallersIn (layoutOf c) (decode (layoutOf c) (now img) .unmet) ⌝ }
+    requires there { ⌜ ((r : ℕ) → r < length (decode (layoutOf c) (now img) .unmet) → CallOn (layoutOf c) met n (decode (layoutOf c) (now img)) r) ⌝ }
+    requires inside { ⌜ n < layoutOf c .packages ⌝ }
+    ensures { λ _. ⌜ Wrote (layoutOf c) (now (img .exit)) (metAll (layoutOf c) met n (decode (layoutOf c) (now (img .entry)))) ⌝ }
+{
+    let m = image::lists::unmet_count(img, c);
+    for r in 0..m {
+        meet_row(img, c, n, met, r);
     }
 }
 
@@ -244,7 +262,8 @@ pub fn put(
 {
     let n = d.at;
     name(img, c, n, aid);
-    open_all(img, c, n, aid, rec, provides);
+    open_all(img, c, n, rec, provides);
+    meet(img, c, n, d.met);
     settle(img, c, n, d.waiting);
     drop_listed(img, c, d.met, d.waiting);
     call_all(img, c, n, rec, calls);

@@ -6,12 +6,12 @@ use lib.ListN.{length}
 use borrow.Author.Needs.{needs}
 use Rattle.policy.specs.Tables.{decode}
 use Rattle.geometry.specs.Geometry.{layoutOf}
-use Rattle.loading.proofs.Settles.{Settling, settling-next, settling-inside, settling-numbers, settling-end}
+use Rattle.loading.proofs.Settles.{Settling, settling-start, settling-here, settling-next, settling-end, grants}
 use Rattle.loading.proofs.write.settle.Statement.{statement}
 use Rattle.loading.proofs.write.settle.Tie as tie
 
 abbrev Inv-loop : tie.InvT-loop
-Inv-loop img₀ c n waiting m r₀ img r = Settling (layoutOf c) waiting n (decode (layoutOf c) img₀) img r × (length img ≡ length img₀)
+Inv-loop img₀ c n waiting m r₀ img r = Settling (layoutOf c) (grants (layoutOf c) waiting n) (decode (layoutOf c) img₀) img r × (length img ≡ length img₀)
 
 abbrev μ-loop : tie.MeasureT-loop
 μ-loop img₀ c n waiting m r₀ img r = m - r
@@ -20,15 +20,14 @@ waiting-count-requires : tie.Need-waiting-count-requires Inv-loop μ-loop
 waiting-count-requires c κs = search needs
 
 loop-holds : tie.Need-loop-holds Inv-loop μ-loop
-loop-holds c = (record { laid = c .before .before .before .pre .0; rows = refl; rest = refl }, refl)
+loop-holds c = let p = c .before .before .before .pre in (settling-start _ _ (p .0) (p .1 .0), refl)
 
 settle-row-requires : tie.Need-settle-row-requires Inv-loop μ-loop
 settle-row-requires c κs =
     let l = c .before .before in
-    let p = l .before .before .before .before .pre in
     let g = l .loop .inv .0 in
-    let v = settling-numbers _ _ _ _ g (p .1 .0) (omega (arith, c .before .loop-test .taken, l .before .waiting-count .ensures)) in
-    (g .laid, (settling-inside _ _ _ _ g (omega (arith, c .before .loop-test .taken, l .before .waiting-count .ensures)), (v .0, v .1, p .1 .1)))
+    let v = settling-here _ _ _ g (omega (arith, c .before .loop-test .taken, l .before .waiting-count .ensures)) in
+    (g .laid, (v .0, (v .1, v .2, l .before .before .before .before .pre .1 .1)))
 
 add-r : tie.Need-add-r Inv-loop μ-loop
 add-r c = omega (arith, c .before .before .before .before .loop-test .taken)
@@ -39,13 +38,13 @@ loop-less c = omega (arith, c .before .before .before .before .loop-test .taken)
 loop-again : tie.Need-loop-again Inv-loop μ-loop
 loop-again c =
     let l = c .before .before .before .before .before in
-    (settling-next _ _ _ _ (l .loop .inv .0) (omega (arith, c .before .before .before .before .loop-test .taken, l .before .waiting-count .ensures)) (c .before .before .settle-row .ensures), search needs)
+    (settling-next _ _ _ (l .loop .inv .0) (omega (arith, c .before .before .before .before .loop-test .taken, l .before .waiting-count .ensures)) (c .before .before .settle-row .ensures), search needs)
 
 same-length : tie.Need-same-length Inv-loop μ-loop
 same-length c = search needs
 
 returns : tie.Need-returns Inv-loop μ-loop
-returns c = let l = c .before in settling-end _ _ _ _ (l .loop .inv .0) (omega (arith, c .loop-test .left, l .before .waiting-count .ensures))
+returns c = let l = c .before in settling-end _ _ _ (l .loop .inv .0) (omega (arith, c .loop-test .left, l .before .waiting-count .ensures))
 
 pub settle-spec : {M : Type 1} → statement M
 settle-spec =

@@ -1,10 +1,16 @@
 -- `loading::write::settle_row` meets its contract. Assumes nothing.
+use Prim.Native.Nat.{ℕ}
 use native.Mathlib.Omega.{arith}
+use mathlib.Core.Path.{refl}
+use mathlib.Core.Bool.{Bool}
 use denote.Ref.{now}
 use borrow.Author.Needs.{needs}
+use Rattle.policy.specs.Tables.{decode}
+use Rattle.policy.specs.Draft.{withGrants}
 use Rattle.geometry.specs.Geometry.{layoutOf}
+use Rattle.image.specs.Read.{waitingRow}
 use Rattle.image.proofs.Listed.{waiting-low}
-use Rattle.loading.proofs.Settles.{not-due, is-due}
+use Rattle.loading.proofs.Settles.{not-listed, is-listed}
 use Rattle.loading.proofs.write.settle_row.Statement.{statement}
 use Rattle.loading.proofs.write.settle_row.Tie as tie
 
@@ -30,13 +36,17 @@ returns c =
     let i = j .before .before in
     let b = i .before in
     let x = b .before .before .args in
-    is-due (layoutOf (x .c)) (x .waiting) (x .n) (now (x .img)) (x .r) _ (b .has-row .ensures) _ _ (i .if1 .taken) (j .waiting-callee .ensures) (k .waiting-service .ensures) (c .before .before .set-bit .ensures)
+    let t = decode (layoutOf (x .c)) (now (x .img)) in
+    is-listed (layoutOf (x .c)) (λ (g : ℕ → ℕ → ℕ → Bool). withGrants g (t .waiting) t) (t .grants) (waitingRow t (x .r) .callee) (x .n) (waitingRow t (x .r) .service) _ (b .has-row .ensures) _ _ (i .if1 .taken)
+    (j .waiting-callee .ensures) (k .waiting-service .ensures) (c .before .before .set-bit .ensures)
 
 returns-2 : tie.Need-returns-2
 returns-2 c =
     let s = c .before .before .before in
     let x = s .args in
-    not-due (layoutOf (x .c)) (x .waiting) (x .n) (now (x .img)) (x .r) _ (c .before .has-row .ensures) (c .if1 .left) (s .pre .0)
+    let t = decode (layoutOf (x .c)) (now (x .img)) in
+    not-listed (layoutOf (x .c)) (λ (g : ℕ → ℕ → ℕ → Bool). withGrants g (t .waiting) t) (t .grants) (waitingRow t (x .r) .callee) (x .n) (waitingRow t (x .r) .service) _ (c .before .has-row .ensures) (c .if1 .left)
+    (record { laid = s .pre .0; tables = refl })
 
 pub settle-row-spec : {M : Type 1} → statement M
 settle-row-spec =
