@@ -90,7 +90,7 @@ module _ (L : Layout) (mask n : ℕ) where
     still = λ r t by. by;
   }
 
-  -- bits change no service number
+  -- the callers are in range, and package n has the services of the calls that the mask names: call bits change neither
   abbrev pub CallsOn : Tables → Type 0
   CallsOn t = CallersIn L (t .unmet) × ((r : ℕ) → r < length (t .unmet) → CallOn L mask n t r)
 
