@@ -28,7 +28,7 @@ fits-yes n most h = T-true (leb n most) (le→leb n most h)
 -- a check that asks no rights
 module _ (L : Layout) where
   abbrev found : Bool → Bool → Bool → ℕ
-  found n u w = answer (lookCauses L (record { granted = true; needed = n; unmetFits = u; waitingFits = w }))
+  found n u w = answer (lookCauses (record { granted = true; needed = n; unmetFits = u; waitingFits = w }))
 
   module _ (n u w : Bool) where
     pub at-9 : n ≡ false → 9 ≡ found n u w
@@ -66,22 +66,22 @@ module _ (L : Layout) (t : Tables) (low : L .services ≤ 16) where
     needed-is : eqb x 0 ≡ k .needed
     needed-is = ap (λ (z : ℕ). eqb z 0) (e ∙ column-all (λ i k. t .needs i n k)) ∙ none-pairs (λ i k. t .needs i n k) (upto (L .services)) (upto (L .packages))
 
-    pub needed-cause : (x ≡ 0 → ⊥) → 9 ≡ answer (lookCauses L (shortRemove L t n))
+    pub needed-cause : (x ≡ 0 → ⊥) → 9 ≡ answer (lookCauses (shortRemove L t n))
     needed-cause h = at-9 L (k .needed) (k .unmetFits) (k .waitingFits) (sym needed-is ∙ ne-eqb x 0 h)
 
     module _ (z : x ≡ 0) (u : ℕ) (p : u ≡ unmetRows) where
       not-needed : k .needed ≡ true
       not-needed = sym needed-is ∙ eq-eqb x 0 z
 
-      pub unmet-cause : most < u → 10 ≡ answer (lookCauses L (shortRemove L t n))
+      pub unmet-cause : most < u → 10 ≡ answer (lookCauses (shortRemove L t n))
       unmet-cause h = at-10 L (k .needed) (k .unmetFits) (k .waitingFits) not-needed (fits-not unmetRows (L .capacity) (omega arith))
 
       module _ (f : u ≤ most) (w : ℕ) (q : w ≡ waitingRows) where
         unmet-fits : k .unmetFits ≡ true
         unmet-fits = fits-yes unmetRows (L .capacity) (omega arith)
 
-        pub waiting-cause : most < w → 11 ≡ answer (lookCauses L (shortRemove L t n))
+        pub waiting-cause : most < w → 11 ≡ answer (lookCauses (shortRemove L t n))
         waiting-cause h = at-11 L (k .needed) (k .unmetFits) (k .waitingFits) not-needed unmet-fits (fits-not waitingRows (L .capacity) (omega arith))
 
-        pub no-cause : w ≤ most → 0 ≡ answer (lookCauses L (shortRemove L t n))
+        pub no-cause : w ≤ most → 0 ≡ answer (lookCauses (shortRemove L t n))
         no-cause h = at-0 L (k .needed) (k .unmetFits) (k .waitingFits) not-needed unmet-fits (fits-yes waitingRows (L .capacity) (omega arith))

@@ -35,7 +35,7 @@ module _ (c : Card) (img : List ℕ) where
   -- the count of used numbers is small
   pub count-low : (n : ℕ) → n ≡ length (usedNumbers L (decode L img)) → n < 256
   count-low n e =
-      let a = length-keep (decode L img .used) (numbers L (decode L img)) in
+      let a = length-keep (decode L img .used) (numbers L) in
       let b = length-from 0 (L .packages) in
       let l = limits c .packages-low in
       omega arith

@@ -34,13 +34,13 @@ module _ (L : Layout) (t : Tables) (n : ℕ) where
         waiting = keep (λ w. not (eqb (w .callee) n)) (t .waiting) ++ waits z;
       }
 
-  pub removed-room : (m : ℕ) → m ≡ answer (lookCauses L (shortRemove L t n)) → m ≡ 0 → RoomWithout L t n
+  pub removed-room : (m : ℕ) → m ≡ answer (lookCauses (shortRemove L t n)) → m ≡ 0 → RoomWithout L t n
   removed-room m e z =
       let k = shortRemove L t n in
       let f = go (k .needed) (k .unmetFits) (k .waitingFits) (sym z ∙ e) in
       (leb→le _ (L .capacity) (f .0), leb→le _ (L .capacity) (f .1))
     where
-      go : (b u w : Bool) → 0 ≡ answer (lookCauses L (record { granted = true; needed = b; unmetFits = u; waitingFits = w })) → T u × T w
+      go : (b u w : Bool) → 0 ≡ answer (lookCauses (record { granted = true; needed = b; unmetFits = u; waitingFits = w })) → T u × T w
       go true true true h = (tt, tt)
       go true true false h = absurd (omega arith)
       go true false w h = absurd (omega arith)

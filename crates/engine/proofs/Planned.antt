@@ -75,10 +75,10 @@ firstOf zero m = m
 firstOf (suc n) m = suc n
 
 pub settled-by : (L : Layout) (img : List ℕ) (a : Aid) (c : Change) → Asked L img a c → settled L img a c
-    ≡ judged L img (numberFor L (decode L img) a) (draft L (decode L img) a c .tables) (firstOf (answer (tableCauses L (decode L img) a c)) (answer (lookCauses L (shortLook L (decode L img) a c))))
-settled-by L img a c ask = go (answer (tableCauses L (decode L img) a c)) (answer (lookCauses L (shortLook L (decode L img) a c))) refl refl
+    ≡ judged L img (numberFor L (decode L img) a) (draft L (decode L img) a c .tables) (firstOf (answer (tableCauses L (decode L img) a c)) (answer (lookCauses (shortLook L (decode L img) a c))))
+settled-by L img a c ask = go (answer (tableCauses L (decode L img) a c)) (answer (lookCauses (shortLook L (decode L img) a c))) refl refl
   where
-    go : (m n : ℕ) → answer (tableCauses L (decode L img) a c) ≡ m → answer (lookCauses L (shortLook L (decode L img) a c)) ≡ n
+    go : (m n : ℕ) → answer (tableCauses L (decode L img) a c) ≡ m → answer (lookCauses (shortLook L (decode L img) a c)) ≡ n
         → settled L img a c ≡ judged L img (numberFor L (decode L img) a) (draft L (decode L img) a c .tables) (firstOf m n)
     go zero zero e f = settled-accepted L img a c (ask .is-sound) (ask .valid) (ask .is-proper) e f
     go zero (suc n) e f = settled-short L img a c (ask .is-sound) (ask .valid) (ask .is-proper) e n f
@@ -90,7 +90,7 @@ module _ (L : Layout) (img : List ℕ) (a : Aid) (r : Row) where
 
   -- ---- a change of package number i: whether cause 6 applies, the short check, and the draft
   abbrev outcome : ℕ → Bool → Look → Draft → Out
-  outcome i six k d = judged L img i (d .tables) (firstOf (answer (6 when six ∷ [])) (answer (lookCauses L k)))
+  outcome i six k d = judged L img i (d .tables) (firstOf (answer (6 when six ∷ [])) (answer (lookCauses k)))
 
   module _ (c : Change) (ask : Asked L img a c) where
     -- by the number of the package: cause 6, the short check, the draft and the plan
@@ -101,11 +101,11 @@ module _ (L : Layout) (img : List ℕ) (a : Aid) (r : Row) where
         → settled L img a c ≡ done L img r (p (numberOf L t a))
     unfolding numberFor
     at-number six k d p e f g five h =
-        settled-by L img a c ask ∙ (λ z. judged L img (numberFor L t a) (g z .tables) (firstOf (answer (e z)) (answer (lookCauses L (f z))))) ∙ go (numberOf L t a)
+        settled-by L img a c ask ∙ (λ z. judged L img (numberFor L t a) (g z .tables) (firstOf (answer (e z)) (answer (lookCauses (f z))))) ∙ go (numberOf L t a)
       where
         go : (o : Option ℕ)
             → judged L img (orElse o (orElse (freeNumber L t) 255 (λ n. n)) (λ n. n)) (d o .tables)
-            (firstOf (answer (5 when not (isSome o) ∷ 6 when six o ∷ [])) (answer (lookCauses L (k o)))) ≡ done L img r (p o)
+            (firstOf (answer (5 when not (isSome o) ∷ 6 when six o ∷ [])) (answer (lookCauses (k o)))) ≡ done L img r (p o)
         go none = ap (done L img r) (sym five)
         go (some i) = h i
 

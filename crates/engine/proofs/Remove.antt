@@ -53,7 +53,7 @@ module _ (L : Layout) (img : List ℕ) (a : Aid) (ask : Asked L img a remove) wh
     says-absent h number second v = gives-as number second (v .0) (v .1) (remove-absent L img a (package-none L t a n found h))
 
     -- m is the cause that the check gave
-    module _ (h : n < L .packages) (m : ℕ) (e : m ≡ answer (lookCauses L (shortRemove L t n))) where
+    module _ (h : n < L .packages) (m : ℕ) (e : m ≡ answer (lookCauses (shortRemove L t n))) where
       at : numberOf L t a ≡ some n
       at = package-some L t a n found h
 

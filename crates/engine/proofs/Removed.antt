@@ -38,15 +38,15 @@ module _ (L : Layout) (img : List ℕ) (a : Aid) (c : Change) where
   -- package number n, its short check k and its draft d
   module _ (ask : Asked L img a c) (n : ℕ) (k : Look) (d : Draft) (early : answer (tableCauses L t a c) ≡ 0) (short-is : shortLook L t a c ≡ k)
       (draft-is : draft L t a c ≡ d) (number-is : numberFor L t a ≡ n) where
-    gives-late : (m : ℕ) → m ≡ answer (lookCauses L k) → (m ≡ 0 → ⊥) → Gives (settled L img a c) m 255 img
+    gives-late : (m : ℕ) → m ≡ answer (lookCauses k) → (m ≡ 0 → ⊥) → Gives (settled L img a c) m 255 img
     gives-late zero e ne = absurd (ne refl)
     gives-late (suc m) e ne =
-        gives (suc m) 255 img (settled-short L img a c (ask .is-sound) (ask .valid) (ask .is-proper) early m (ap (λ (z : Look). answer (lookCauses L z)) short-is ∙ sym e))
+        gives (suc m) 255 img (settled-short L img a c (ask .is-sound) (ask .valid) (ask .is-proper) early m (ap (λ (z : Look). answer (lookCauses z)) short-is ∙ sym e))
 
-    gives-done : (m : ℕ) → m ≡ answer (lookCauses L k) → m ≡ 0 → {img′ : List ℕ} → Wrote L img′ (d .tables) → Gives (settled L img a c) 0 n img′
+    gives-done : (m : ℕ) → m ≡ answer (lookCauses k) → m ≡ 0 → {img′ : List ℕ} → Wrote L img′ (d .tables) → Gives (settled L img a c) 0 n img′
     gives-done m e z {img′} w =
         gives 0 n img′
-        (settled-accepted L img a c (ask .is-sound) (ask .valid) (ask .is-proper) early (ap (λ (z : Look). answer (lookCauses L z)) short-is ∙ sym e ∙ z)
+        (settled-accepted L img a c (ask .is-sound) (ask .valid) (ask .is-proper) early (ap (λ (z : Look). answer (lookCauses z)) short-is ∙ sym e ∙ z)
         ∙ λ i. refusal 0 (number-is i) ((ap (λ (x : Draft). encode L (x .tables)) draft-is ∙ wrote-is L w) i))
 
 -- ---- kind 2
@@ -73,7 +73,7 @@ module _ (L : Layout) (img : List ℕ) (a : Aid) where
     unfolding draft
     remove-draft = ap (λ (o : Option ℕ). orElse o (kept on) (removeAt L on)) e
 
-    module _ (ask : Asked L img a remove) (m : ℕ) (h : m ≡ answer (lookCauses L (shortRemove L on n))) where
+    module _ (ask : Asked L img a remove) (m : ℕ) (h : m ≡ answer (lookCauses (shortRemove L on n))) where
       pub remove-refused : (m ≡ 0 → ⊥) → Gives (settled L img a remove) m 255 img
       remove-refused = gives-late L img a remove ask n (shortRemove L on n) (removeAt L on n) remove-early remove-short remove-draft (number-for n e) m h
 
@@ -113,7 +113,7 @@ module _ (L : Layout) (img : List ℕ) (a : Aid) where
             ap (λ (o : Option ℕ). orElse o (kept on) (λ i. atService L on i s (removeServiceAt L on i))) e
             ∙ ap (λ (o : Option ℕ). orElse o (kept on) (removeServiceAt L on j)) q
 
-        module _ (m : ℕ) (h : m ≡ answer (lookCauses L (shortRemoveService L on j k))) where
+        module _ (m : ℕ) (h : m ≡ answer (lookCauses (shortRemoveService L on j k))) where
           pub service-refused : (m ≡ 0 → ⊥) → Gives (settled L img a (removeService s)) m 255 img
           service-refused =
               gives-late L img a (removeService s) ask j (shortRemoveService L on j k) (removeServiceAt L on j k) service-early service-short service-draft (number-for j e) m h

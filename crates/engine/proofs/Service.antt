@@ -92,7 +92,7 @@ sum-count g (x ∷ l) = go (g x) (sum-count g l)
 
 -- the bits of one service are as many as the packages that have it
 module _ (L : Layout) (t : Tables) (low : L .services ≤ 16) (k : ℕ) (within : k < L .services) where
-  ones-alone : (f : ℕ → ℕ → Bool) → ones L t (λ i z. f i z && eqb z k) ≡ count (λ i. f i k) (numbers L t)
+  ones-alone : (f : ℕ → ℕ → Bool) → ones L t (λ i z. f i z && eqb z k) ≡ count (λ i. f i k) (numbers L)
   ones-alone f =
       sum-ext (λ i. count (λ z. f i z && eqb z k) (upto (L .services))) (λ i. cond (f i k) 1 0) (upto (L .packages)) (λ i _. one-on (f i) k 0 (L .services) (omega arith) (omega arith))
       ∙ sum-count (λ i. f i k) (upto (L .packages))
@@ -101,7 +101,7 @@ module _ (L : Layout) (t : Tables) (low : L .services ≤ 16) (k : ℕ) (within 
     same : (z : ℕ) → z < L .services → bit mask z ≡ eqb z k
     same z h = alone mask k e z (omega arith)
 
-    ones-mask : (f : ℕ → ℕ → Bool) → ones L t (λ i z. f i z && bit mask z) ≡ count (λ i. f i k) (numbers L t)
+    ones-mask : (f : ℕ → ℕ → Bool) → ones L t (λ i z. f i z && bit mask z) ≡ count (λ i. f i k) (numbers L)
     ones-mask f = ones-same L t (bit mask) (λ z. eqb z k) same f ∙ ones-alone f
 
     -- ---- the cause: x counts the needs on service k of package j, and u the unmet calls afterwards
@@ -110,12 +110,12 @@ module _ (L : Layout) (t : Tables) (low : L .services ≤ 16) (k : ℕ) (within 
       look = shortRemoveService L t j k
 
       abbrev unmetRows : ℕ
-      unmetRows = length (t .unmet) + count (λ i. t .calls i j k) (numbers L t)
+      unmetRows = length (t .unmet) + count (λ i. t .calls i j k) (numbers L)
 
       needed-is : eqb x 0 ≡ look .needed
       needed-is = ap (λ (z : ℕ). eqb z 0) (p ∙ ones-mask (λ i z. t .needs i j z)) ∙ none-count (λ i. t .needs i j k) (upto (L .packages))
 
-      pub service-needed : (x ≡ 0 → ⊥) → 9 ≡ answer (lookCauses L (shortRemoveService L t j k))
+      pub service-needed : (x ≡ 0 → ⊥) → 9 ≡ answer (lookCauses (shortRemoveService L t j k))
       service-needed h = at-9 L (look .needed) (look .unmetFits) true (sym needed-is ∙ ne-eqb x 0 h)
 
       module _ (z : x ≡ 0) (all left : ℕ) (q : all ≡ length (t .unmet)) (r : left ≡ ones L t (λ i z. t .calls i j z && bit mask z)) where
@@ -125,17 +125,17 @@ module _ (L : Layout) (t : Tables) (low : L .services ≤ 16) (k : ℕ) (within 
         rows-are : all + left ≡ unmetRows
         rows-are = ap₂ (λ (x y : ℕ). x + y) q (r ∙ ones-mask (λ i z. t .calls i j z))
 
-        pub service-unmet : most < all + left → 10 ≡ answer (lookCauses L (shortRemoveService L t j k))
+        pub service-unmet : most < all + left → 10 ≡ answer (lookCauses (shortRemoveService L t j k))
         service-unmet h = at-10 L (look .needed) (look .unmetFits) true not-needed (fits-not unmetRows (L .capacity) (omega (arith, rows-are)))
 
-        pub service-fine : all + left ≤ most → 0 ≡ answer (lookCauses L (shortRemoveService L t j k))
+        pub service-fine : all + left ≤ most → 0 ≡ answer (lookCauses (shortRemoveService L t j k))
         service-fine h = at-0 L (look .needed) (look .unmetFits) true not-needed (fits-yes unmetRows (L .capacity) (omega (arith, rows-are))) refl
 
 -- an accepted removal has room
-pub service-room : (L : Layout) (t : Tables) (j k m : ℕ) → m ≡ answer (lookCauses L (shortRemoveService L t j k)) → m ≡ 0 → RoomWithoutService L t j k
+pub service-room : (L : Layout) (t : Tables) (j k m : ℕ) → m ≡ answer (lookCauses (shortRemoveService L t j k)) → m ≡ 0 → RoomWithoutService L t j k
 service-room L t j k m e z = let look = shortRemoveService L t j k in leb→le _ (L .capacity) (go (look .needed) (look .unmetFits) (sym z ∙ e))
   where
-    go : (b u : Bool) → 0 ≡ answer (lookCauses L (record { granted = true; needed = b; unmetFits = u; waitingFits = true })) → T u
+    go : (b u : Bool) → 0 ≡ answer (lookCauses (record { granted = true; needed = b; unmetFits = u; waitingFits = true })) → T u
     go true true h = tt
     go true false h = absurd (omega arith)
     go false u h = absurd (omega arith)
@@ -146,7 +146,7 @@ module _ (L : Layout) (low : L .services ≤ 16) (a : Aid) (j k : ℕ) (within :
   t = decode L img
 
   pub called-room : RoomWithoutService L t j k → length (t .unmet) + length (leftRows L t a j (bit mask)) ≤ L .capacity
-  called-room r = let q : length (leftRows L t a j (bit mask)) ≡ count (λ i. t .calls i j k) (numbers L t) = left-length L t a j (bit mask) ∙ ones-mask L t low k within mask e (λ i z. t .calls i j z) in omega arith
+  called-room r = let q : length (leftRows L t a j (bit mask)) ≡ count (λ i. t .calls i j k) (numbers L) = left-length L t a j (bit mask) ∙ ones-mask L t low k within mask e (λ i z. t .calls i j z) in omega arith
 
   rows-same : leftRows L t a j (bit mask) ≡ leftRows L t a j (λ z. eqb z k)
   rows-same = left-same L t (bit mask) (λ z. eqb z k) (same L t low k within mask e) a j
@@ -188,7 +188,7 @@ module _ (L : Layout) (img : List ℕ) (a : Aid) (s : Tok) (ask : Asked L img a 
     says-missing l number second v = gives-as number second (v .0) (v .1) (service-missing L img a s ask j at (service-none L on j s k served l))
 
     -- m is the cause that the check gave
-    module _ (l : k < L .services) (m : ℕ) (e : m ≡ answer (lookCauses L (shortRemoveService L on j k))) where
+    module _ (l : k < L .services) (m : ℕ) (e : m ≡ answer (lookCauses (shortRemoveService L on j k))) where
       spot : serviceOf L on j s ≡ some k
       spot = service-some L on j s k served l
 

@@ -135,7 +135,7 @@ module _ (L : Layout) (img : List ℕ) (a : Aid) where
     -- the outcome on package j: whether it has the service, and its free service number
     abbrev outcome : ℕ → Bool → Option ℕ → Look → Out
     outcome j had free k =
-        judged L img j (orElse free (kept t) (λ k. addServiceAt L t j k s l) .tables) (firstOf (answer (6 when had ∷ 7 when not (isSome free) ∷ [])) (answer (lookCauses L k)))
+        judged L img j (orElse free (kept t) (λ k. addServiceAt L t j k s l) .tables) (firstOf (answer (6 when had ∷ 7 when not (isSome free) ∷ [])) (answer (lookCauses k)))
 
     abbrev planned : ℕ → Option ℕ → Option ℕ → Look → Adding
     planned j had free k = orElse had (orElse free (Refuse 7) (λ n. cond (k .granted) (cond (k .waitingFits) (Add j n) (Refuse 11)) (Refuse 8))) (λ n. Refuse 6)
@@ -162,7 +162,7 @@ module _ (L : Layout) (img : List ℕ) (a : Aid) where
         go : (o : Option ℕ) → NumberIs t a o → judged L img (orElse o (orElse (freeNumber L t) 255 (λ n. n)) (λ n. n))
             (orElse o (kept t) (λ j. orElse (freeService L t j) (kept t) (λ k. addServiceAt L t j k s l)) .tables)
             (firstOf (answer (5 when not (isSome o) ∷ 6 when orElse o false (λ j. hasTok s (contractAt L t j .provides)) ∷ 7 when orElse o false (λ j. not (isSome (freeService L t j))) ∷ []))
-            (answer (lookCauses L (orElse o fine (λ j. shortAddService L t j s l)))))
+            (answer (lookCauses (orElse o fine (λ j. shortAddService L t j s l)))))
             ≡ addingDone L img a s l (orElse o (Refuse 5) (λ j. planned j (serviceOf L t j s) (freeService L t j) (looked a)))
         go none h = refl
         go (some j) h =

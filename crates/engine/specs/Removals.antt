@@ -59,7 +59,7 @@ module _ (L : Layout) (t : Tables) where
   -- ---- kind 4: service k of package j goes
   -- the unmet calls have room for those of its callers
   abbrev pub RoomWithoutService : ℕ → ℕ → Type 0
-  RoomWithoutService j k = length (t .unmet) + count (λ i. t .calls i j k) (numbers L t) ≤ L .capacity
+  RoomWithoutService j k = length (t .unmet) + count (λ i. t .calls i j k) (numbers L) ≤ L .capacity
 
   -- the lists changed; the package's AID is a
   abbrev pub listsWithoutService : Aid → ℕ → ℕ → Tables

@@ -223,26 +223,6 @@ fn meet_rows(img: &mut [u8], c: Card, asking: u32, j: usize, k: usize)
     }
 }
 
-// The unmet calls that ask for service k of package j become call bits.
-pub fn meet_calls(
-    img: &mut [u8],
-    c: Card,
-    own: &[u8],
-    interface: u8,
-    method: u8,
-    j: usize,
-    k: usize,
-)
-    requires laid { ⌜ Laid (layoutOf c) (now img) ⌝ }
-    requires by { ⌜ CallersIn (layoutOf c) (decode (layoutOf c) (now img) .unmet) ⌝ }
-    requires numbers { ⌜ (j < layoutOf c .packages) × (k < layoutOf c .services) ⌝ }
-    ensures { λ _. ⌜ Wrote (layoutOf c) (now (img .exit)) (met (asks (now (own .entry)) (tokens interface method)) j k
-        (decode (layoutOf c) (now (img .entry)) .unmet) (decode (layoutOf c) (now (img .entry)))) ⌝ }
-{
-    let asking = image::lists::asking(img, c, own, interface, method);
-    meet_rows(img, c, asking, j, k);
-}
-
 // Package j provides service k with these tokens.
 pub fn open_service(img: &mut [u8], c: Card, j: usize, k: usize, interface: u8, method: u8)
     requires laid { ⌜ Laid (layoutOf c) (now img) ⌝ }

@@ -23,21 +23,21 @@ use Rattle.policy.proofs.Facts.{place-in, bit-in, need-bits}
 module _ (L : Layout) (t : Tables) where
   -- ---- the bits of a package's row, read as rows of its contract
   abbrev bitRows : (ℕ → ℕ → Row) → (ℕ → ℕ → Bool) → List Row
-  bitRows name b = pairs name b (places L t) (numbers L t)
+  bitRows name b = pairs name b (places L) (numbers L)
 
   module _ (name : ℕ → ℕ → Row) (b : ℕ → ℕ → Bool) where
     bits-in : {r : Row} → In r (bitRows name b) → (j : ℕ) × (k : ℕ) × T (b j k) × (r ≡ name j k)
-    bits-in = pairs-in name b (places L t) (numbers L t)
+    bits-in = pairs-in name b (places L) (numbers L)
 
     in-bits : (j k : ℕ) → (j < L .packages) × (k < L .services) → T (b j k) → In (name j k) (bitRows name b)
-    in-bits j k l = in-pairs name b (places L t) (numbers L t) j k (in-upto (L .packages) j (l .0)) (in-upto (L .services) k (l .1))
+    in-bits j k l = in-pairs name b (places L) (numbers L) j k (in-upto (L .packages) j (l .0)) (in-upto (L .services) k (l .1))
 
     once-bits : ((j k j′ k′ : ℕ) → T (b j k) → T (b j′ k′) → name j k ≡ name j′ k′ → (j ≡ j′) × (k ≡ k′)) → NoRepeat (bitRows name b)
-    once-bits = once-pairs name b (places L t) (numbers L t) (once-upto (L .services)) (once-upto (L .packages))
+    once-bits = once-pairs name b (places L) (numbers L) (once-upto (L .services)) (once-upto (L .packages))
 
   -- ---- the services of package n, as a set
   abbrev pub provided : ℕ → List Tok
-  provided n = map (t .tok n) (keep (t .provides n) (places L t))
+  provided n = map (t .tok n) (keep (t .provides n) (places L))
 
   module _ (names : Names L (t .used) (t .aid) (t .tok) (t .provides)) (n : ℕ) where
     pub provided-in : (s : Tok) → In s (provided n) ↔ ProvidesAt t n s
@@ -45,16 +45,16 @@ module _ (L : Layout) (t : Tables) where
       where
         to : In s (provided n) → ProvidesAt t n s
         to m =
-            let p = map-in (t .tok n) (keep (t .provides n) (places L t)) m in
-            ProvidesAt.at (p .0) (keep-in (t .provides n) (places L t) (p .1) .1) (p .2)
+            let p = map-in (t .tok n) (keep (t .provides n) (places L)) m in
+            ProvidesAt.at (p .0) (keep-in (t .provides n) (places L) (p .1) .1) (p .2)
 
         of : ProvidesAt t n s → In s (provided n)
         of (ProvidesAt.at k h e) = in-cast e (in-map (t .tok n) (in-keep (t .provides n) (in-upto (L .services) k (names .prov-lt n k h)) h))
 
     pub once-provided : NoRepeat (provided n)
-    once-provided = once-map (t .tok n) (keep (t .provides n) (places L t))
-        (λ k l p q e. names .tok-inj n k l (keep-in (t .provides n) (places L t) p .1) (keep-in (t .provides n) (places L t) q .1) e)
-        (once-keep (t .provides n) (places L t) (once-upto (L .services)))
+    once-provided = once-map (t .tok n) (keep (t .provides n) (places L))
+        (λ k l p q e. names .tok-inj n k l (keep-in (t .provides n) (places L) p .1) (keep-in (t .provides n) (places L) q .1) e)
+        (once-keep (t .provides n) (places L) (once-upto (L .services)))
 
   module _ (formed : Formed L t) (n : ℕ) where
     -- ---- as facts: what package n provides, calls, grants and needs
@@ -233,13 +233,13 @@ module _ (L : Layout) (t : Tables) where
     no-others = λ n u. (contractAt L t n, in-map (contractAt L t) (in-keep (t .used) (in-upto (L .packages) n (formed .names .used-lt n u)) u), refl);
     one-each = once-map (λ c. c .aid) (map (contractAt L t) (usedNumbers L t)) one
         (once-map (contractAt L t) (usedNumbers L t)
-        (λ i j p q e. formed .names .aid-inj i j (keep-in (t .used) (numbers L t) p .1) (keep-in (t .used) (numbers L t) q .1) (ap (λ (z : Contract). z .aid) e))
-        (once-keep (t .used) (numbers L t) (once-upto (L .packages))));
+        (λ i j p q e. formed .names .aid-inj i j (keep-in (t .used) (numbers L) p .1) (keep-in (t .used) (numbers L) q .1) (ap (λ (z : Contract). z .aid) e))
+        (once-keep (t .used) (numbers L) (once-upto (L .packages))));
     four-sets = λ c m. let p = number m in subst FourSets (sym (p .2)) (four-sets-at formed (p .0) (p .1));
   }
     where
       number : {c : Contract} → In c (map (contractAt L t) (usedNumbers L t)) → (n : ℕ) × T (t .used n) × (c ≡ contractAt L t n)
-      number m = let p = map-in (contractAt L t) (usedNumbers L t) m in (p .0, keep-in (t .used) (numbers L t) (p .1) .1, p .2)
+      number m = let p = map-in (contractAt L t) (usedNumbers L t) m in (p .0, keep-in (t .used) (numbers L) (p .1) .1, p .2)
 
       one : (c d : Contract) → In c (map (contractAt L t) (usedNumbers L t)) → In d (map (contractAt L t) (usedNumbers L t)) → c .aid ≡ d .aid → c ≡ d
       one c d m l e =

@@ -23,19 +23,19 @@ module _ (L : Layout) (t : Tables) (names : Names L (t .used) (t .aid) (t .tok) 
     (b : ℕ → ℕ → ℕ → Bool) (bits : Bits (t .used) (t .provides) b) where
   pub left-in : {u : Unmet} → In u (leftBy L t b j d) → (i : ℕ) × (k : ℕ) × T (b i j k) × T (d k) × (u ≡ callRow i (serviceAt t j k))
   left-in m =
-      let p = pairs-in (λ i k. callRow i (serviceAt t j k)) (λ i k. b i j k && d k) (places L t) (numbers L t) m in
+      let p = pairs-in (λ i k. callRow i (serviceAt t j k)) (λ i k. b i j k && d k) (places L) (numbers L) m in
       (p .0, p .1, and-l (b (p .0) j (p .1)) (d (p .1)) (p .2), and-r (b (p .0) j (p .1)) (d (p .1)) (p .2), p .3)
 
   pub in-left-by : (i k : ℕ) → T (b i j k) → T (d k) → In (callRow i (serviceAt t j k)) (leftBy L t b j d)
   in-left-by i k h g =
       let l = bit-in L t names bits i j k h in
-      in-pairs (λ i k. callRow i (serviceAt t j k)) (λ i k. b i j k && d k) (places L t) (numbers L t) i k
+      in-pairs (λ i k. callRow i (serviceAt t j k)) (λ i k. b i j k && d k) (places L) (numbers L) i k
       (in-upto (L .packages) i (l .0)) (in-upto (L .services) k (l .2))
       (and-i (b i j k) (d k) h g)
 
   pub once-left : NoRepeat (leftBy L t b j d)
   once-left =
-      once-pairs (λ i k. callRow i (serviceAt t j k)) (λ i k. b i j k && d k) (places L t) (numbers L t) (once-upto (L .services)) (once-upto (L .packages))
+      once-pairs (λ i k. callRow i (serviceAt t j k)) (λ i k. b i j k && d k) (places L) (numbers L) (once-upto (L .services)) (once-upto (L .packages))
       (λ i k i′ k′ h g e. (
         ap (λ (u : Unmet). u .caller) e,
         names .tok-inj j k k′ (bits .of-prov i j k (and-l (b i j k) (d k) h)) (bits .of-prov i′ j k′ (and-l (b i′ j k′) (d k′) g)) (ap (λ (u : Unmet). u .tok) e),

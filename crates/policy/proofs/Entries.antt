@@ -106,7 +106,7 @@ module _ (L : Layout) where
   checking : (img : List ℕ) → ((check L img .answered ≡ 0) × (check L img .second ≤ L .packages) × (check L img .bytes ≡ img)) ⊎ RefusesWith (1 ∷ []) 255 img (check L img)
   unfolding check
   checking img = by-test (λ (o : Out). ((o .answered ≡ 0) × (o .second ≤ L .packages) × (o .bytes ≡ img)) ⊎ RefusesWith (1 ∷ []) 255 img o) _ _ (sound L img)
-      (λ _. inl (refl, (let a = length-keep (decode L img .used) (numbers L (decode L img)) in let b = length-from 0 (L .packages) in omega arith), refl))
+      (λ _. inl (refl, (let a = length-keep (decode L img .used) (numbers L) in let b = length-from 0 (L .packages) in omega arith), refl))
       (λ _. inr (1, here refl, refl))
 
   emptying : (b : List ℕ) → ((writeEmpty L b ≡ record { answered = 0; second = 0; bytes = emptyImage L }) × (length b ≡ size L)) ⊎ RefusesWith (1 ∷ []) 255 b (writeEmpty L b)

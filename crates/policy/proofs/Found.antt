@@ -48,20 +48,20 @@ module _ (L : Layout) (t : Tables) where
   module _ (names : Names L (t .used) (t .aid) (t .tok) (t .provides)) where
     pub number-is : (a : Aid) → NumberIs t a (numberOf L t a)
     unfolding numberOf
-    number-is a = go (numberOf L t a) (found test (numbers L t))
+    number-is a = go (numberOf L t a) (found test (numbers L))
       where
         test : ℕ → Bool
         test n = t .used n && eqAid (t .aid n) a
 
-        go : (o : Option ℕ) → Found (λ n. t .used n && eqAid (t .aid n) a) (numbers L t) o → NumberIs t a o
+        go : (o : Option ℕ) → Found (λ n. t .used n && eqAid (t .aid n) a) (numbers L) o → NumberIs t a o
         go none h = λ n u e. h n (in-upto (L .packages) n (names .used-lt n u)) (and-i (t .used n) (eqAid (t .aid n) a) u (eqAid-of e))
         go (some n) h = (and-l (t .used n) (eqAid (t .aid n) a) (h .1), eqAid→ (t .aid n) a (and-r (t .used n) (eqAid (t .aid n) a) (h .1)))
 
     pub service-is : (j : ℕ) (s : Tok) → ServiceIs t j s (serviceOf L t j s)
     unfolding serviceOf
-    service-is j s = go (serviceOf L t j s) (found (λ k. t .provides j k && eqTok (t .tok j k) s) (places L t))
+    service-is j s = go (serviceOf L t j s) (found (λ k. t .provides j k && eqTok (t .tok j k) s) (places L))
       where
-        go : (o : Option ℕ) → Found (λ k. t .provides j k && eqTok (t .tok j k) s) (places L t) o → ServiceIs t j s o
+        go : (o : Option ℕ) → Found (λ k. t .provides j k && eqTok (t .tok j k) s) (places L) o → ServiceIs t j s o
         go none h = λ k u e. h k (in-upto (L .services) k (names .prov-lt j k u)) (and-i (t .provides j k) (eqTok (t .tok j k) s) u (eqTok-of e))
         go (some k) h = (and-l (t .provides j k) (eqTok (t .tok j k) s) (h .1), eqTok→ (t .tok j k) s (and-r (t .provides j k) (eqTok (t .tok j k) s) (h .1)))
 

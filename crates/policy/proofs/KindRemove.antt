@@ -114,7 +114,7 @@ module _ (L : Layout) (t : Tables) (fm : Formed L t) (n : ℕ) (un : T (t .used 
   waitFor j k = record { caller = t .aid n; callee = j; service = k }
 
   abbrev nowWait : List Waiting
-  nowWait = pairs waitFor (λ j. t .grants j n) (places L t) (numbers L t)
+  nowWait = pairs waitFor (λ j. t .grants j n) (places L) (numbers L)
 
   -- ---- waiting grants: old ones of other packages, and the grants to n
   wait-old : {w : Waiting} → In w stayW → In w (t .waiting) × (w .callee ≡ n → ⊥)
@@ -123,7 +123,7 @@ module _ (L : Layout) (t : Tables) (fm : Formed L t) (n : ℕ) (un : T (t .used 
       (p .0, λ e. not-e (eqb (w .callee) n) (p .1) (eqb-of e))
 
   wait-new : {w : Waiting} → In w nowWait → (j : ℕ) × (k : ℕ) × T (t .grants j n k) × (w ≡ waitFor j k)
-  wait-new m = pairs-in waitFor (λ j. t .grants j n) (places L t) (numbers L t) m
+  wait-new m = pairs-in waitFor (λ j. t .grants j n) (places L) (numbers L) m
 
   -- a grant to n is another's
   grantor : (j k : ℕ) → T (t .grants j n k) → j ≡ n → ⊥
@@ -143,7 +143,7 @@ module _ (L : Layout) (t : Tables) (fm : Formed L t) (n : ℕ) (un : T (t .used 
         (λ w m ne. prov-i (w .callee) (w .service) (fm .waiting .wait-prov w m) ne)
         (λ j k h. prov-i j k (fm .grants .of-prov n j k h) (grantor j k h));
     wait-once = once-append stayW nowWait (once-keep (λ v. not (eqb (v .callee) n)) (t .waiting) (fm .waiting .wait-once))
-        (once-pairs waitFor (λ j. t .grants j n) (places L t) (numbers L t) (once-upto (L .services)) (once-upto (L .packages))
+        (once-pairs waitFor (λ j. t .grants j n) (places L) (numbers L) (once-upto (L .services)) (once-upto (L .packages))
         (λ j k j′ k′ _ _ e. (ap (λ (w : Waiting). w .callee) e, ap (λ (w : Waiting). w .service) e)))
         (λ w m o. fm .waiting .wait-off w (wait-old m .0) n un (sym (ap (λ (v : Waiting). v .caller) (wait-new o .3))));
   }
@@ -163,7 +163,7 @@ module _ (L : Layout) (t : Tables) (fm : Formed L t) (n : ℕ) (un : T (t .used 
             let g : T (t .grants m n k) = subst (λ (x : ℕ). T (t .grants m x k)) ei h in
             let l = place-in L t (fm .names) m k (fm .grants .of-prov n m k g) in
             row k (in-right stayW (in-cast (λ z. record { caller = (e ∙ ap (t .aid) ei) z; callee = m; service = k })
-            (in-pairs waitFor (λ j. t .grants j n) (places L t) (numbers L t) m k
+            (in-pairs waitFor (λ j. t .grants j n) (places L) (numbers L) m k
             (in-upto (L .packages) m (l .0)) (in-upto (L .services) k (l .1)) g)))
             (f ∙ sym (tok-same m k ne))
         go (inr q) =

@@ -34,7 +34,7 @@ module _ {A : Type 0} (P : A → Type 0) where
   reads-given true p s h = h tt
   reads-given false p s h = tt
 
-  reads-whole : (L : Layout) (x : Got A) → Reads x → Parses (whole L x)
+  reads-whole : (L : Layout) (x : Got A) → Reads x → Parses (whole x)
   reads-whole L (got a []) h = h
   reads-whole L (got a (b ∷ s)) h = tt
   reads-whole L bad h = tt

@@ -61,13 +61,13 @@ module _ (L : Layout) (lo : LayoutOk L) (t : Tables) (g : Formed L t) (fit : Fit
     empty-keep (k ∷ l) = cond-false (b n k) (k ∷ keep (b n) l) (keep (b n) l) (diagonal k) ∙ empty-keep l
 
     abbrev bits : List Row
-    bits = pairs name b (places L t) (numbers L t)
+    bits = pairs name b (places L) (numbers L)
 
     bits-length : length bits ≤ (L .packages - 1) * L .services
     bits-length =
-        let h = length-flat-but (λ j. map (name j) (keep (b j) (places L t))) (L .services)
-        (λ j. let a = length-map (keep (b j) (places L t)) (name j) in let k = length-keep (b j) (places L t) in let u = length-from 0 (L .services) in omega arith)
-        n (ap (λ (z : List ℕ). map (name n) z) (empty-keep (places L t))) (numbers L t) (in-upto (L .packages) n (g .names .used-lt n un)) in
+        let h = length-flat-but (λ j. map (name j) (keep (b j) (places L))) (L .services)
+        (λ j. let a = length-map (keep (b j) (places L)) (name j) in let k = length-keep (b j) (places L) in let u = length-from 0 (L .services) in omega arith)
+        n (ap (λ (z : List ℕ). map (name n) z) (empty-keep (places L))) (numbers L) (in-upto (L .packages) n (g .names .used-lt n un)) in
         subst (λ (z : ℕ). length bits ≤ (z - 1) * L .services) (length-from 0 (L .packages)) h
 
     -- with the rows of a list behind the bits
@@ -84,8 +84,8 @@ module _ (L : Layout) (lo : LayoutOk L) (t : Tables) (g : Formed L t) (fit : Fit
   provides-length : length (c .provides) ≤ L .services
   unfolding contractAt
   provides-length =
-      let a = length-map (keep (t .provides n) (places L t)) (t .tok n) in
-      let k = length-keep (t .provides n) (places L t) in
+      let a = length-map (keep (t .provides n) (places L)) (t .tok n) in
+      let k = length-keep (t .provides n) (places L) in
       let u = length-from 0 (L .services) in
       omega arith
 

@@ -44,7 +44,7 @@ module _ (L : Layout) (img : List ℕ) where
   byProper q b =
       let t = decode L img in
       let d = draft L t (q .aid) (q .change) in
-      judged L img (numberFor L t (q .aid)) (d .tables) (answer (3 when not b ∷ tableCauses L t (q .aid) (q .change) ++ lookCauses L (look L d)))
+      judged L img (numberFor L t (q .aid)) (d .tables) (answer (3 when not b ∷ tableCauses L t (q .aid) (q .change) ++ lookCauses (look L d)))
 
   pub judge-improper : (s : List ℕ) (q : Request) → T (sound L img) → parse L s ≡ some q → proper (q .aid) (q .change) ≡ false → judge L img s ≡ refusal 3 255 img
   judge-improper s q ok e h = judge-read s ok (some q) e ∙ ap (byProper q) h
@@ -78,35 +78,35 @@ module _ (L : Layout) (img : List ℕ) (a : Aid) (c : Change) where
   abbrev byAnswers : ℕ → ℕ → Out
   byAnswers early late = judged L img (numberFor L (decode L img) a) (d .tables) (orThen early late)
 
-  settled-is : settled L img a c ≡ byAnswers (answer (tableCauses L (decode L img) a c)) (answer (lookCauses L (look L d)))
+  settled-is : settled L img a c ≡ byAnswers (answer (tableCauses L (decode L img) a c)) (answer (lookCauses (look L d)))
   unfolding settled
   settled-is = ap (judged L img (numberFor L (decode L img) a) (d .tables))
-      (answer-both 3 (tableCauses L (decode L img) a c) (lookCauses L (look L d)) (judge-ascends L (decode L img) a false c))
+      (answer-both 3 (tableCauses L (decode L img) a c) (lookCauses (look L d)) (judge-ascends L (decode L img) a false c))
 
   -- a cause from 4 to 7 stands alone
   pub settled-refused : (n : ℕ) → answer (tableCauses L (decode L img) a c) ≡ suc n → settled L img a c ≡ refusal (suc n) 255 img
-  settled-refused n e = settled-is ∙ ap (λ (k : ℕ). byAnswers k (answer (lookCauses L (look L d)))) e
+  settled-refused n e = settled-is ∙ ap (λ (k : ℕ). byAnswers k (answer (lookCauses (look L d)))) e
 
   -- none of them applies: the short check of causes 8 to 11 is the full look
   module _ (ok : T (sound L img)) (vc : Valid L c) (pr : T (proper a c)) (none-early : answer (tableCauses L (decode L img) a c) ≡ 0) where
     short : look L d ≡ shortLook L (decode L img) a c
     short = kinds c .1 L (decode L img) a (sound-formed L img ok) (sound-lawful L img ok) (sound-fitting L img ok) vc pr none-early
 
-    settled-late : (n : ℕ) → answer (lookCauses L (shortLook L (decode L img) a c)) ≡ n → settled L img a c ≡ byAnswers 0 n
-    settled-late n e = settled-is ∙ (λ i. byAnswers (none-early i) (answer (lookCauses L (short i)))) ∙ ap (byAnswers 0) e
+    settled-late : (n : ℕ) → answer (lookCauses (shortLook L (decode L img) a c)) ≡ n → settled L img a c ≡ byAnswers 0 n
+    settled-late n e = settled-is ∙ (λ i. byAnswers (none-early i) (answer (lookCauses (short i)))) ∙ ap (byAnswers 0) e
 
-    pub settled-short : (n : ℕ) → answer (lookCauses L (shortLook L (decode L img) a c)) ≡ suc n → settled L img a c ≡ refusal (suc n) 255 img
+    pub settled-short : (n : ℕ) → answer (lookCauses (shortLook L (decode L img) a c)) ≡ suc n → settled L img a c ≡ refusal (suc n) 255 img
     settled-short n e = settled-late (suc n) e
 
-    pub settled-accepted : answer (lookCauses L (shortLook L (decode L img) a c)) ≡ 0
+    pub settled-accepted : answer (lookCauses (shortLook L (decode L img) a c)) ≡ 0
         → settled L img a c ≡ record { answered = 0; second = numberFor L (decode L img) a; bytes = encode L (draft L (decode L img) a c .tables) }
     settled-accepted e = settled-late 0 e
 
   -- after acceptance the draft's tables are formed and fit
   pub accepted-formed : T (sound L img) → T (validAid a) → Valid L c → T (proper a c) → answer (tableCauses L (decode L img) a c) ≡ 0
-      → answer (lookCauses L (shortLook L (decode L img) a c)) ≡ 0 → Formed L (draft L (decode L img) a c .tables) × Fitting L (draft L (decode L img) a c .tables)
+      → answer (lookCauses (shortLook L (decode L img) a c)) ≡ 0 → Formed L (draft L (decode L img) a c .tables) × Fitting L (draft L (decode L img) a c .tables)
   accepted-formed ok va vc pr none-early e =
       let t = decode L img in
       let g = sound-formed L img ok in
       let h = kinds c .0 L t (map (contractAt L t) (usedNumbers L t)) a g (stands-self L t g) va vc pr none-early in
-      (h .formed, accepted L d (h .formed) (ap (λ (k : Look). answer (lookCauses L k)) (short ok vc pr none-early) ∙ e) .1)
+      (h .formed, accepted L d (h .formed) (ap (λ (k : Look). answer (lookCauses k)) (short ok vc pr none-early) ∙ e) .1)

@@ -62,16 +62,16 @@ module _ (L : Layout) (t : Tables) where
   -- ---- how many rows the bits on package j leave
   left-all : (b : ℕ → ℕ → ℕ → Bool) (j : ℕ) → length (leftBy L t b j (λ z. true)) ≡ ones L t (λ i k. b i j k)
   left-all b j =
-      length-pairs (λ i k. callRow i (serviceAt t j k)) (λ i k. b i j k && true) (places L t) (numbers L t)
-      ∙ (λ z. sum (λ i. count (λ k. and-true (b i j k) z) (places L t)) (numbers L t))
+      length-pairs (λ i k. callRow i (serviceAt t j k)) (λ i k. b i j k && true) (places L) (numbers L)
+      ∙ (λ z. sum (λ i. count (λ k. and-true (b i j k) z) (places L)) (numbers L))
 
   module _ (fm : Formed L t) where
     -- and those on its service k: one for each caller
-    left-one : (b : ℕ → ℕ → ℕ → Bool) → Bits (t .used) (t .provides) b → (j k : ℕ) → length (leftBy L t b j (λ z. eqb z k)) ≡ count (λ i. b i j k) (numbers L t)
+    left-one : (b : ℕ → ℕ → ℕ → Bool) → Bits (t .used) (t .provides) b → (j k : ℕ) → length (leftBy L t b j (λ z. eqb z k)) ≡ count (λ i. b i j k) (numbers L)
     left-one b bits j k =
-        same-length (leftBy L t b j (λ z. eqb z k)) (map row (keep callers (numbers L t))) (once-left L t (fm .names) j (λ z. eqb z k) b bits)
-        (once-map row (keep callers (numbers L t)) (λ x y _ _ e. ap (λ (u : Unmet). u .caller) e) (once-keep callers (numbers L t) (once-upto (L .packages)))) to fro
-        ∙ length-map (keep callers (numbers L t)) row
+        same-length (leftBy L t b j (λ z. eqb z k)) (map row (keep callers (numbers L))) (once-left L t (fm .names) j (λ z. eqb z k) b bits)
+        (once-map row (keep callers (numbers L)) (λ x y _ _ e. ap (λ (u : Unmet). u .caller) e) (once-keep callers (numbers L) (once-upto (L .packages)))) to fro
+        ∙ length-map (keep callers (numbers L)) row
       where
         row : ℕ → Unmet
         row i = callRow i (serviceAt t j k)
@@ -79,28 +79,28 @@ module _ (L : Layout) (t : Tables) where
         callers : ℕ → Bool
         callers i = b i j k
 
-        to : (u : Unmet) → In u (leftBy L t b j (λ z. eqb z k)) → In u (map row (keep callers (numbers L t)))
+        to : (u : Unmet) → In u (leftBy L t b j (λ z. eqb z k)) → In u (map row (keep callers (numbers L)))
         to u m =
             let p = left-in L t (fm .names) j (λ z. eqb z k) b bits m in
             let e : p .1 ≡ k = eqb→eq (p .1) k (p .3) in
             in-cast (p .4 ∙ ap (λ (z : ℕ). callRow (p .0) (serviceAt t j z)) e)
             (in-map row (in-keep callers (in-upto (L .packages) (p .0) (fm .names .used-lt (p .0) (bits .by-used (p .0) j (p .1) (p .2)))) (subst (λ (z : ℕ). T (b (p .0) j z)) e (p .2))))
 
-        fro : (u : Unmet) → In u (map row (keep callers (numbers L t))) → In u (leftBy L t b j (λ z. eqb z k))
+        fro : (u : Unmet) → In u (map row (keep callers (numbers L))) → In u (leftBy L t b j (λ z. eqb z k))
         fro u m =
-            let p = map-in row (keep callers (numbers L t)) m in
-            in-cast (p .2) (in-left-by L t (fm .names) j (λ z. eqb z k) b bits (p .0) k (keep-in callers (numbers L t) (p .1) .1) (eqb-refl k))
+            let p = map-in row (keep callers (numbers L)) m in
+            in-cast (p .2) (in-left-by L t (fm .names) j (λ z. eqb z k) b bits (p .0) k (keep-in callers (numbers L) (p .1) .1) (eqb-refl k))
 
     module _ (law : Lawful t) where
       -- ---- kind 2
       look-removed : (n : ℕ) → T (t .used n) → look L (removeAt L t n) ≡ shortRemove L t n
       look-removed n un = look-is L (removeAt L t n)
           (granted L (removeAt L t n .tables) (lawful-dropped L t (removeAt L t n .tables) n (λ x. true) (keep byOther (t .unmet)) fm (dropping-2 L t fm n un) law))
-          (nil-length (leftBy L t (t .needs) n (λ x. true)) ∙ ap isZero (left-all (t .needs) n) ∙ none-sum (λ i. count (t .needs i n) (places L t)) (numbers L t)
-          ∙ (λ y. every (λ i. none-pass (t .needs i n) (places L t) y) (numbers L t)))
+          (nil-length (leftBy L t (t .needs) n (λ x. true)) ∙ ap isZero (left-all (t .needs) n) ∙ none-sum (λ i. count (t .needs i n) (places L)) (numbers L)
+          ∙ (λ y. every (λ i. none-pass (t .needs i n) (places L) y) (numbers L)))
           (fits-as L (length-append (keep byOther (t .unmet)) (leftBy L t (t .calls) n (λ x. true)) ∙ ap (λ (x : ℕ). count byOther (t .unmet) + x) (left-all (t .calls) n)))
-          (fits-as L (length-append (keep ofOther (t .waiting)) (pairs waitFor (λ j. t .grants j n) (places L t) (numbers L t))
-          ∙ ap (λ (x : ℕ). count ofOther (t .waiting) + x) (length-pairs waitFor (λ j. t .grants j n) (places L t) (numbers L t))))
+          (fits-as L (length-append (keep ofOther (t .waiting)) (pairs waitFor (λ j. t .grants j n) (places L) (numbers L))
+          ∙ ap (λ (x : ℕ). count ofOther (t .waiting) + x) (length-pairs waitFor (λ j. t .grants j n) (places L) (numbers L))))
         where
           byOther : Unmet → Bool
           byOther u = not (eqb (u .caller) n)
@@ -115,7 +115,7 @@ module _ (L : Layout) (t : Tables) where
       look-dropped : Fitting L t → (j k : ℕ) → T (t .provides j k) → look L (removeServiceAt L t j k) ≡ shortRemoveService L t j k
       look-dropped fit j k pk = look-is L (removeServiceAt L t j k)
           (granted L (removeServiceAt L t j k .tables) (lawful-dropped L t (removeServiceAt L t j k .tables) j (λ x. eqb x k) (t .unmet) fm (dropping-4 L t fm j k pk) law))
-          (nil-length (leftBy L t (t .needs) j (λ x. eqb x k)) ∙ ap isZero (left-one (t .needs) (need-bits L t fm) j k) ∙ none-pass (λ i. t .needs i j k) (numbers L t))
+          (nil-length (leftBy L t (t .needs) j (λ x. eqb x k)) ∙ ap isZero (left-one (t .needs) (need-bits L t fm) j k) ∙ none-pass (λ i. t .needs i j k) (numbers L))
           (fits-as L (length-append (t .unmet) (leftBy L t (t .calls) j (λ x. eqb x k)) ∙ ap (λ (x : ℕ). length (t .unmet) + x) (left-one (t .calls) (fm .calls) j k)))
           (fits L (count stays (t .waiting)) (le-trans (length-keep stays (t .waiting)) (fit .waiting-fits)))
         where

@@ -150,7 +150,7 @@ module _ (L : Layout) (t : Tables) where
   aidsDiffer = distinct eqAid (map (t .aid) (usedNumbers L t))
 
   abbrev toksDiffer : ℕ → Bool
-  toksDiffer j = distinct eqTok (map (t .tok j) (keep (t .provides j) (places L t)))
+  toksDiffer j = distinct eqTok (map (t .tok j) (keep (t .provides j) (places L)))
 
   abbrev aidBlank : ℕ → Bool
   aidBlank n = t .used n || isNil (t .aid n)
@@ -162,16 +162,16 @@ module _ (L : Layout) (t : Tables) where
   provUsed j k = implies (t .provides j k) (t .used j)
 
   abbrev everyNumber : (ℕ → Bool) → Bool
-  everyNumber f = every f (numbers L t)
+  everyNumber f = every f (numbers L)
 
   abbrev everyPlace : (ℕ → ℕ → Bool) → Bool
-  everyPlace f = every (λ j. every (f j) (places L t)) (numbers L t)
+  everyPlace f = every (λ j. every (f j) (places L)) (numbers L)
 
   place-to : (f : ℕ → ℕ → Bool) → T (everyPlace f) → (j k : ℕ) → j < L .packages → k < L .services → T (f j k)
-  place-to f h j k a b = below-in (f j) (L .services) (below-in (λ j. every (f j) (places L t)) (L .packages) h j a) k b
+  place-to f h j k a b = below-in (f j) (L .services) (below-in (λ j. every (f j) (places L)) (L .packages) h j a) k b
 
   place-back : (f : ℕ → ℕ → Bool) → ((j k : ℕ) → T (f j k)) → T (everyPlace f)
-  place-back f h = in-below (λ j. every (f j) (places L t)) (L .packages) (λ j. in-below (f j) (L .services) (h j))
+  place-back f h = in-below (λ j. every (f j) (places L)) (L .packages) (λ j. in-below (f j) (L .services) (h j))
 
   names-to : InRange L t → T (aidsOk L t) → T (tokensOk L t) → T (blanksOk L t) → Names L (t .used) (t .aid) (t .tok) (t .provides)
   unfolding aidsOk tokensOk blanksOk
@@ -197,7 +197,7 @@ module _ (L : Layout) (t : Tables) where
     aids-back : T (aidsOk L t)
     unfolding aidsOk
     aids-back = and-i aidsValid aidsDiffer
-        (in-every (λ n. validAid (t .aid n)) (usedNumbers L t) (λ x m. n .aid-valid x (keep-in (t .used) (numbers L t) m .1)))
+        (in-every (λ n. validAid (t .aid n)) (usedNumbers L t) (λ x m. n .aid-valid x (keep-in (t .used) (numbers L) m .1)))
         (differ-back eqAid eqAid→ eqAid-refl (t .aid) (t .used) (L .packages) (n .aid-inj))
 
     tokens-back : T (tokensOk L t)

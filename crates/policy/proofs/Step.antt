@@ -54,7 +54,7 @@ image-stands L lo t cs g w fit st =
 
 -- ---- an accepted draft
 -- no cause from 8 on: the tables are lawful and fit, and no need is lost
-pub accepted : (L : Layout) (d : Draft) → Formed L (d .tables) → answer (lookCauses L (look L d)) ≡ 0 → Lawful (d .tables) × Fitting L (d .tables) × (d .lost ≡ [])
+pub accepted : (L : Layout) (d : Draft) → Formed L (d .tables) → answer (lookCauses (look L d)) ≡ 0 → Lawful (d .tables) × Fitting L (d .tables) × (d .lost ≡ [])
 unfolding look
 accepted L d g e =
     let p = none-of-four (look L d .granted) (look L d .needed) (look L d .unmetFits) (look L d .waitingFits) e in (
@@ -70,7 +70,7 @@ accepted L d g e =
 module _ (L : Layout) (t : Tables) (a : Aid) where
   -- causes 3 to 11 go up, and are below 12
   pub judge-causes : (k : Look) (b : Bool) (c : Change)
-      → T (every (λ x. ltb (x .number) 12) (3 when b ∷ tableCauses L t a c ++ lookCauses L k)) × T (ascends 2 (3 when b ∷ tableCauses L t a c ++ lookCauses L k))
+      → T (every (λ x. ltb (x .number) 12) (3 when b ∷ tableCauses L t a c ++ lookCauses k)) × T (ascends 2 (3 when b ∷ tableCauses L t a c ++ lookCauses k))
   judge-causes k b (load p c g n) = (tt, tt)
   judge-causes k b remove = (tt, tt)
   judge-causes k b (addService s l) = (tt, tt)
@@ -83,7 +83,7 @@ module _ (L : Layout) (t : Tables) (a : Aid) where
   judge-causes k b (removeNeed r) = (tt, tt)
 
   pub judge-ascends : (b : Bool) (c : Change) → T (ascends 2 (3 when b ∷ tableCauses L t a c))
-  judge-ascends b c = ascends-front 2 (3 when b ∷ tableCauses L t a c) (lookCauses L fine) (judge-causes fine b c .1)
+  judge-ascends b c = ascends-front 2 (3 when b ∷ tableCauses L t a c) (lookCauses fine) (judge-causes fine b c .1)
 
 module _ (L : Layout) (lo : LayoutOk L) (t : Tables) (cs : List Contract) (g : Formed L t) (st : Stands t [] cs)
     (q : Request) (va : T (validAid (q .aid))) (vc : Valid L (q .change)) where
@@ -108,12 +108,12 @@ module _ (L : Layout) (lo : LayoutOk L) (t : Tables) (cs : List Contract) (g : F
 
   pub answers-agree : answer (judgeCauses L t q) ≡ answer (causes3to11 L cs q)
   answers-agree =
-      answer-append early (lookCauses L (look L d)) (causes8to11 L ds) (λ e. let h = turns e in ap answer (looks-agree L d ds (h .formed) (h .lost-off) (h .stands)))
+      answer-append early (lookCauses (look L d)) (causes8to11 L ds) (λ e. let h = turns e in ap answer (looks-agree L d ds (h .formed) (h .lost-off) (h .stands)))
       ∙ ap (λ (l : List Cause). answer (3 when not (proper a c) ∷ l ++ causes8to11 L ds)) (tests-agree L t cs g st a c)
 
   pub accepted-stands : answer (judgeCauses L t q) ≡ 0 → StandsFor L (encode L (d .tables)) ds
   accepted-stands e =
-      let p = answer-append-zero 2 early (lookCauses L (look L d)) (judge-ascends L t a (not (proper a c)) c) e in
+      let p = answer-append-zero 2 early (lookCauses (look L d)) (judge-ascends L t a (not (proper a c)) c) e in
       let h = turns (p .0) in
       let w = accepted L d (h .formed) (p .1) in
       image-stands L lo (d .tables) ds (h .formed) (w .0) (w .1) (subst (λ (l : List Unmet). Stands (d .tables) l ds) (w .2) (h .stands))

@@ -62,10 +62,10 @@ module _ (L : Layout) (t : Tables) (lost : List Unmet) (cs : List Contract)
   count = sym (length-map cs (λ c. c .aid)) ∙ same-length (map (λ c. c .aid) cs) (map (t .aid) (usedNumbers L t)) (st .one-each) once to of ∙ length-map (usedNumbers L t) (t .aid)
     where
       on : {n : ℕ} → In n (usedNumbers L t) → T (t .used n)
-      on m = keep-in (t .used) (numbers L t) m .1
+      on m = keep-in (t .used) (numbers L) m .1
 
       once : NoRepeat (map (t .aid) (usedNumbers L t))
-      once = once-map (t .aid) (usedNumbers L t) (λ i j p q e. names .aid-inj i j (on p) (on q) e) (once-keep (t .used) (numbers L t) (once-upto (L .packages)))
+      once = once-map (t .aid) (usedNumbers L t) (λ i j p q e. names .aid-inj i j (on p) (on q) e) (once-keep (t .used) (numbers L) (once-upto (L .packages)))
 
       to : (a : Aid) → In a (map (λ c. c .aid) cs) → In a (map (t .aid) (usedNumbers L t))
       to a m =
@@ -79,11 +79,11 @@ module _ (L : Layout) (t : Tables) (lost : List Unmet) (cs : List Contract)
           let h = st .no-others (p .0) (on (p .1)) in
           in-cast (p .2 ∙ sym (h .2)) (in-map (λ (c : Contract). c .aid) (h .1))
 
-  service-count : (n : ℕ) (c : Contract) → In c cs → HasContract t lost n c → length (c .provides) ≡ length (keep (t .provides n) (places L t))
+  service-count : (n : ℕ) (c : Contract) → In c cs → HasContract t lost n c → length (c .provides) ≡ length (keep (t .provides n) (places L))
   service-count n c m h =
       same-length (c .provides) (provided L t n) (st .four-sets c m .provides) (once-provided L t names n)
       (λ s p. provided-in L t names n s .1 (h .provides s .0 p)) (λ s p. h .provides s .1 (provided-in L t names n s .0 p))
-      ∙ length-map (keep (t .provides n) (places L t)) (t .tok n)
+      ∙ length-map (keep (t .provides n) (places L)) (t .tok n)
 
   pub packages-fit : length cs ≤ L .packages
   packages-fit = subst (λ (z : ℕ). z ≤ L .packages) (sym count) (taken-fit (L .packages) (t .used))

@@ -206,7 +206,7 @@ module _ (L : Layout) (t : Tables) (lost : List Unmet) (ds : List Contract) (g :
 
 pub looks-agree : (L : Layout) (d : Draft) (ds : List Contract) → Formed L (d .tables)
     → Off (d .tables .used) (d .tables .aid) (d .tables .tok) (d .tables .provides) (d .lost) → Stands (d .tables) (d .lost) ds
-    → lookCauses L (look L d) ≡ causes8to11 L ds
+    → lookCauses (look L d) ≡ causes8to11 L ds
 unfolding look
 looks-agree L d ds g off st = λ i.
     8 when not (granted L (d .tables) (d .lost) ds g st i)

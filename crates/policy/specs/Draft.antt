@@ -132,7 +132,7 @@ module _ (L : Layout) (t : Tables) where
   -- the service number it had'
   abbrev pub leftBy : (ℕ → ℕ → ℕ → Bool) → ℕ → (ℕ → Bool) → List Unmet
   leftBy b j d =
-      flat (λ i. map (λ k. callRow i (serviceAt t j k)) (keep (λ k. b i j k && d k) (places L t))) (numbers L t)
+      flat (λ i. map (λ k. callRow i (serviceAt t j k)) (keep (λ k. b i j k && d k) (places L))) (numbers L)
 
   -- kind 4: service k of package j goes; 'its grants go too'
   abbrev pub removeServiceAt : ℕ → ℕ → Draft
@@ -164,7 +164,7 @@ module _ (L : Layout) (t : Tables) where
       needs = λ x y z. t .needs x y z && not (eqb x n || eqb y n);
       unmet = keep (λ u. not (eqb (u .caller) n)) (t .unmet) ++ leftBy (t .calls) n (λ z. true);
       waiting = keep (λ w. not (eqb (w .callee) n)) (t .waiting)
-          ++ flat (λ j. map (λ k. record { caller = t .aid n; callee = j; service = k }) (keep (λ k. t .grants j n k) (places L t))) (numbers L t);
+          ++ flat (λ j. map (λ k. record { caller = t .aid n; callee = j; service = k }) (keep (λ k. t .grants j n k) (places L))) (numbers L);
     };
     lost = leftBy (t .needs) n (λ z. true);
   }

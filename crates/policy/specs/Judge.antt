@@ -32,6 +32,10 @@ aidBytes a = length a ∷ a
 abbrev pub rowBytes : Row → List ℕ
 rowBytes r = aidBytes (r .aid) ++ writeTok (r .tok)
 
+-- ---- causes 8 to 11, by the full look at the draft
+abbrev pub lookCauses : Look → List Cause
+lookCauses k = 8 when not (k .granted) ∷ 9 when not (k .needed) ∷ 10 when not (k .unmetFits) ∷ 11 when not (k .waitingFits) ∷ []
+
 module _ (L : Layout) where
   -- ---- causes 4 to 7, on tables
   module _ (t : Tables) where
@@ -63,10 +67,6 @@ module _ (L : Layout) where
         ∷ 6 when (not (holds a (λ k. hasRow r (k .calls))) || holds a (λ k. hasRow r (k .needs)))
         ∷ []
     tableCauses a (removeNeed r) = 5 when absent a ∷ 6 when not (holds a (λ k. hasRow r (k .needs))) ∷ []
-
-  -- ---- causes 8 to 11, by the full look at the draft
-  abbrev pub lookCauses : Look → List Cause
-  lookCauses k = 8 when not (k .granted) ∷ 9 when not (k .needed) ∷ 10 when not (k .unmetFits) ∷ 11 when not (k .waitingFits) ∷ []
 
   -- every cause of a record that was read, in order
   abbrev pub judgeCauses : Tables → Request → List Cause

@@ -26,23 +26,24 @@ pub record Place : Type 0 where
   pub callee : ℕ
   pub service : ℕ
 
+-- the package numbers of a card, and the service numbers of a package
+abbrev pub numbers : Layout → List ℕ
+numbers L = upto (L .packages)
+
+abbrev pub places : Layout → List ℕ
+places L = upto (L .services)
+
 module _ (L : Layout) (t : Tables) where
-  abbrev pub numbers : List ℕ
-  numbers = upto (L .packages)
-
-  abbrev pub places : List ℕ
-  places = upto (L .services)
-
   abbrev pub usedNumbers : List ℕ
-  usedNumbers = keep (t .used) numbers
+  usedNumbers = keep (t .used) (numbers L)
 
   -- the number of an installed package
   unfoldable pub numberOf : Aid → Option ℕ
-  numberOf a = first (λ n. t .used n && eqAid (t .aid n) a) numbers
+  numberOf a = first (λ n. t .used n && eqAid (t .aid n) a) (numbers L)
 
   -- the number of a service that package j provides
   unfoldable pub serviceOf : ℕ → Tok → Option ℕ
-  serviceOf j s = first (λ k. t .provides j k && eqTok (t .tok j k) s) places
+  serviceOf j s = first (λ k. t .provides j k && eqTok (t .tok j k) s) (places L)
 
   -- where a service stands on the card
   unfoldable pub serverOf : Row → Option Place
@@ -51,10 +52,10 @@ module _ (L : Layout) (t : Tables) where
 
   -- 'the lowest unused package number', and 'service number'
   unfoldable pub freeNumber : Option ℕ
-  freeNumber = first (λ n. not (t .used n)) numbers
+  freeNumber = first (λ n. not (t .used n)) (numbers L)
 
   unfoldable pub freeService : ℕ → Option ℕ
-  freeService j = first (λ k. not (t .provides j k)) places
+  freeService j = first (λ k. not (t .provides j k)) (places L)
 
   -- the contract of package number n, in the order of document 01's reading out: 'provides by service number; calls by callee
   -- number and service number, then the unmet in list order; grants by caller number and service number, then the waiting;
@@ -62,10 +63,10 @@ module _ (L : Layout) (t : Tables) where
   unfoldable pub contractAt : ℕ → Contract
   contractAt n = record {
     aid = t .aid n;
-    provides = map (t .tok n) (keep (t .provides n) places);
-    calls = flat (λ j. map (serviceAt t j) (keep (t .calls n j) places)) numbers
+    provides = map (t .tok n) (keep (t .provides n) (places L));
+    calls = flat (λ j. map (serviceAt t j) (keep (t .calls n j) (places L))) (numbers L)
         ++ map wanted (keep (λ u. eqb (u .caller) n) (t .unmet));
-    grants = flat (λ i. map (λ k. record { aid = t .aid i; tok = t .tok n k }) (keep (t .grants n i) places)) numbers
+    grants = flat (λ i. map (λ k. record { aid = t .aid i; tok = t .tok n k }) (keep (t .grants n i) (places L))) (numbers L)
         ++ map (grantAt t) (keep (λ w. eqb (w .callee) n) (t .waiting));
-    needs = flat (λ j. map (serviceAt t j) (keep (t .needs n j) places)) numbers;
+    needs = flat (λ j. map (serviceAt t j) (keep (t .needs n j) (places L))) (numbers L);
   }

@@ -97,6 +97,12 @@ counted w most p = do
   n ← number w
   given (leb n most) (many p n)
 
+-- a value with no bytes left over
+abbrev pub whole : {A : Type 0} → Got A → Option A
+whole (got a []) = some a
+whole (got a (b ∷ s)) = none
+whole bad = none
+
 module _ (L : Layout) where
   abbrev pub tokenList : Reader (List Tok)
   tokenList = counted 1 (L .services) tokens
@@ -153,12 +159,6 @@ module _ (L : Layout) where
     a ← given (eqb n l && eqb v (L .version)) aid
     c ← change k
     done (record { aid = a; change = c })
-
-  -- a value with no bytes left over
-  abbrev pub whole : {A : Type 0} → Got A → Option A
-  whole (got a []) = some a
-  whole (got a (b ∷ s)) = none
-  whole bad = none
 
   -- the record that the bytes are; nothing is cause 2
   unfoldable pub parse : List ℕ → Option Request

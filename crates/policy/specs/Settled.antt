@@ -18,7 +18,7 @@ unfoldable pub settled : Layout → List ℕ → Aid → Change → Out
 settled L img a c =
     let t = decode L img in
     let d = draft L t a c in
-    judged L img (numberFor L t a) (d .tables) (answer (earlyCauses L t a c ++ lookCauses L (look L d)))
+    judged L img (numberFor L t a) (d .tables) (answer (earlyCauses L t a c ++ lookCauses (look L d)))
 
 -- an outcome by its three parts
 pub record Gives (o : Out) (number second : ℕ) (img : List ℕ) : Type 0 where

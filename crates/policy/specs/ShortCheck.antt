@@ -31,7 +31,7 @@ module _ (L : Layout) (t : Tables) where
 
   -- how many bits of f, by package and service number
   abbrev pub ones : (ℕ → ℕ → Bool) → ℕ
-  ones f = sum (λ i. count (f i) (places L t)) (numbers L t)
+  ones f = sum (λ i. count (f i) (places L)) (numbers L)
 
   abbrev pub notInstalled : Aid → Bool
   notInstalled a = not (isSome (numberOf L t a))
@@ -68,8 +68,8 @@ module _ (L : Layout) (t : Tables) where
   abbrev pub shortRemoveService : ℕ → ℕ → Look
   shortRemoveService j k = record {
     granted = true;
-    needed = every (λ i. not (t .needs i j k)) (numbers L t);
-    unmetFits = fits (length (t .unmet) + count (λ i. t .calls i j k) (numbers L t));
+    needed = every (λ i. not (t .needs i j k)) (numbers L);
+    unmetFits = fits (length (t .unmet) + count (λ i. t .calls i j k) (numbers L));
     waitingFits = true;
   }
 
@@ -77,7 +77,7 @@ module _ (L : Layout) (t : Tables) where
   abbrev pub shortRemove : ℕ → Look
   shortRemove n = record {
     granted = true;
-    needed = every (λ i. every (λ k. not (t .needs i n k)) (places L t)) (numbers L t);
+    needed = every (λ i. every (λ k. not (t .needs i n k)) (places L)) (numbers L);
     unmetFits = fits (count (λ u. not (eqb (u .caller) n)) (t .unmet) + ones (λ i k. t .calls i n k));
     waitingFits = fits (count (λ w. not (eqb (w .callee) n)) (t .waiting) + ones (λ j k. t .grants j n k));
   }

@@ -28,14 +28,14 @@ module _ (L : Layout) where
 
     -- 'tokens provided by one package differ'
     unfoldable pub tokensOk : Bool
-    tokensOk = every (λ j. distinct eqTok (map (t .tok j) (keep (t .provides j) (places L t)))) (numbers L t)
+    tokensOk = every (λ j. distinct eqTok (map (t .tok j) (keep (t .provides j) (places L)))) (numbers L)
 
     -- 'every unused place .. is zero': of an AID, of tokens and of provided services;
     unfoldable pub blanksOk : Bool
     blanksOk =
-        every (λ n. t .used n || isNil (t .aid n)) (numbers L t)
-        && every (λ j. every (λ k. t .provides j k || eqTok (t .tok j k) noTok) (places L t)) (numbers L t)
-        && every (λ j. every (λ k. implies (t .provides j k) (t .used j)) (places L t)) (numbers L t)
+        every (λ n. t .used n || isNil (t .aid n)) (numbers L)
+        && every (λ j. every (λ k. t .provides j k || eqTok (t .tok j k) noTok) (places L)) (numbers L)
+        && every (λ j. every (λ k. implies (t .provides j k) (t .used j)) (places L)) (numbers L)
 
     -- 'row and column': entries of unused numbers; 'diagonals are zero'
     unfoldable pub entriesOk : Bool

@@ -61,10 +61,10 @@ kinds-fit s a t false false false false false h = h
 
 module _ (L : Layout) where
   -- the end of the record
-  whole-all : {A : Type 0} (a : A) (n : ℕ) (s : List ℕ) → length s ≤ n → whole L (got a (drop n s)) ≡ some a
+  whole-all : {A : Type 0} (a : A) (n : ℕ) (s : List ℕ) → length s ≤ n → whole (got a (drop n s)) ≡ some a
   whole-all a n s h = rw (drop-of-length-le s h)
 
-  whole-left : {A : Type 0} (a : A) (n : ℕ) (s : List ℕ) → n < length s → whole L (got a (drop n s)) ≡ none
+  whole-left : {A : Type 0} (a : A) (n : ℕ) (s : List ℕ) → n < length s → whole (got a (drop n s)) ≡ none
   whole-left a n s h = rw (drop-cons s n 0 h)
 
   body-bad : {g : Got Change} {s : List ℕ} → g ≡ bad → Bodies L g s body.Malformed

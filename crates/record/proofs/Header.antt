@@ -40,7 +40,7 @@ module _ (L : Layout) where
   record-short (a ∷ b ∷ c ∷ d ∷ s) h = absurd (omega arith)
 
   header : (s : List ℕ) → 4 ≤ length s
-      → parse L s ≡ whole L (tail (given (eqb (getD s 0 0 * 256 + getD s 1 0) (length s) && eqb (getD s 2 0) (L .version)) aid (drop 4 s)) (getD s 3 0))
+      → parse L s ≡ whole (tail (given (eqb (getD s 0 0 * 256 + getD s 1 0) (length s) && eqb (getD s 2 0) (L .version)) aid (drop 4 s)) (getD s 3 0))
   unfolding parse fields number byte tail
   header [] h = absurd (omega arith)
   header (a ∷ []) h = absurd (omega arith)
@@ -49,12 +49,12 @@ module _ (L : Layout) where
   header (a ∷ b ∷ c ∷ d ∷ s) h = let e : (0 * 256 + a) * 256 + b ≡ a * 256 + b = omega arith in rw e
 
   module _ {A B : Type 0} (f : A → B) where
-    whole-then : (g : Got A) (x : A) → some x ≡ whole L g → whole L (andThen g (λ c u. got (f c) u)) ≡ some (f x)
+    whole-then : (g : Got A) (x : A) → some x ≡ whole g → whole (andThen g (λ c u. got (f c) u)) ≡ some (f x)
     whole-then (got a []) x e = ap some (ap f (let y : a ≡ x = cc in y))
     whole-then (got a (b ∷ s)) x e = absurd (let z : _≡_ {A = ℕ} 0 1 = cc in omega arith)
     whole-then bad x e = absurd (let z : _≡_ {A = ℕ} 0 1 = cc in omega arith)
 
-    whole-lost : (g : Got A) → none ≡ whole L g → whole L (andThen g (λ c u. got (f c) u)) ≡ none
+    whole-lost : (g : Got A) → none ≡ whole g → whole (andThen g (λ c u. got (f c) u)) ≡ none
     whole-lost (got a []) e = absurd (let z : _≡_ {A = ℕ} 0 1 = cc in omega arith)
     whole-lost (got a (b ∷ s)) e = refl
     whole-lost bad e = refl
@@ -70,7 +70,7 @@ module _ (L : Layout) where
       record-version v = record { fits = tt; same = sym (header s l ∙ rw (eq-eqb _ _ h, ne-eqb _ _ v)) }
 
       module _ (v : getD s 2 0 ≡ L .version) where
-        headed : parse L s ≡ whole L (tail (aid (drop 4 s)) (getD s 3 0))
+        headed : parse L s ≡ whole (tail (aid (drop 4 s)) (getD s 3 0))
         headed = header s l ∙ rw (eq-eqb _ _ h, eq-eqb _ _ v)
 
         pub record-aid : Takes aid (drop 4 s) Malformed → Parses L s read.Malformed
@@ -82,7 +82,7 @@ module _ (L : Layout) where
           abbrev asked : Change → Request
           asked c = record { aid = take (n - 1) (drop 5 s); change = c }
 
-          after-aid : parse L s ≡ whole L (andThen (change L (getD s 3 0) (drop (n + 4) s)) (λ c u. got (asked c) u))
+          after-aid : parse L s ≡ whole (andThen (change L (getD s 3 0) (drop (n + 4) s)) (λ c u. got (asked c) u))
           unfolding tail
           after-aid =
               let k : 4 + n ≡ n + 4 = omega arith in

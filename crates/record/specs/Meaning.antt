@@ -245,7 +245,7 @@ BodyFits s body.Malformed = Unit {0}
 -- r is the change g, in positions of s, and is Malformed exactly where there is none, or bytes are left over
 pub record Bodies (L : Layout) (g : Got Change) (s : List ℕ) (r : Body) : Type 0 where
   pub fits : BodyFits s r
-  pub same : bodyOf s r ≡ whole L g
+  pub same : bodyOf s r ≡ whole g
 
 abbrev pub recordOf : List ℕ → Record → Request
 recordOf s r = record { aid = aidIn s (r .aid); change = kindOf s (r .kind) }
