@@ -2,8 +2,8 @@
 use Prim.Native.Nat.{ℕ, suc, _+_, _-_, _≤_, _<_}
 use native.Mathlib.Omega.{arith}
 use mathlib.Core.Path.{_≡_, refl, sym, ap, ap₂, _∙_}
-use mathlib.Core.Bool.{Bool, true, false, not, _&&_, _||_, cond}
-use mathlib.Core.List.{List, [], _∷_}
+use mathlib.Core.Bool.{Bool, true, false, not, _&&_, cond, and-comm}
+use mathlib.Core.List.{List}
 use mathlib.Core.Option.{Option}
 use lib.Bits.{bitAnd}
 use lib.Dec.{T, eqb, leb, ltb}
@@ -12,8 +12,8 @@ use mir.Syntax.{w64}
 use mir.Val.{Fits}
 use borrow.Author.Tests.{not-true, not-false, ltb-true, ltb-false, lt-leb, le-leb, leb-true, leb-false}
 use borrow.Author.Needs.{needs}
-use Rattle.policy.specs.Lists.{exists, keep, isSome, orElse, upto}
-use Rattle.policy.specs.Contract.{Aid, eqAid, eqTok, Row}
+use Rattle.policy.specs.Lists.{keep, isSome, orElse, upto}
+use Rattle.policy.specs.Contract.{Aid, eqAid, Tok, eqTok, Row, hasTok}
 use Rattle.policy.specs.Layout.{Layout}
 use Rattle.policy.specs.Record.{Reader}
 use Rattle.policy.specs.Tables.{Tables, Unmet, bit, decode}
@@ -27,7 +27,7 @@ use Rattle.record.specs.Meaning.{Uncons, itemsIn}
 use Rattle.record.specs.declared.Items.{Items}
 use Rattle.record.proofs.Loops.{Todo, todo-cons, todo-next}
 use Rattle.engine.proofs.Callers.{not-asking, asking-by, caller-used}
-use Rattle.loading.specs.Loads.{served, present, waitsAt, callGranted, grantFits}
+use Rattle.loading.specs.Loads.{meets, served, present, waitsAt, callGranted, grantFits}
 
 -- ---- two tests, the second only where the first passes
 pub fails-first : (b x y : Bool) → b ≡ x → not b ≡ true → false ≡ x && y
@@ -37,6 +37,14 @@ fails-first true x y e h = absurd (false-T (sym h) tt)
 pub passes-first : (b r x y : Bool) → b ≡ x → not b ≡ false → r ≡ y → r ≡ x && y
 passes-first true r x y e h q = q ∙ ap (λ (z : Bool). z && y) e
 passes-first false r x y e h q = absurd (false-T h tt)
+
+-- ---- an unmet call u on a service of the package a with the services p, its callee compared first
+module _ (a : Aid) (p : List Tok) (u : Unmet) (b : Bool) (e : b ≡ eqAid (u .callee) a) where
+  pub met-other : not b ≡ true → false ≡ meets a p u
+  met-other h = fails-first b (eqAid (u .callee) a) (hasTok (u .tok) p) e h
+
+  pub met-has : (r : Bool) (i m : ℕ) → not b ≡ false → i ≡ u .tok .itf → m ≡ u .tok .mth → r ≡ hasTok (record { itf = i; mth = m }) p → r ≡ meets a p u
+  met-has r i m h x y q = passes-first b r (eqAid (u .callee) a) (hasTok (u .tok) p) e h (q ∙ (λ k. hasTok (record { itf = x k; mth = y k }) p))
 
 module _ (L : Layout) (t : Tables) where
   -- ---- a package with the AID a
@@ -51,15 +59,22 @@ module _ (L : Layout) (t : Tables) where
   pub present-is : (a b : Aid) (n i : ℕ) → n ≡ L .packages → i ≡ numberOr (L .packages) (numberOf L t b) → b ≡ a → ltb i n ≡ present L t a
   present-is a b n i e q z = present-as b n i e q ∙ ap (present L t) z
 
-  -- ---- a grant of the package a for the unmet call u, asked for first; i is the caller of u, and o the AID of the grant
-  module _ (a : Aid) (u : Unmet) (g : Row) (b : Bool) (e : b ≡ eqAid (u .callee) a && eqTok (u .tok) (g .tok)) where
-    pub grant-other : not b ≡ true → false ≡ grantFits L t a u g
-    grant-other h = fails-first b (eqAid (u .callee) a && eqTok (u .tok) (g .tok)) (t .used (u .caller) && eqAid (t .aid (u .caller)) (g .aid)) e h
+  -- ---- a grant of the package a for the unmet call u, its caller compared first: i is the caller of u, and o the AID of the grant
+  module _ (a : Aid) (u : Unmet) (g : Row) (b : Bool) (i : ℕ) (o : Aid) (x : i ≡ u .caller) (y : o ≡ g .aid) (e : b ≡ t .used i && eqAid (t .aid i) o) where
+    abbrev asks : Bool
+    asks = eqAid (u .callee) a && eqTok (u .tok) (g .tok)
 
-    pub grant-seen : (r : Bool) (i : ℕ) (o : Aid) → not b ≡ false → i ≡ u .caller → o ≡ g .aid → r ≡ t .used i && eqAid (t .aid i) o → r ≡ grantFits L t a u g
-    grant-seen r i o h x y q =
-        passes-first b r (eqAid (u .callee) a && eqTok (u .tok) (g .tok)) (t .used (u .caller) && eqAid (t .aid (u .caller)) (g .aid)) e h
-        (q ∙ ap₂ (λ (k : ℕ) (z : Aid). t .used k && eqAid (t .aid k) z) x y)
+    abbrev calls : Bool
+    calls = t .used (u .caller) && eqAid (t .aid (u .caller)) (g .aid)
+
+    calls-is : b ≡ calls
+    calls-is = e ∙ ap₂ (λ (k : ℕ) (z : Aid). t .used k && eqAid (t .aid k) z) x y
+
+    pub grant-other : not b ≡ true → false ≡ grantFits L t a u g
+    grant-other h = fails-first b calls asks calls-is h ∙ and-comm calls asks
+
+    pub grant-seen : (r : Bool) → not b ≡ false → r ≡ asks → r ≡ grantFits L t a u g
+    grant-seen r h q = passes-first b r calls asks calls-is h q ∙ and-comm calls asks
 
   -- ---- the server of a row
   module _ (r : Row) (n : ℕ) (p : Place) (e : n ≡ L .packages) (q : p ≡ placeOr L (serverOf L t r)) where
@@ -78,12 +93,6 @@ module _ (L : Layout) (t : Tables) where
           → not (eqb (bitAnd w m) 0) ≡ callGranted L t w r
       granted-on m h g =
           ap (λ (x : ℕ). not (eqb (bitAnd w x) 0)) g ∙ sym (ap (λ (o : Option Found). orElse o true (waitsAt L t w)) (server-some L t r p q (omega arith) .0))
-
-pub exists-both : {A : Type 0} (x : Bool) (f : A → Bool) (l : List A) → exists (λ s. x && f s) l ≡ x && exists f l
-exists-both true f [] = refl
-exists-both false f [] = refl
-exists-both true f (s ∷ l) = ap (λ (z : Bool). f s || z) (exists-both true f l)
-exists-both false f (s ∷ l) = exists-both false f l
 
 -- ---- a loop that counts those that pass down from the room there is
 one-more : (k m : ℕ) → 0 < m → leb (suc k) m ≡ leb k (m - 1)

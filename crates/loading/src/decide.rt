@@ -173,16 +173,13 @@ fn is_met(img: &[u8], c: Card, r: usize, aid: &[u8], rec: &[u8], provides: Items
     requires stands { ⌜ Stands tokens (now rec) provides ⌝ }
     ensures { λ b. ⌜ b ≡ meets (now (aid .entry)) (itemsIn tokens (now (rec .entry)) provides) (unmetRow (decode (layoutOf c) (now (img .entry))) r) ⌝ }
 {
-    let mut todo = provides;
-    while 0 < todo.count {
-        let s = record::steps::take_tokens(rec, todo);
-        let t = s.tokens;
-        if image::lists::asks_for(img, c, r, aid, t.interface, t.method) {
-            return true;
-        }
-        todo = s.rest;
+    if !image::lists::is_on(img, c, r, aid) {
+        return false;
     }
-    false
+    let interface = image::lists::unmet_interface(img, c, r);
+    let method = image::lists::unmet_method(img, c, r);
+    let t = Tokens { interface, method };
+    record::proper::has_tokens(rec, t, provides)
 }
 
 // Which unmet calls are on services of the package `aid` with the services of the record.
@@ -209,12 +206,12 @@ fn grant_fits(img: &[u8], c: Card, r: usize, aid: &[u8], rec: &[u8], a: Aid, t: 
     requires fits { ⌜ AidFits (now rec) a ⌝ }
     ensures { λ b. ⌜ b ≡ grantFits (layoutOf c) (decode (layoutOf c) (now (img .entry))) (now (aid .entry)) (unmetRow (decode (layoutOf c) (now (img .entry))) r) (rowIn (now (rec .entry)) a t) ⌝ }
 {
-    if !image::lists::asks_for(img, c, r, aid, t.interface, t.method) {
-        return false;
-    }
     let i = image::lists::unmet_caller(img, c, r);
     let other = record::aid_bytes(rec, a);
-    image::read::is_package(img, c, i, other)
+    if !image::read::is_package(img, c, i, other) {
+        return false;
+    }
+    image::lists::asks_for(img, c, r, aid, t.interface, t.method)
 }
 
 // Some grant of the record is what unmet call r needs of the package `aid`.

@@ -1,63 +1,43 @@
 -- `loading::decide::is_met` meets its contract.
-use native.Mathlib.Omega.{arith}
-use borrow.Author.Needs.{needs}
 use denote.Ref.{now}
-use mathlib.Core.Path.{_∙_}
-use mathlib.Core.Bool.{_&&_}
-use Rattle.policy.specs.Lists.{exists}
-use Rattle.policy.specs.Contract.{eqAid, eqTok}
 use Rattle.policy.specs.Record.{tokens}
 use Rattle.policy.specs.Tables.{decode}
 use Rattle.geometry.specs.Geometry.{layoutOf}
 use Rattle.image.specs.Read.{unmetRow}
 use Rattle.record.specs.Meaning.{itemsIn}
-use Rattle.record.proofs.Loops.{Left, todo-start, todo-end, exists-stop, exists-next}
-use Rattle.loading.proofs.Checks.{exists-both}
+use Rattle.loading.proofs.Checks.{met-other, met-has, checks}
 use Rattle.loading.proofs.decide.is_met.Statement.{statement}
 use Rattle.loading.proofs.decide.is_met.Tie as tie
 
-abbrev Inv-loop : tie.InvT-loop
-Inv-loop img c r aid rec todo₀ todo =
-    Left tokens rec (exists (λ s. eqAid (unmetRow (decode (layoutOf c) img) r .callee) aid && eqTok (unmetRow (decode (layoutOf c) img) r .tok) s)) todo₀ todo
+is-on-requires : tie.Need-is-on-requires
+is-on-requires c κs = search checks
 
-abbrev μ-loop : tie.MeasureT-loop
-μ-loop img c r aid rec todo₀ todo = todo .count
-
-loop-holds : tie.Need-loop-holds Inv-loop μ-loop
-loop-holds c = todo-start (c .before .before .before .pre .1 .1)
-
-take-tokens-requires : tie.Need-take-tokens-requires Inv-loop μ-loop
-take-tokens-requires c κs = (c .before .before .loop .inv .stands, c .if1 .taken)
-
-asks-for-requires : tie.Need-asks-for-requires Inv-loop μ-loop
-asks-for-requires c κs = search needs
-
-returns : tie.Need-returns Inv-loop μ-loop
+returns : tie.Need-returns
 returns c =
-    let x = c .before .before .before .before .before .before .before .before .before .before .args in
-    exists-stop _ (c .before .before .before .take-tokens .ensures) (c .before .asks-for .ensures) (c .before .before .before .before .before .before .loop .inv) (c .if2 .taken) ∙ exists-both (eqAid (unmetRow (decode (layoutOf (x .c)) (now (x .img))) (x .r) .callee) (now (x .aid))) (eqTok (unmetRow (decode (layoutOf (x .c)) (now (x .img))) (x .r) .tok)) (itemsIn tokens (now (x .rec)) (x .provides))
+    let x = c .before .before .before .before .before .args in
+    met-other (now (x .aid)) (itemsIn tokens (now (x .rec)) (x .provides)) (unmetRow (decode (layoutOf (x .c)) (now (x .img))) (x .r)) _ (c .before .is-on .ensures) (c .if1 .taken)
 
-loop-less : tie.Need-loop-less Inv-loop μ-loop
-loop-less c = omega (arith, c .before .before .before .before .take-tokens .ensures .fewer)
+unmet-interface-requires : tie.Need-unmet-interface-requires
+unmet-interface-requires c κs = search checks
 
-loop-again : tie.Need-loop-again Inv-loop μ-loop
-loop-again c = exists-next _ (c .before .before .before .before .take-tokens .ensures) (c .before .before .asks-for .ensures) (c .before .before .before .before .before .before .before .loop .inv) (c .before .if2 .left)
+unmet-method-requires : tie.Need-unmet-method-requires
+unmet-method-requires c κs = search checks
 
-returns-2 : tie.Need-returns-2 Inv-loop μ-loop
+has-tokens-requires : tie.Need-has-tokens-requires
+has-tokens-requires c κs = search checks
+
+returns-2 : tie.Need-returns-2
 returns-2 c =
-    let x = c .before .before .before .before .before .before .args in
-    todo-end (c .before .before .loop .inv) (c .if1 .left) ∙ exists-both (eqAid (unmetRow (decode (layoutOf (x .c)) (now (x .img))) (x .r) .callee) (now (x .aid))) (eqTok (unmetRow (decode (layoutOf (x .c)) (now (x .img))) (x .r) .tok)) (itemsIn tokens (now (x .rec)) (x .provides))
+    let x = c .before .before .before .before .before .before .before .before .args in
+    met-has (now (x .aid)) (itemsIn tokens (now (x .rec)) (x .provides)) (unmetRow (decode (layoutOf (x .c)) (now (x .img))) (x .r)) _ (c .before .before .before .before .is-on .ensures) _ _ _ (c .before .before .before .if1 .left) (c .before .before .unmet-interface .ensures) (c .before .unmet-method .ensures) (c .has-tokens .ensures)
 
 pub is-met-spec : {M : Type 1} → statement M
 is-met-spec =
     tie.close
     (tie.spec
-    Inv-loop
-    μ-loop
-    loop-holds
-    take-tokens-requires
-    asks-for-requires
+    is-on-requires
     returns
-    loop-less
-    loop-again
+    unmet-interface-requires
+    unmet-method-requires
+    has-tokens-requires
     returns-2)
