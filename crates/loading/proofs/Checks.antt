@@ -1,6 +1,7 @@
 -- Kind 1: what the code that decides has found, in the form in which its needs ask it: `search checks`. Assumes nothing.
 use Prim.Native.Nat.{ℕ, suc, _+_, _-_, _≤_, _<_}
 use native.Mathlib.Omega.{arith}
+use native.Mathlib.Nat.{add-zero, zero-add}
 use mathlib.Core.Path.{_≡_, refl, sym, ap, ap₂, _∙_}
 use mathlib.Core.Bool.{Bool, true, false, not, _&&_, cond, and-comm}
 use mathlib.Core.List.{List}
@@ -10,24 +11,26 @@ use lib.Dec.{T, eqb, leb, ltb}
 use lib.ListN.{length}
 use mir.Syntax.{w64}
 use mir.Val.{Fits}
-use borrow.Author.Tests.{not-true, not-false, ltb-true, ltb-false, lt-leb, le-leb, leb-true, leb-false}
+use borrow.Author.Tests.{not-true, not-false, ltb-true, ltb-false, eq-eqb, ne-eqb, lt-leb, le-leb, leb-true, leb-false}
 use borrow.Author.Needs.{needs}
-use Rattle.policy.specs.Lists.{keep, isSome, orElse, upto}
+use Rattle.policy.specs.Lists.{every, keep, isSome, orElse, upto}
 use Rattle.policy.specs.Contract.{Aid, eqAid, Tok, eqTok, Row, hasTok}
 use Rattle.policy.specs.Layout.{Layout}
-use Rattle.policy.specs.Record.{Reader}
+use Rattle.policy.specs.Record.{Reader, aRow}
 use Rattle.policy.specs.Tables.{Tables, Unmet, bit, decode}
 use Rattle.policy.specs.Lookup.{Place as Found, numberOf, serverOf}
 use Rattle.policy.specs.Sound.{sound}
+use Rattle.policy.specs.ShortCheck.{count}
 use Rattle.policy.proofs.Sets.{false-T, length-keep}
 use Rattle.image.specs.declared.read.Place.{Place}
 use Rattle.image.specs.Read.{numberOr, placeOr, maskOf, unmetRow}
 use Rattle.image.proofs.Numbers.{package-none, package-some, server-none, server-some}
-use Rattle.record.specs.Meaning.{Uncons, itemsIn}
+use Rattle.record.specs.Meaning.{Stands, Uncons, itemsIn}
 use Rattle.record.specs.declared.Items.{Items}
-use Rattle.record.proofs.Loops.{Todo, todo-cons, todo-next}
+use Rattle.record.proofs.Loops.{Todo, Left, todo-start, todo-end, todo-cons, todo-next, every-stop, every-next, count-yes, count-no}
 use Rattle.engine.proofs.Callers.{not-asking, asking-by, caller-used}
-use Rattle.loading.specs.Loads.{meets, served, present, waitsAt, callGranted, grantFits}
+use Rattle.loading.specs.Loads.{meets, served, present, waitsAt, callGranted, CallsCome, grantFits}
+use Rattle.loading.specs.declared.decide.Called.the-variants.{Granted, Refused}
 
 -- ---- two tests, the second only where the first passes
 pub fails-first : (b x y : Bool) → b ≡ x → not b ≡ true → false ≡ x && y
@@ -85,14 +88,54 @@ module _ (L : Layout) (t : Tables) where
         go true h = let z = ltb-true (p .callee) n h in sym (ap isSome (server-some L t r p q (omega arith) .0))
         go false h = let z = ltb-false (p .callee) n h in sym (ap isSome (server-none L t r p q (omega arith)))
 
+    pub unserved-is : n ≤ p .callee → not (served L t r) ≡ true
+    unserved-is h = ap (λ (o : Option Found). not (isSome o)) (server-none L t r p q (omega arith))
+
     module _ (w : ℕ) where
       pub granted-off : n ≤ p .callee → true ≡ callGranted L t w r
       granted-off h = sym (ap (λ (o : Option Found). orElse o true (waitsAt L t w)) (server-none L t r p q (omega arith)))
 
-      pub granted-on : (m : ℕ) → p .callee < n → m ≡ maskOf (λ x. eqb (x .callee) (p .callee) && eqb (x .service) (p .service)) (t .waiting)
-          → not (eqb (bitAnd w m) 0) ≡ callGranted L t w r
-      granted-on m h g =
-          ap (λ (x : ℕ). not (eqb (bitAnd w x) 0)) g ∙ sym (ap (λ (o : Option Found). orElse o true (waitsAt L t w)) (server-some L t r p q (omega arith) .0))
+    -- it is at the place p: whether one of the rows of w waits there
+    module _ (h : p .callee < n) where
+      pub served-on : not (served L t r) ≡ false
+      served-on = ap (λ (o : Option Found). not (isSome o)) (server-some L t r p q (omega arith) .0)
+
+      module _ (w m : ℕ) (g : m ≡ maskOf (λ x. eqb (x .callee) (p .callee) && eqb (x .service) (p .service)) (t .waiting)) where
+        granted-by : not (eqb (bitAnd w m) 0) ≡ callGranted L t w r
+        granted-by =
+            ap (λ (x : ℕ). not (eqb (bitAnd w x) 0)) g ∙ sym (ap (λ (o : Option Found). orElse o true (waitsAt L t w)) (server-some L t r p q (omega arith) .0))
+
+        pub granted-no : bitAnd w m ≡ 0 → false ≡ callGranted L t w r
+        granted-no z = sym (ap not (eq-eqb (bitAnd w m) 0 z)) ∙ granted-by
+
+        pub granted-on : (bitAnd w m ≡ 0 → ⊥) → true ≡ callGranted L t w r
+        granted-on z = sym (ap not (ne-eqb (bitAnd w m) 0 z)) ∙ granted-by
+
+  -- ---- the calls of all in the record s, of which those of todo are to come: the others are granted, and u of them are not served
+  module _ (w : ℕ) (s : List ℕ) (all : Items) where
+    abbrev unserved : Row → Bool
+    unserved x = not (served L t x)
+
+    pub record Tally (todo : Items) (u : ℕ) : Type 0 where
+      pub granted : Left aRow s (every (callGranted L t w)) all todo
+      pub counted : Todo aRow s todo (λ l. u + count unserved l) (count unserved (itemsIn aRow s all))
+      pub fits : Fits w64 (u + todo .count)
+
+    pub tally-start : Stands aRow s all → Fits w64 (all .count) → Tally all 0
+    tally-start h f = record { granted = todo-start h; counted = record { stands = h; same = zero-add (count unserved (itemsIn aRow s all)) }; fits = rw (zero-add (all .count)) f }
+
+    pub tally-end : {todo : Items} (u : ℕ) → Tally todo u → todo .count ≤ 0 → CallsCome L t w (itemsIn aRow s all) (Granted u)
+    tally-end u h e = (sym (todo-end (h .granted) e), sym (add-zero u) ∙ todo-end (h .counted) e)
+
+    module _ {todo rest : Items} {u : ℕ} {x : Row} (h : Tally todo u) (q : Uncons aRow s todo x rest) where
+      pub tally-stop : false ≡ callGranted L t w x → CallsCome L t w (itemsIn aRow s all) Refused
+      tally-stop e = sym (every-stop (callGranted L t w) q e (h .granted) refl)
+
+      pub tally-off : true ≡ callGranted L t w x → unserved x ≡ true → Tally rest (u + 1)
+      tally-off e z = record { granted = every-next (callGranted L t w) q e (h .granted) refl; counted = count-yes unserved u q (h .counted) z; fits = omega (arith, h .fits, q .fewer) }
+
+      pub tally-on : true ≡ callGranted L t w x → unserved x ≡ false → Tally rest u
+      tally-on e z = record { granted = every-next (callGranted L t w) q e (h .granted) refl; counted = count-no unserved u q (h .counted) z; fits = omega (arith, h .fits, q .fewer) }
 
 -- ---- a loop that counts those that pass down from the room there is
 one-more : (k m : ℕ) → 0 < m → leb (suc k) m ≡ leb k (m - 1)
@@ -132,13 +175,12 @@ abbrev pub causeOf : Bool → Bool → Bool → Bool → Bool → ℕ
 causeOf g h n u w = cond (not (g && h)) 8 (cond (not n) 9 (cond (not u) 10 (cond (not w) 11 0)))
 
 module _ (g h n u w : Bool) where
-  pub cause-1 : (a : Bool) → a ≡ g → not a ≡ true → 8 ≡ causeOf g h n u w
-  cause-1 false e q = ap (λ (z : Bool). causeOf z h n u w) e
-  cause-1 true e q = absurd (false-T (sym q) tt)
+  pub cause-1 : g ≡ false → 8 ≡ causeOf g h n u w
+  cause-1 q = sym (ap (λ (z : Bool). causeOf z h n u w) q)
 
-  module _ (a : Bool) (e1 : a ≡ g) (q1 : not a ≡ false) where
+  module _ (q1 : g ≡ true) where
     on-1 : true ≡ g
-    on-1 = sym (not-false a q1) ∙ e1
+    on-1 = sym q1
 
     pub cause-2 : (b : Bool) → b ≡ h → not b ≡ true → 8 ≡ causeOf g h n u w
     cause-2 b e q = (λ i. causeOf (on-1 i) ((sym (not-true b q) ∙ e) i) n u w)
@@ -167,4 +209,4 @@ module _ (g h n u w : Bool) where
           pub cause-0 : (k : Bool) → k ≡ w → not k ≡ false → 0 ≡ causeOf g h n u w
           cause-0 k e q = (λ i. causeOf (on-1 i) (on-2 i) (on-3 i) (on-4 i) ((sym (not-false k q) ∙ e) i))
 
-pub ruleset checks = (present-is, served-is, granted-off, granted-on, fails-first, passes-first, not-asking, asking-by, needs)
+pub ruleset checks = (present-is, served-is, fails-first, passes-first, not-asking, asking-by, needs)

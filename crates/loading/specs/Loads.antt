@@ -1,6 +1,6 @@
 -- Kind 1: what its short check asks, in the parts that the code decides.
 use Prim.Native.Nat.{ℕ, _+_, _-_}
-use mathlib.Core.Bool.{Bool, true, not, _&&_}
+use mathlib.Core.Bool.{Bool, true, false, not, _&&_}
 use mathlib.Core.Path.{_≡_}
 use mathlib.Core.List.{List}
 use mathlib.Core.Option.{none, some}
@@ -22,6 +22,8 @@ use Rattle.rows.specs.Area.{keepRows}
 use Rattle.image.specs.Laid.{withUnmet, withWaiting}
 use Rattle.image.specs.Read.{maskOf, unmetRow}
 use Rattle.loading.specs.declared.decide.Decided.{Decided}
+use Rattle.loading.specs.declared.decide.Called.{Called}
+use Rattle.loading.specs.declared.decide.Called.the-variants.{Granted, Refused}
 
 -- an unmet call on a service of the package a with the services p
 abbrev pub meets : Aid → List Tok → Unmet → Bool
@@ -46,6 +48,11 @@ module _ (L : Layout) (t : Tables) where
   abbrev pub callGranted : ℕ → Row → Bool
   callGranted waiting r = orElse (serverOf L t r) true (waitsAt waiting)
 
+  -- what the calls come to: one is not granted, or all are, and so many are not served
+  abbrev pub CallsCome : ℕ → List Row → Called → Type 0
+  CallsCome waiting calls (Granted unserved) = (every (callGranted waiting) calls ≡ true) × (unserved ≡ count (λ r. not (served r)) calls)
+  CallsCome waiting calls Refused = every (callGranted waiting) calls ≡ false
+
   -- the grant g of the package a is that of the service that u asks for to the caller of u
   abbrev pub grantFits : Aid → Unmet → Row → Bool
   grantFits a u g = (eqAid (u .callee) a && eqTok (u .tok) (g .tok)) && (t .used (u .caller) && eqAid (t .aid (u .caller)) (g .aid))
@@ -54,9 +61,9 @@ module _ (L : Layout) (t : Tables) where
   abbrev pub othersGranted : Aid → List Row → ℕ → Bool
   othersGranted a grants met = every (λ r. implies (bit met r) (exists (grantFits a (unmetRow t r)) grants)) (upto (length (t .unmet)))
 
-  -- the lists with room for the rows that go on them after those of the mask go
-  abbrev pub unmetFit : ℕ → List Row → Bool
-  unmetFit met calls = leb (count (λ r. not (served r)) calls) (L .capacity + count (bit met) (upto 32) - length (t .unmet))
+  -- the lists with room for the rows that go on them after those of the mask go: so many unmet calls, and the grants to strangers
+  abbrev pub unmetFit : ℕ → ℕ → Bool
+  unmetFit met unserved = leb unserved (L .capacity + count (bit met) (upto 32) - length (t .unmet))
 
   abbrev pub waitingFit : ℕ → List Row → Bool
   waitingFit waiting grants = leb (count (λ r. not (present (r .aid))) grants) (L .capacity + count (bit waiting) (upto 32) - length (t .waiting))
@@ -66,7 +73,7 @@ module _ (L : Layout) (t : Tables) where
   loadLook a calls grants needs met waiting = record {
     granted = every (callGranted waiting) calls && othersGranted a grants met;
     needed = every served needs;
-    unmetFits = unmetFit met calls;
+    unmetFits = unmetFit met (count (λ r. not (served r)) calls);
     waitingFits = waitingFit waiting grants;
   }
 

@@ -14,7 +14,7 @@ ghost use Rattle.geometry.specs.Geometry.{layoutOf};
 ghost use Rattle.image.specs.Laid.{Laid};
 ghost use Rattle.image.specs.Read.{placeOr, maskOf, unmetRow};
 ghost use Rattle.record.specs.Meaning.{AidFits, Stands, aidIn, rowIn, itemsIn};
-ghost use Rattle.loading.specs.Loads.{meets, served, present, callGranted, grantFits, othersGranted, unmetFit, waitingFit, loadCause, Decides};
+ghost use Rattle.loading.specs.Loads.{meets, served, present, grantFits, CallsCome, othersGranted, unmetFit, waitingFit, loadCause, Decides};
 ghost use Rattle.engine.specs.Asked.{Asked};
 use geometry::Card;
 use image::read::Place;
@@ -29,6 +29,12 @@ pub struct Decided {
     pub at: usize,
     pub met: u32,
     pub waiting: u32,
+}
+
+// What the calls of a load come to: one is not granted, or so many are on services that are not on the card.
+pub enum Called {
+    Granted { unserved: usize },
+    Refused,
 }
 
 // Where the service of a row of the record stands; the numbers past the last where it stands nowhere.
@@ -64,39 +70,32 @@ fn is_present(img: &[u8], c: Card, rec: &[u8], a: Aid) -> bool
     i < n
 }
 
-// The server of a call, if there is one, has one of the waiting grants of the mask.
-fn call_granted(img: &[u8], c: Card, waiting: u32, rec: &[u8], a: Aid, t: Tokens) -> bool
-    requires laid { ⌜ Laid (layoutOf c) (now img) ⌝ }
-    requires fits { ⌜ AidFits (now rec) a ⌝ }
-    ensures { λ r. ⌜ r ≡ callGranted (layoutOf c) (decode (layoutOf c) (now (img .entry))) waiting (rowIn (now (rec .entry)) a t) ⌝ }
-{
-    let n = geometry::packages(c);
-    let p = server(img, c, rec, a, t);
-    if p.callee >= n {
-        return true;
-    }
-    let m = image::lists::granting(img, c, p.callee, p.service);
-    waiting & m != 0
-}
-
-// Each call of the record is granted.
-fn calls_granted(img: &[u8], c: Card, waiting: u32, rec: &[u8], calls: Items) -> bool
+// Whether each call of the record is granted: the server of each, if there is one, has one of the waiting grants of the
+// mask; and how many have none.
+fn calls_granted(img: &[u8], c: Card, waiting: u32, rec: &[u8], calls: Items) -> Called
     requires laid { ⌜ Laid (layoutOf c) (now img) ⌝ }
     requires stands { ⌜ Stands aRow (now rec) calls ⌝ }
-    ensures { λ r. ⌜ r ≡ every (callGranted (layoutOf c) (decode (layoutOf c) (now (img .entry))) waiting) (itemsIn aRow (now (rec .entry)) calls) ⌝ }
+    ensures { λ r. ⌜ CallsCome (layoutOf c) (decode (layoutOf c) (now (img .entry))) waiting (itemsIn aRow (now (rec .entry)) calls) r ⌝ }
 {
+    let n = geometry::packages(c);
     let mut todo = calls;
+    let mut unserved: usize = 0;
     while 0 < todo.count {
         let r = record::steps::take_row(rec, todo);
         let a = r.other;
         let t = r.tokens;
-        if call_granted(img, c, waiting, rec, a, t) {
-            todo = r.rest;
-        } else {
-            return false;
+        todo = r.rest;
+        let p = server(img, c, rec, a, t);
+        if p.callee >= n {
+            unserved += 1;
+            continue;
+        }
+        let m = image::lists::granting(img, c, p.callee, p.service);
+        if waiting & m == 0 {
+            return Called::Refused;
         }
     }
-    true
+    Called::Granted { unserved }
 }
 
 // Each need of the record is on the card.
@@ -115,30 +114,6 @@ fn needs_served(img: &[u8], c: Card, rec: &[u8], needs: Items) -> bool
         } else {
             return false;
         }
-    }
-    true
-}
-
-// At most `room` calls of the record are on services that are not on the card.
-fn unserved_fit(img: &[u8], c: Card, rec: &[u8], calls: Items, room: usize) -> bool
-    requires laid { ⌜ Laid (layoutOf c) (now img) ⌝ }
-    requires stands { ⌜ Stands aRow (now rec) calls ⌝ }
-    ensures { λ r. ⌜ r ≡ leb (count (λ x. not (served (layoutOf c) (decode (layoutOf c) (now (img .entry))) x)) (itemsIn aRow (now (rec .entry)) calls)) room ⌝ }
-{
-    let mut todo = calls;
-    let mut left = room;
-    while 0 < todo.count {
-        let r = record::steps::take_row(rec, todo);
-        let a = r.other;
-        let t = r.tokens;
-        todo = r.rest;
-        if is_served(img, c, rec, a, t) {
-            continue;
-        }
-        if left == 0 {
-            return false;
-        }
-        left -= 1;
     }
     true
 }
@@ -272,18 +247,17 @@ fn others_granted(img: &[u8], c: Card, aid: &[u8], rec: &[u8], grants: Items, me
     true
 }
 
-// The list of unmet calls has room for those of the record, after the rows of the mask go.
-fn unmet_fits(img: &[u8], c: Card, rec: &[u8], calls: Items, met: u32) -> bool
+// The list of unmet calls has room for `unserved` more, after the rows of the mask go.
+fn unmet_fits(img: &[u8], c: Card, unserved: usize, met: u32) -> bool
     requires laid { ⌜ Laid (layoutOf c) (now img) ⌝ }
-    requires stands { ⌜ Stands aRow (now rec) calls ⌝ }
-    ensures { λ b. ⌜ b ≡ unmetFit (layoutOf c) (decode (layoutOf c) (now (img .entry))) met (itemsIn aRow (now (rec .entry)) calls) ⌝ }
+    ensures { λ b. ⌜ b ≡ unmetFit (layoutOf c) (decode (layoutOf c) (now (img .entry))) met unserved ⌝ }
 {
     let most = geometry::capacity(c);
     let old = image::lists::unmet_count(img, c);
     let gone = image::lists::mask_count(met);
     let all = most + gone;
     let room = all - old;
-    unserved_fit(img, c, rec, calls, room)
+    unserved <= room
 }
 
 // The list of waiting grants has room for those of the record, after the rows of the mask go.
@@ -317,16 +291,16 @@ pub fn cause(
     ensures { λ r. ⌜ r ≡ loadCause (layoutOf c) (decode (layoutOf c) (now (img .entry))) (now (aid .entry))
         (itemsIn aRow (now (rec .entry)) calls) (itemsIn aRow (now (rec .entry)) grants) (itemsIn aRow (now (rec .entry)) needs) met waiting ⌝ }
 {
-    if !calls_granted(img, c, waiting, rec, calls) {
+    let Called::Granted { unserved } = calls_granted(img, c, waiting, rec, calls) else {
         return 8;
-    }
+    };
     if !others_granted(img, c, aid, rec, grants, met) {
         return 8;
     }
     if !needs_served(img, c, rec, needs) {
         return 9;
     }
-    if !unmet_fits(img, c, rec, calls, met) {
+    if !unmet_fits(img, c, unserved, met) {
         return 10;
     }
     if !waiting_fits(img, c, rec, grants, waiting) {

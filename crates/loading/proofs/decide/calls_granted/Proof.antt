@@ -1,41 +1,81 @@
 -- `loading::decide::calls_granted` meets its contract.
 use native.Mathlib.Omega.{arith}
 use borrow.Author.Needs.{needs}
-use Rattle.policy.specs.Lists.{every}
-use Rattle.policy.specs.Record.{aRow}
 use Rattle.policy.specs.Tables.{decode}
 use Rattle.geometry.specs.Geometry.{layoutOf}
-use Rattle.record.proofs.Loops.{Left, todo-start, todo-end, every-stop, every-next}
-use Rattle.loading.specs.Loads.{callGranted}
+use denote.Ref.{now}
+use Rattle.loading.proofs.Checks.{Tally, tally-start, tally-stop, tally-off, tally-on, tally-end, unserved-is, served-on, granted-off, granted-no, granted-on}
 use Rattle.loading.proofs.decide.calls_granted.Statement.{statement}
 use Rattle.loading.proofs.decide.calls_granted.Tie as tie
 
 abbrev Inv-loop : tie.InvT-loop
-Inv-loop img c waiting rec todo₀ todo = Left aRow rec (every (callGranted (layoutOf c) (decode (layoutOf c) img) waiting)) todo₀ todo
+Inv-loop img c waiting rec n todo₀ unserved₀ todo unserved = Tally (layoutOf c) (decode (layoutOf c) img) waiting rec todo₀ todo unserved
 
 abbrev μ-loop : tie.MeasureT-loop
-μ-loop img c waiting rec todo₀ todo = todo .count
+μ-loop img c waiting rec n todo₀ unserved₀ todo unserved = todo .count
+
+packages-requires : tie.Need-packages-requires Inv-loop μ-loop
+packages-requires c κs = search needs
 
 loop-holds : tie.Need-loop-holds Inv-loop μ-loop
-loop-holds c = todo-start (c .before .before .pre .1)
+loop-holds c =
+    let s = c .before .before .before in
+    let x = s .args in
+    tally-start (layoutOf (x .c)) (decode (layoutOf (x .c)) (now (x .img))) (x .waiting) (now (x .rec)) (x .calls) (s .pre .1) (record { fits = s .good .1 .1 .1 .1 .0 .1 .1 .1 .0 .1 })
 
 take-row-requires : tie.Need-take-row-requires Inv-loop μ-loop
-take-row-requires c κs = (c .before .before .loop .inv .stands, c .if1 .taken)
+take-row-requires c κs = (c .before .before .loop .inv .granted .stands, c .if1 .taken)
 
-call-granted-requires : tie.Need-call-granted-requires Inv-loop μ-loop
-call-granted-requires c κs = search needs
+server-requires : tie.Need-server-requires Inv-loop μ-loop
+server-requires c κs = search needs
+
+add-unserved : tie.Need-add-unserved Inv-loop μ-loop
+add-unserved c = omega (arith, c .before .before .before .before .before .before .before .before .before .loop .inv .fits, c .before .before .before .before .before .before .before .if1 .taken)
 
 loop-less : tie.Need-loop-less Inv-loop μ-loop
-loop-less c = omega (arith, c .before .before .before .before .before .take-row .ensures .split .fewer)
+loop-less c = omega (arith, c .before .before .before .before .before .before .take-row .ensures .split .fewer)
 
 loop-again : tie.Need-loop-again Inv-loop μ-loop
-loop-again c = every-next _ (c .before .before .before .before .before .take-row .ensures .split) (c .before .before .call-granted .ensures) (c .before .before .before .before .before .before .before .before .loop .inv) (c .before .if2 .taken)
+loop-again c =
+    let s = c .before .before .before .before .before .before .before .before .before .before .before .before .before in
+    let x = s .args in
+    let L = layoutOf (x .c) in
+    let t = decode L (now (x .img)) in
+    let e = c .before .before .before .before .before .before .before .before .before .before .packages .ensures in
+    let q = c .before .before .server .ensures in
+    tally-off L t (x .waiting) (now (x .rec)) (x .calls) (c .before .before .before .before .before .before .before .before .before .loop .inv) (c .before .before .before .before .before .before .take-row .ensures .split) (granted-off L t _ _ _ e q (x .waiting) (c .if2 .taken)) (unserved-is L t _ _ _ e q (c .if2 .taken))
+
+granting-requires : tie.Need-granting-requires Inv-loop μ-loop
+granting-requires c κs = search needs
 
 returns : tie.Need-returns Inv-loop μ-loop
-returns c = every-stop _ (c .before .before .before .before .take-row .ensures .split) (c .before .call-granted .ensures) (c .before .before .before .before .before .before .before .loop .inv) (c .if2 .left)
+returns c =
+    let s = c .before .before .before .before .before .before .before .before .before .before .before .before .before .before .before in
+    let x = s .args in
+    let L = layoutOf (x .c) in
+    let t = decode L (now (x .img)) in
+    let e = c .before .before .before .before .before .before .before .before .before .before .before .before .packages .ensures in
+    let q = c .before .before .before .before .server .ensures in
+    tally-stop L t (x .waiting) (now (x .rec)) (x .calls) (c .before .before .before .before .before .before .before .before .before .before .before .loop .inv) (c .before .before .before .before .before .before .before .before .take-row .ensures .split) (granted-no L t _ _ _ e q (c .before .before .if2 .left) (x .waiting) _ (c .before .granting .ensures) (c .if3 .taken))
+
+loop-less-2 : tie.Need-loop-less-2 Inv-loop μ-loop
+loop-less-2 c = omega (arith, c .before .before .before .before .before .before .before .before .take-row .ensures .split .fewer)
+
+loop-again-2 : tie.Need-loop-again-2 Inv-loop μ-loop
+loop-again-2 c =
+    let s = c .before .before .before .before .before .before .before .before .before .before .before .before .before .before .before in
+    let x = s .args in
+    let L = layoutOf (x .c) in
+    let t = decode L (now (x .img)) in
+    let e = c .before .before .before .before .before .before .before .before .before .before .before .before .packages .ensures in
+    let q = c .before .before .before .before .server .ensures in
+    let h = c .before .before .if2 .left in
+    tally-on L t (x .waiting) (now (x .rec)) (x .calls) (c .before .before .before .before .before .before .before .before .before .before .before .loop .inv) (c .before .before .before .before .before .before .before .before .take-row .ensures .split) (granted-on L t _ _ _ e q h (x .waiting) _ (c .before .granting .ensures) (c .if3 .left)) (served-on L t _ _ _ e q h)
 
 returns-2 : tie.Need-returns-2 Inv-loop μ-loop
-returns-2 c = todo-end (c .before .before .loop .inv) (c .if1 .left)
+returns-2 c =
+    let x = c .before .before .before .before .before .before .args in
+    tally-end (layoutOf (x .c)) (decode (layoutOf (x .c)) (now (x .img))) (x .waiting) (now (x .rec)) (x .calls) (c .before .before .loop .unserved) (c .before .before .loop .inv) (c .if1 .left)
 
 pub calls-granted-spec : {M : Type 1} → statement M
 calls-granted-spec =
@@ -43,10 +83,15 @@ calls-granted-spec =
     (tie.spec
     Inv-loop
     μ-loop
+    packages-requires
     loop-holds
     take-row-requires
-    call-granted-requires
+    server-requires
+    add-unserved
     loop-less
     loop-again
+    granting-requires
     returns
+    loop-less-2
+    loop-again-2
     returns-2)

@@ -1,6 +1,7 @@
 -- `loading::decide::unmet_fits` meets its contract.
 use native.Mathlib.Omega.{arith}
 use borrow.Author.Needs.{needs}
+use mathlib.Core.Path.{refl}
 use Rattle.geometry.proofs.Bounds.{limits}
 use Rattle.loading.proofs.Checks.{gone-low, sum-fits, room-is}
 use Rattle.loading.proofs.decide.unmet_fits.Statement.{statement}
@@ -16,25 +17,15 @@ mask-count-requires : tie.Need-mask-count-requires
 mask-count-requires c κs = search needs
 
 add-all : tie.Need-add-all
-add-all c = sum-fits _ _ _ _ (c .before .before .capacity .ensures) (c .mask-count .ensures) (limits (c .before .before .before .before .before .args .c) .capacity-low) (gone-low (c .before .before .before .before .before .args .met))
+add-all c = sum-fits _ _ _ _ (c .before .before .capacity .ensures) (c .mask-count .ensures) (limits (c .before .before .before .before .args .c) .capacity-low) (gone-low (c .before .before .before .before .args .met))
 
 sub-room : tie.Need-sub-room
-sub-room c = omega (arith, c .before .before .capacity .ensures, c .before .unmet-count .ensures, c .before .before .before .before .before .pre .0 .room .unmet-fits)
-
-unserved-fit-requires : tie.Need-unserved-fit-requires
-unserved-fit-requires c κs = search needs
+sub-room c = omega (arith, c .before .before .capacity .ensures, c .before .unmet-count .ensures, c .before .before .before .before .pre .room .unmet-fits)
 
 returns : tie.Need-returns
-returns c = room-is _ (c .unserved-fit .ensures) (c .before .before .before .capacity .ensures) (c .before .mask-count .ensures) (c .before .before .unmet-count .ensures)
+returns c = room-is (c .before .before .before .before .args .unserved) refl (c .before .before .capacity .ensures) (c .mask-count .ensures) (c .before .unmet-count .ensures)
 
 pub unmet-fits-spec : {M : Type 1} → statement M
 unmet-fits-spec =
     tie.close
-    (tie.spec
-    capacity-requires
-    unmet-count-requires
-    mask-count-requires
-    add-all
-    sub-room
-    unserved-fit-requires
-    returns)
+    (tie.spec capacity-requires unmet-count-requires mask-count-requires add-all sub-room returns)
