@@ -2,7 +2,7 @@
 use Prim.Native.Nat.{ℕ, suc, _+_, _-_, _≤_, _<_}
 use native.Mathlib.Omega.{arith}
 use native.Mathlib.Nat.{add-zero, zero-add}
-use mathlib.Core.Path.{_≡_, refl, sym, ap, ap₂, _∙_}
+use mathlib.Core.Path.{_≡_, refl, sym, ap, ap₂, _∙_, subst}
 use mathlib.Core.Bool.{Bool, true, false, not, _&&_, cond, and-comm}
 use mathlib.Core.List.{List}
 use mathlib.Core.Option.{Option}
@@ -24,12 +24,14 @@ use Rattle.policy.specs.ShortCheck.{count}
 use Rattle.policy.proofs.Sets.{false-T, length-keep}
 use Rattle.image.specs.declared.read.Place.{Place}
 use Rattle.image.specs.Read.{numberOr, placeOr, maskOf, unmetRow}
+use Rattle.image.proofs.Laid.{sound-laid}
 use Rattle.image.proofs.Numbers.{package-none, package-some, server-none, server-some}
 use Rattle.record.specs.Meaning.{Stands, Uncons, itemsIn}
 use Rattle.record.specs.declared.Items.{Items}
 use Rattle.record.proofs.Loops.{Todo, Left, todo-start, todo-end, todo-cons, todo-next, every-stop, every-next, count-yes, count-no}
 use Rattle.engine.proofs.Callers.{not-asking, asking-by, caller-used}
-use Rattle.loading.specs.Loads.{meets, served, present, waitsAt, callGranted, CallsCome, grantFits}
+use Rattle.loading.specs.Loads.{meets, served, present, waitsAt, callGranted, CallsCome, grantFits, othersGranted, unmetFit, waitingFit, loadCause}
+use Rattle.loading.specs.declared.decide.Called.{Called}
 use Rattle.loading.specs.declared.decide.Called.the-variants.{Granted, Refused}
 
 -- ---- two tests, the second only where the first passes
@@ -171,42 +173,64 @@ pub room-is : (k : ℕ) {b : Bool} {x y z u v w : ℕ} → b ≡ leb k (x + y - 
 room-is k e p q r = e ∙ (λ i. leb k (p i + q i - r i))
 
 -- ---- the first cause that applies
-abbrev pub causeOf : Bool → Bool → Bool → Bool → Bool → ℕ
+abbrev causeOf : Bool → Bool → Bool → Bool → Bool → ℕ
 causeOf g h n u w = cond (not (g && h)) 8 (cond (not n) 9 (cond (not u) 10 (cond (not w) 11 0)))
 
-module _ (g h n u w : Bool) where
-  pub cause-1 : g ≡ false → 8 ≡ causeOf g h n u w
-  cause-1 q = sym (ap (λ (z : Bool). causeOf z h n u w) q)
+module _ (L : Layout) (t : Tables) (a : Aid) (calls grants needs : List Row) (met waiting : ℕ) where
+  abbrev others : Bool
+  others = othersGranted L t a grants met
 
-  module _ (q1 : g ≡ true) where
-    on-1 : true ≡ g
-    on-1 = sym q1
+  abbrev needed : Bool
+  needed = every (served L t) needs
 
-    pub cause-2 : (b : Bool) → b ≡ h → not b ≡ true → 8 ≡ causeOf g h n u w
-    cause-2 b e q = (λ i. causeOf (on-1 i) ((sym (not-true b q) ∙ e) i) n u w)
+  abbrev room : Bool
+  room = unmetFit L t met (count (λ x. not (served L t x)) calls)
 
-    module _ (b : Bool) (e2 : b ≡ h) (q2 : not b ≡ false) where
-      on-2 : true ≡ h
-      on-2 = sym (not-false b q2) ∙ e2
+  abbrev wait-room : Bool
+  wait-room = waitingFit L t waiting grants
 
-      pub cause-3 : (d : Bool) → d ≡ n → not d ≡ true → 9 ≡ causeOf g h n u w
-      cause-3 d e q = (λ i. causeOf (on-1 i) (on-2 i) ((sym (not-true d q) ∙ e) i) u w)
+  -- by what its calls come to
+  module _ (r : Called) (come : CallsCome L t waiting calls r) where
+    pub cause-1 : r ≡ Refused → 8 ≡ loadCause L t a calls grants needs met waiting
+    cause-1 q = λ i. causeOf (sym (subst (CallsCome L t waiting calls) q come) i) others needed room wait-room
 
-      module _ (d : Bool) (e3 : d ≡ n) (q3 : not d ≡ false) where
-        on-3 : true ≡ n
-        on-3 = sym (not-false d q3) ∙ e3
+    module _ (k : ℕ) (q1 : r ≡ Granted k) where
+      all-come : CallsCome L t waiting calls (Granted k)
+      all-come = subst (CallsCome L t waiting calls) q1 come
 
-        pub cause-4 : (f : Bool) → f ≡ u → not f ≡ true → 10 ≡ causeOf g h n u w
-        cause-4 f e q = (λ i. causeOf (on-1 i) (on-2 i) (on-3 i) ((sym (not-true f q) ∙ e) i) w)
+      on-1 : true ≡ every (callGranted L t waiting) calls
+      on-1 = sym (all-come .0)
 
-        module _ (f : Bool) (e4 : f ≡ u) (q4 : not f ≡ false) where
-          on-4 : true ≡ u
-          on-4 = sym (not-false f q4) ∙ e4
+      pub cause-2 : (b : Bool) → b ≡ others → not b ≡ true → 8 ≡ loadCause L t a calls grants needs met waiting
+      cause-2 b e q = λ i. causeOf (on-1 i) ((sym (not-true b q) ∙ e) i) needed room wait-room
 
-          pub cause-5 : (k : Bool) → k ≡ w → not k ≡ true → 11 ≡ causeOf g h n u w
-          cause-5 k e q = (λ i. causeOf (on-1 i) (on-2 i) (on-3 i) (on-4 i) ((sym (not-true k q) ∙ e) i))
+      module _ (b : Bool) (e2 : b ≡ others) (q2 : not b ≡ false) where
+        on-2 : true ≡ others
+        on-2 = sym (not-false b q2) ∙ e2
 
-          pub cause-0 : (k : Bool) → k ≡ w → not k ≡ false → 0 ≡ causeOf g h n u w
-          cause-0 k e q = (λ i. causeOf (on-1 i) (on-2 i) (on-3 i) (on-4 i) ((sym (not-false k q) ∙ e) i))
+        pub cause-3 : (d : Bool) → d ≡ needed → not d ≡ true → 9 ≡ loadCause L t a calls grants needs met waiting
+        cause-3 d e q = λ i. causeOf (on-1 i) (on-2 i) ((sym (not-true d q) ∙ e) i) room wait-room
+
+        module _ (d : Bool) (e3 : d ≡ needed) (q3 : not d ≡ false) where
+          on-3 : true ≡ needed
+          on-3 = sym (not-false d q3) ∙ e3
+
+          room-by : (f : Bool) → f ≡ unmetFit L t met k → f ≡ room
+          room-by f e = e ∙ ap (unmetFit L t met) (all-come .1)
+
+          pub cause-4 : (f : Bool) → f ≡ unmetFit L t met k → not f ≡ true → 10 ≡ loadCause L t a calls grants needs met waiting
+          cause-4 f e q = λ i. causeOf (on-1 i) (on-2 i) (on-3 i) ((sym (not-true f q) ∙ room-by f e) i) wait-room
+
+          module _ (f : Bool) (e4 : f ≡ unmetFit L t met k) (q4 : not f ≡ false) where
+            on-4 : true ≡ room
+            on-4 = sym (not-false f q4) ∙ room-by f e4
+
+            pub cause-5 : (z : Bool) → z ≡ wait-room → not z ≡ true → 11 ≡ loadCause L t a calls grants needs met waiting
+            cause-5 z e q = λ i. causeOf (on-1 i) (on-2 i) (on-3 i) (on-4 i) ((sym (not-true z q) ∙ e) i)
+
+            pub cause-0 : (z : Bool) → z ≡ wait-room → not z ≡ false → 0 ≡ loadCause L t a calls grants needs met waiting
+            cause-0 z e q = λ i. causeOf (on-1 i) (on-2 i) (on-3 i) (on-4 i) ((sym (not-false z q) ∙ e) i)
 
 pub ruleset checks = (present-is, served-is, fails-first, passes-first, not-asking, asking-by, needs)
+pub ruleset causes = (cause-1, cause-2, cause-3, cause-4, cause-5, cause-0, sound-laid, needs)
+pub ruleset tallies = (tally-stop, tally-off, tally-on, tally-end, unserved-is, served-on, granted-off, granted-no, granted-on, needs)

@@ -4,7 +4,7 @@ use borrow.Author.Needs.{needs}
 use Rattle.policy.specs.Tables.{decode}
 use Rattle.geometry.specs.Geometry.{layoutOf}
 use denote.Ref.{now}
-use Rattle.loading.proofs.Checks.{Tally, tally-start, tally-stop, tally-off, tally-on, tally-end, unserved-is, served-on, granted-off, granted-no, granted-on}
+use Rattle.loading.proofs.Checks.{Tally, tally-start, tallies}
 use Rattle.loading.proofs.decide.calls_granted.Statement.{statement}
 use Rattle.loading.proofs.decide.calls_granted.Tie as tie
 
@@ -36,46 +36,22 @@ loop-less : tie.Need-loop-less Inv-loop μ-loop
 loop-less c = omega (arith, c .before .before .before .before .before .before .take-row .ensures .split .fewer)
 
 loop-again : tie.Need-loop-again Inv-loop μ-loop
-loop-again c =
-    let s = c .before .before .before .before .before .before .before .before .before .before .before .before .before in
-    let x = s .args in
-    let L = layoutOf (x .c) in
-    let t = decode L (now (x .img)) in
-    let e = c .before .before .before .before .before .before .before .before .before .before .packages .ensures in
-    let q = c .before .before .server .ensures in
-    tally-off L t (x .waiting) (now (x .rec)) (x .calls) (c .before .before .before .before .before .before .before .before .before .loop .inv) (c .before .before .before .before .before .before .take-row .ensures .split) (granted-off L t _ _ _ e q (x .waiting) (c .if2 .taken)) (unserved-is L t _ _ _ e q (c .if2 .taken))
+loop-again c = search tallies
 
 granting-requires : tie.Need-granting-requires Inv-loop μ-loop
 granting-requires c κs = search needs
 
 returns : tie.Need-returns Inv-loop μ-loop
-returns c =
-    let s = c .before .before .before .before .before .before .before .before .before .before .before .before .before .before .before in
-    let x = s .args in
-    let L = layoutOf (x .c) in
-    let t = decode L (now (x .img)) in
-    let e = c .before .before .before .before .before .before .before .before .before .before .before .before .packages .ensures in
-    let q = c .before .before .before .before .server .ensures in
-    tally-stop L t (x .waiting) (now (x .rec)) (x .calls) (c .before .before .before .before .before .before .before .before .before .before .before .loop .inv) (c .before .before .before .before .before .before .before .before .take-row .ensures .split) (granted-no L t _ _ _ e q (c .before .before .if2 .left) (x .waiting) _ (c .before .granting .ensures) (c .if3 .taken))
+returns c = search tallies
 
 loop-less-2 : tie.Need-loop-less-2 Inv-loop μ-loop
 loop-less-2 c = omega (arith, c .before .before .before .before .before .before .before .before .take-row .ensures .split .fewer)
 
 loop-again-2 : tie.Need-loop-again-2 Inv-loop μ-loop
-loop-again-2 c =
-    let s = c .before .before .before .before .before .before .before .before .before .before .before .before .before .before .before in
-    let x = s .args in
-    let L = layoutOf (x .c) in
-    let t = decode L (now (x .img)) in
-    let e = c .before .before .before .before .before .before .before .before .before .before .before .before .packages .ensures in
-    let q = c .before .before .before .before .server .ensures in
-    let h = c .before .before .if2 .left in
-    tally-on L t (x .waiting) (now (x .rec)) (x .calls) (c .before .before .before .before .before .before .before .before .before .before .before .loop .inv) (c .before .before .before .before .before .before .before .before .take-row .ensures .split) (granted-on L t _ _ _ e q h (x .waiting) _ (c .before .granting .ensures) (c .if3 .left)) (served-on L t _ _ _ e q h)
+loop-again-2 c = search tallies
 
 returns-2 : tie.Need-returns-2 Inv-loop μ-loop
-returns-2 c =
-    let x = c .before .before .before .before .before .before .args in
-    tally-end (layoutOf (x .c)) (decode (layoutOf (x .c)) (now (x .img))) (x .waiting) (now (x .rec)) (x .calls) (c .before .before .loop .unserved) (c .before .before .loop .inv) (c .if1 .left)
+returns-2 c = search tallies
 
 pub calls-granted-spec : {M : Type 1} → statement M
 calls-granted-spec =
