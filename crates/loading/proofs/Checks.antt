@@ -1,4 +1,4 @@
--- Kind 1: what the code that decides has found, in the form in which its needs ask it: `search checks`. Assumes nothing.
+-- Kind 1: what the code that decides has found, in the form in which its needs ask it: `search checks`, `tallies` and `causes`. Assumes nothing.
 use Prim.Native.Nat.{ℕ, suc, _+_, _-_, _≤_, _<_}
 use native.Mathlib.Omega.{arith}
 use native.Mathlib.Nat.{add-zero, zero-add}
@@ -35,11 +35,11 @@ use Rattle.loading.specs.declared.decide.Called.{Called}
 use Rattle.loading.specs.declared.decide.Called.the-variants.{Granted, Refused}
 
 -- ---- two tests, the second only where the first passes
-pub fails-first : (b x y : Bool) → b ≡ x → not b ≡ true → false ≡ x && y
+fails-first : (b x y : Bool) → b ≡ x → not b ≡ true → false ≡ x && y
 fails-first false x y e h = ap (λ (z : Bool). z && y) e
 fails-first true x y e h = absurd (false-T (sym h) tt)
 
-pub passes-first : (b r x y : Bool) → b ≡ x → not b ≡ false → r ≡ y → r ≡ x && y
+passes-first : (b r x y : Bool) → b ≡ x → not b ≡ false → r ≡ y → r ≡ x && y
 passes-first true r x y e h q = q ∙ ap (λ (z : Bool). z && y) e
 passes-first false r x y e h q = absurd (false-T h tt)
 
@@ -90,12 +90,13 @@ module _ (L : Layout) (t : Tables) where
         go true h = let z = ltb-true (p .callee) n h in sym (ap isSome (server-some L t r p q (omega arith) .0))
         go false h = let z = ltb-false (p .callee) n h in sym (ap isSome (server-none L t r p q (omega arith)))
 
-    pub unserved-is : n ≤ p .callee → not (served L t r) ≡ true
-    unserved-is h = ap (λ (o : Option Found). not (isSome o)) (server-none L t r p q (omega arith))
+    -- it is not on the card
+    module _ (h : n ≤ p .callee) where
+      pub served-off : not (served L t r) ≡ true
+      served-off = ap (λ (o : Option Found). not (isSome o)) (server-none L t r p q (omega arith))
 
-    module _ (w : ℕ) where
-      pub granted-off : n ≤ p .callee → true ≡ callGranted L t w r
-      granted-off h = sym (ap (λ (o : Option Found). orElse o true (waitsAt L t w)) (server-none L t r p q (omega arith)))
+      pub granted-off : (w : ℕ) → true ≡ callGranted L t w r
+      granted-off w = sym (ap (λ (o : Option Found). orElse o true (waitsAt L t w)) (server-none L t r p q (omega arith)))
 
     -- it is at the place p: whether one of the rows of w waits there
     module _ (h : p .callee < n) where
@@ -133,11 +134,14 @@ module _ (L : Layout) (t : Tables) where
       pub tally-stop : false ≡ callGranted L t w x → CallsCome L t w (itemsIn aRow s all) Refused
       tally-stop e = sym (every-stop (callGranted L t w) q e (h .granted) refl)
 
+      still-granted : true ≡ callGranted L t w x → Left aRow s (every (callGranted L t w)) all rest
+      still-granted e = every-next (callGranted L t w) q e (h .granted) refl
+
       pub tally-off : true ≡ callGranted L t w x → unserved x ≡ true → Tally rest (u + 1)
-      tally-off e z = record { granted = every-next (callGranted L t w) q e (h .granted) refl; counted = count-yes unserved u q (h .counted) z; fits = omega (arith, h .fits, q .fewer) }
+      tally-off e z = record { granted = still-granted e; counted = count-yes unserved u q (h .counted) z; fits = omega (arith, h .fits, q .fewer) }
 
       pub tally-on : true ≡ callGranted L t w x → unserved x ≡ false → Tally rest u
-      tally-on e z = record { granted = every-next (callGranted L t w) q e (h .granted) refl; counted = count-no unserved u q (h .counted) z; fits = omega (arith, h .fits, q .fewer) }
+      tally-on e z = record { granted = still-granted e; counted = count-no unserved u q (h .counted) z; fits = omega (arith, h .fits, q .fewer) }
 
 -- ---- a loop that counts those that pass down from the room there is
 one-more : (k m : ℕ) → 0 < m → leb (suc k) m ≡ leb k (m - 1)
@@ -231,6 +235,8 @@ module _ (L : Layout) (t : Tables) (a : Aid) (calls grants needs : List Row) (me
             pub cause-0 : (z : Bool) → z ≡ wait-room → not z ≡ false → 0 ≡ loadCause L t a calls grants needs met waiting
             cause-0 z e q = λ i. causeOf (on-1 i) (on-2 i) (on-3 i) (on-4 i) ((sym (not-false z q) ∙ e) i)
 
-pub ruleset checks = (present-is, served-is, fails-first, passes-first, not-asking, asking-by, needs)
+pub ruleset checks = (present-is, served-is, met-other, met-has, grant-other, grant-seen, not-asking, asking-by, needs)
+
+pub ruleset tallies = (served-off, served-on, granted-off, granted-no, granted-on, tally-stop, tally-off, tally-on, tally-end, needs)
+
 pub ruleset causes = (cause-1, cause-2, cause-3, cause-4, cause-5, cause-0, sound-laid, needs)
-pub ruleset tallies = (tally-stop, tally-off, tally-on, tally-end, unserved-is, served-on, granted-off, granted-no, granted-on, needs)

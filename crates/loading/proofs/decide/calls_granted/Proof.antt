@@ -1,9 +1,10 @@
 -- `loading::decide::calls_granted` meets its contract.
 use native.Mathlib.Omega.{arith}
-use borrow.Author.Needs.{needs}
+use mir.Syntax.{w64}
+use mir.Val.{Fits}
+use denote.Ref.{now}
 use Rattle.policy.specs.Tables.{decode}
 use Rattle.geometry.specs.Geometry.{layoutOf}
-use denote.Ref.{now}
 use Rattle.loading.proofs.Checks.{Tally, tally-start, tallies}
 use Rattle.loading.proofs.decide.calls_granted.Statement.{statement}
 use Rattle.loading.proofs.decide.calls_granted.Tie as tie
@@ -15,19 +16,20 @@ abbrev μ-loop : tie.MeasureT-loop
 μ-loop img c waiting rec n todo₀ unserved₀ todo unserved = todo .count
 
 packages-requires : tie.Need-packages-requires Inv-loop μ-loop
-packages-requires c κs = search needs
+packages-requires c κs = search tallies
 
 loop-holds : tie.Need-loop-holds Inv-loop μ-loop
 loop-holds c =
     let s = c .before .before .before in
     let x = s .args in
-    tally-start (layoutOf (x .c)) (decode (layoutOf (x .c)) (now (x .img))) (x .waiting) (now (x .rec)) (x .calls) (s .pre .1) (record { fits = s .good .1 .1 .1 .1 .0 .1 .1 .1 .0 .1 })
+    let fits : Fits w64 (x .calls .count) = record { fits = s .good .1 .1 .1 .1 .0 .1 .1 .1 .0 .1 } in
+    tally-start (layoutOf (x .c)) (decode (layoutOf (x .c)) (now (x .img))) (x .waiting) (now (x .rec)) (x .calls) (s .pre .1) fits
 
 take-row-requires : tie.Need-take-row-requires Inv-loop μ-loop
 take-row-requires c κs = (c .before .before .loop .inv .granted .stands, c .if1 .taken)
 
 server-requires : tie.Need-server-requires Inv-loop μ-loop
-server-requires c κs = search needs
+server-requires c κs = search tallies
 
 add-unserved : tie.Need-add-unserved Inv-loop μ-loop
 add-unserved c = omega (arith, c .before .before .before .before .before .before .before .before .before .loop .inv .fits, c .before .before .before .before .before .before .before .if1 .taken)
@@ -39,7 +41,7 @@ loop-again : tie.Need-loop-again Inv-loop μ-loop
 loop-again c = search tallies
 
 granting-requires : tie.Need-granting-requires Inv-loop μ-loop
-granting-requires c κs = search needs
+granting-requires c κs = search tallies
 
 returns : tie.Need-returns Inv-loop μ-loop
 returns c = search tallies
