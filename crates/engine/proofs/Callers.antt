@@ -8,7 +8,7 @@ use mathlib.Core.List.{List, [], _∷_}
 use mathlib.Core.List.{List·Memᴰ as In, List·Memᴰ·head as here, List·Memᴰ·tail as there}
 use mathlib.Core.Option.{Option}
 use lib.Dec.{T, leb, leb→le, le→leb}
-use lib.ListN.{length, getD, take, drop, drop-of-length-le}
+use lib.ListN.{length, getD, drop, drop-of-length-le}
 use lib.Seq.{drop-cons}
 use native.Mathlib.Numerals.{add-one}
 use mir.Val.{boolByte}
@@ -25,8 +25,7 @@ use Rattle.policy.proofs.SoundFacts.{sound-formed}
 use Rattle.image.specs.Read.{maskOf, numberOr, noUnmet, unmetRow}
 use Rattle.image.proofs.Masks.{mask-bit}
 use Rattle.image.proofs.Numbers.{package-none, package-some}
-use Rattle.record.specs.Meaning.{aidIn, itemsIn, Uncons}
-use Rattle.record.specs.declared.Aid.{Aid}
+use Rattle.record.specs.Meaning.{itemsIn, Uncons}
 use Rattle.record.specs.declared.Items.{Items}
 use Rattle.record.proofs.Loops.{Todo, todo-next, todo-cons, todo-end}
 use Rattle.engine.specs.Services.{byCallers}

@@ -168,7 +168,7 @@ fn waiting_after(img: &[u8], c: Card, n: usize) -> usize
 fn remove_cause(img: &[u8], c: Card, n: usize) -> u8
     requires laid { ⌜ Laid (layoutOf c) (now img) ⌝ }
     requires inside { ⌜ n < layoutOf c .packages ⌝ }
-    ensures { λ r. ⌜ r ≡ answer (lookCauses (layoutOf c) (shortRemove (layoutOf c) (decode (layoutOf c) (now (img .entry))) n)) ⌝ }
+    ensures { λ r. ⌜ r ≡ answer (lookCauses (shortRemove (layoutOf c) (decode (layoutOf c) (now (img .entry))) n)) ⌝ }
 {
     let most = geometry::capacity(c);
     let needed = column(img, c, Table::Needs, n, 65535);
@@ -241,7 +241,7 @@ pub fn remove(img: &mut [u8], c: Card, aid: &[u8]) -> Verdict
 fn service_cause(img: &[u8], c: Card, j: usize, k: usize) -> u8
     requires laid { ⌜ Laid (layoutOf c) (now img) ⌝ }
     requires inside { ⌜ (j < layoutOf c .packages) × (k < layoutOf c .services) ⌝ }
-    ensures { λ r. ⌜ r ≡ answer (lookCauses (layoutOf c) (shortRemoveService (layoutOf c) (decode (layoutOf c) (now (img .entry))) j k)) ⌝ }
+    ensures { λ r. ⌜ r ≡ answer (lookCauses (shortRemoveService (layoutOf c) (decode (layoutOf c) (now (img .entry))) j k)) ⌝ }
 {
     let most = geometry::capacity(c);
     let mask = bits::with_bit(0, k);

@@ -47,7 +47,7 @@ module _ (L : Layout) (img : List ℕ) (a : Aid) (p : List Tok) (c g n : List Ro
   decides-7 r e o f = refuses r 6 e (settled-refused L img a ch 6 (early none none o f))
 
   -- no cause applies
-  accepted-at : (m : ℕ) → numberOf L t a ≡ none → freeNumber L t ≡ some m → answer (lookCauses L (shortLook L t a ch)) ≡ 0
+  accepted-at : (m : ℕ) → numberOf L t a ≡ none → freeNumber L t ≡ some m → answer (lookCauses (shortLook L t a ch)) ≡ 0
       → settled L img a ch ≡ record { answered = 0; second = m; bytes = encode L (loadAt L t m contract .tables) }
   unfolding draft numberFor
   accepted-at m o f e =
@@ -58,7 +58,7 @@ module _ (L : Layout) (img : List ℕ) (a : Aid) (p : List Tok) (c g n : List Ro
       → r .number ≡ loadCause L t a c g n (r .met) (r .waiting) → Decides L img a p c g n r
   decides-late low r o f e w h = go (r .number) refl
     where
-      late : r .number ≡ answer (lookCauses L (shortLook L t a ch))
+      late : r .number ≡ answer (lookCauses (shortLook L t a ch))
       late = h ∙ ap₂ (λ (x y : ℕ). loadCause L t a c g n x y) e w ∙ cause-same L img (ask .is-sound) low a p c g n
 
       go : (k : ℕ) → r .number ≡ k → Decides L img a p c g n r

@@ -46,10 +46,10 @@ module _ (L : Layout) (img : List ℕ) (a : Aid) (p : List Tok) (c g n : List Ro
   none-early : answer (tableCauses L t a ch) ≡ 0
   none-early = early L img a p c g n ask none (some (r .at)) (ok .away) (ok .free)
 
-  none-late : answer (lookCauses L (shortLook L t a ch)) ≡ 0
-  none-late = go (answer (lookCauses L (shortLook L t a ch))) refl
+  none-late : answer (lookCauses (shortLook L t a ch)) ≡ 0
+  none-late = go (answer (lookCauses (shortLook L t a ch))) refl
     where
-      go : (k : ℕ) → answer (lookCauses L (shortLook L t a ch)) ≡ k → answer (lookCauses L (shortLook L t a ch)) ≡ 0
+      go : (k : ℕ) → answer (lookCauses (shortLook L t a ch)) ≡ k → answer (lookCauses (shortLook L t a ch)) ≡ 0
       go zero e = e
       go (suc k) e =
           let q : suc k ≡ 0 = ap (λ (o : Out). o .answered) (sym (settled-short L img a ch (ask .is-sound) (ask .valid) (ask .is-proper) none-early k e) ∙ ok .outcome) in
@@ -75,5 +75,5 @@ module _ (L : Layout) (img : List ℕ) (a : Aid) (p : List Tok) (c g n : List Ro
   pub load-kept : loadAt L (decode L img) (r .at) contract .lost ≡ []
   load-kept = subst (λ (d : Draft). d .lost ≡ []) draft-is
       (accepted L (draft L t a ch) (accepted-formed L img a ch (ask .is-sound) (ask .first-valid) (ask .valid) (ask .is-proper) none-early none-late .0)
-      (ap (λ (k : Look). answer (lookCauses L k))
+      (ap (λ (k : Look). answer (lookCauses k))
       (kinds ch .1 L t a formed (sound-lawful L img (ask .is-sound)) (sound-fitting L img (ask .is-sound)) (ask .valid) (ask .is-proper) none-early) ∙ none-late) .2)

@@ -22,8 +22,6 @@ use Rattle.image.specs.Laid.{withUnmet}
 use Rattle.image.specs.Wrote.{Wrote}
 use Rattle.image.specs.Read.{numberOr, placeOr}
 use Rattle.image.proofs.Numbers.{Below, service-below, server-none, server-some}
-use Rattle.record.specs.Meaning.{AidFits, aidIn}
-use Rattle.record.specs.declared.Aid.{Aid as Position}
 use Rattle.engine.proofs.Meets.{aid-short}
 use Rattle.engine.proofs.ItemTurns.{Turns, RoomBy, room-here, room-after}
 use Rattle.loading.specs.Loads.{served, present}

@@ -120,8 +120,8 @@ module _ (L : Layout) (t : Tables) (f : Formed L t) (fit : Fitting L t) (low : L
 
 -- causes 8 to 11 by masks are those of the short check
 pub cause-same : (L : Layout) (img : List ℕ) → T (sound L img) → L .capacity ≤ 32 → (a : Aid) (p : List Tok) (c g n : List Row)
-    → loadCause L (decode L img) a c g n (maskOf (meets a p) (decode L img .unmet)) (maskOf (waitsFor a) (decode L img .waiting)) ≡ answer (lookCauses L (shortLook L (decode L img) a (load p c g n)))
+    → loadCause L (decode L img) a c g n (maskOf (meets a p) (decode L img .unmet)) (maskOf (waitsFor a) (decode L img .waiting)) ≡ answer (lookCauses (shortLook L (decode L img) a (load p c g n)))
 unfolding shortLook
 cause-same L img ok low a p c g n =
-    ap (λ (k : Look). answer (lookCauses L k))
+    ap (λ (k : Look). answer (lookCauses k))
     (look-same L (decode L img) (sound-formed L img ok) (sound-fitting L img ok) low (record { aid = a; provides = p; calls = c; grants = g; needs = n }))

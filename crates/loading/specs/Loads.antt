@@ -78,7 +78,7 @@ module _ (L : Layout) (t : Tables) where
   }
 
   abbrev pub loadCause : Aid → List Row → List Row → List Row → ℕ → ℕ → ℕ
-  loadCause a calls grants needs met waiting = answer (lookCauses L (loadLook a calls grants needs met waiting))
+  loadCause a calls grants needs met waiting = answer (lookCauses (loadLook a calls grants needs met waiting))
 
 -- ---- what is decided of a load
 -- it is accepted: the number that the package takes, and the masks of the unmet calls that it meets and of the grants that wait for it
