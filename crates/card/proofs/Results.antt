@@ -41,7 +41,7 @@ told-length h x (v ∷ []) q e = absurd (subst (λ (o : Option Request). T (not 
 told-length h x (v ∷ k ∷ s) q e = go (eqb ((0 * 256 + h) * 256 + x) (length (h ∷ x ∷ v ∷ k ∷ s))) refl
   where
     by : Bool → Option Request
-    by b = whole small (andThen (given (b && eqb v 1) aid s) (λ a t. andThen (change small k t) (λ c. done (record { aid = a; change = c }))))
+    by b = whole (andThen (given (b && eqb v 1) aid s) (λ a t. andThen (change small k t) (λ c. done (record { aid = a; change = c }))))
 
     go : (b : Bool) → eqb ((0 * 256 + h) * 256 + x) (length (h ∷ x ∷ v ∷ k ∷ s)) ≡ b → (0 * 256 + h) * 256 + x ≡ length (h ∷ x ∷ v ∷ k ∷ s)
     go true p = eqb→eq ((0 * 256 + h) * 256 + x) (length (h ∷ x ∷ v ∷ k ∷ s)) (subst T (sym p) tt)
