@@ -3,10 +3,12 @@ use geometry::Card;
 use libc::STDIN_FILENO;
 use libc::STDOUT_FILENO;
 ghost use mathlib.Core.Path.{_≡_};
+ghost use mathlib.Core.Bool.{true};
 ghost use lib.ListN.{length};
 ghost use Rattle.lines.specs.Lines.{Printed};
 ghost use Rattle.lines.specs.Session.{judging};
 ghost use Rattle.lines.specs.Frames.{longest};
+ghost use Rattle.lines.specs.Reached.{After, Reached};
 ghost use Rattle.policy.specs.Layout.{small, size};
 ghost use Rattle.policy.specs.Tables.{emptyImage};
 ghost use Rattle.cases.specs.Answers.{answerText};
@@ -102,6 +104,7 @@ fn read_record(buf: &mut [u8]) -> Input
 // The next record of a case: prints what was answered, and answers whether the input was good.
 fn next_record(image: &mut [u8], buf: &mut [u8]) -> bool
     requires { ⌜ length (now buf) ≡ longest ⌝ }
+    ensures { λ _. ⌜ After (now (image .entry)) (now (image .exit)) ⌝ }
 {
     match read_record(buf) {
         Input::Bytes(n) => print_answer(image, &buf[..n]),
@@ -120,6 +123,7 @@ fn print_comma(done: u8) {
 // So many records of a case; answers whether all were there.
 fn all_records(image: &mut [u8], buf: &mut [u8], count: u8) -> bool
     requires { ⌜ length (now buf) ≡ longest ⌝ }
+    ensures { λ _. ⌜ After (now (image .entry)) (now (image .exit)) ⌝ }
 {
     let mut done: u8 = 0;
     while done < count {
@@ -140,10 +144,11 @@ fn start(image: &mut [u8])
     engine::empty::write_empty(image, Card::Small);
 }
 
-// The records of a case behind their count, and the end of its line; answers whether all was there.
+// The records of a case behind their count, judged from the empty image on, and the end of its line; answers whether all was there.
 fn rest_of_case(image: &mut [u8], buf: &mut [u8]) -> bool
     requires image_size { ⌜ length (now image) ≡ size small ⌝ }
     requires buf_size { ⌜ length (now buf) ≡ longest ⌝ }
+    ensures { λ r. ⌜ (r ≡ true → Reached (now (image .exit))) ⌝ }
 {
     let mut count = [0u8; 1];
     let got = io::read_full(STDIN_FILENO, &mut count);

@@ -4,3 +4,4 @@ pub mod Columns
 pub mod Frames
 pub mod Session
 pub mod Paper
+pub mod Reached

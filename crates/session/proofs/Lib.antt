@@ -1,3 +1,2 @@
 mod Answered
 mod Reading
-mod Reached

@@ -9,9 +9,9 @@ ghost use lib.ListN.{length, getD};
 ghost use Rattle.lines.specs.Lines.{recordLine, Printed};
 ghost use Rattle.lines.specs.Session.{judging};
 ghost use Rattle.lines.specs.Frames.{longest};
+ghost use Rattle.lines.specs.Reached.{After, Reached};
 ghost use Rattle.policy.specs.Layout.{small, size};
 ghost use Rattle.session.specs.Input.{Held};
-ghost use Rattle.session.specs.Reached.{After, Reached};
 
 // One record: judged on the image, and its line put into text. This is one turn of the transcript.
 fn answer_record(image: &mut [u8], rec: &[u8], ordinal: u64, text: &mut [u8; 40]) -> usize

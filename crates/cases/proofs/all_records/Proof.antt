@@ -3,17 +3,19 @@ use Prim.Native.Nat.{_-_, _≤_}
 use mathlib.Core.Path.{_≡_}
 use borrow.Author.Needs.{needs}
 use lib.ListN.{length}
+use Rattle.lines.specs.Reached.{After}
+use Rattle.lines.proofs.Reached.{stays, onward}
 use Rattle.cases.proofs.all_records.Statement.{statement}
 use Rattle.cases.proofs.all_records.Tie as tie
 
 abbrev Inv-loop : tie.InvT-loop
-Inv-loop image₀ buf₀ count done₀ image buf done = (length image ≡ length image₀) × (length buf ≡ length buf₀) × (done ≤ count)
+Inv-loop image₀ buf₀ count done₀ image buf done = (length image ≡ length image₀) × (length buf ≡ length buf₀) × (done ≤ count) × After image₀ image
 
 abbrev μ-loop : tie.MeasureT-loop
 μ-loop image₀ buf₀ count done₀ image buf done = count - done
 
 loop-holds : tie.Need-loop-holds Inv-loop μ-loop
-loop-holds c = search needs
+loop-holds c = search (stays, needs)
 
 print-comma-requires : tie.Need-print-comma-requires Inv-loop μ-loop
 print-comma-requires c κs = search needs
@@ -28,7 +30,7 @@ same-length-2 : tie.Need-same-length-2 Inv-loop μ-loop
 same-length-2 c = search needs
 
 returns : tie.Need-returns Inv-loop μ-loop
-returns c = search needs
+returns c = search (onward, needs)
 
 add-done : tie.Need-add-done Inv-loop μ-loop
 add-done c = search needs
@@ -37,7 +39,7 @@ loop-less : tie.Need-loop-less Inv-loop μ-loop
 loop-less c = search needs
 
 loop-again : tie.Need-loop-again Inv-loop μ-loop
-loop-again c = search needs
+loop-again c = search (onward, needs)
 
 same-length-3 : tie.Need-same-length-3 Inv-loop μ-loop
 same-length-3 c = search needs

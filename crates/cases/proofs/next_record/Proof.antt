@@ -5,6 +5,7 @@ use native.Mathlib.Omega.{arith}
 use borrow.Author.Needs.{needs}
 use lib.ListN.{length}
 use lib.Seq.{length-take-le}
+use Rattle.lines.proofs.Reached.{stays, judged-one}
 use Rattle.cases.proofs.Reading.{stands}
 use Rattle.cases.proofs.next_record.Statement.{statement}
 use Rattle.cases.proofs.next_record.Tie as tie
@@ -40,19 +41,19 @@ same-length-2 : tie.Need-same-length-2
 same-length-2 c = search needs
 
 returns : tie.Need-returns
-returns c = search needs
+returns c = judged-one _ _ (c .before .before .print-answer .ensures)
 
 same-length-3 : tie.Need-same-length-3
 same-length-3 c = search needs
 
 returns-2 : tie.Need-returns-2
-returns-2 c = search needs
+returns-2 c = stays _
 
 same-length-4 : tie.Need-same-length-4
 same-length-4 c = search needs
 
 returns-3 : tie.Need-returns-3
-returns-3 c = search needs
+returns-3 c = stays _
 
 pub next-record-spec : {M : Type 1} → statement M
 next-record-spec =

@@ -3,8 +3,8 @@ use Prim.Native.Nat.{_-_, _^_, _<_}
 use mathlib.Core.Path.{_≡_}
 use borrow.Author.Needs.{needs}
 use lib.ListN.{length}
-use Rattle.session.specs.Reached.{Reached}
-use Rattle.session.proofs.Reached.{starts, onward}
+use Rattle.lines.specs.Reached.{Reached}
+use Rattle.lines.proofs.Reached.{starts, onward}
 use Rattle.session.proofs.run.Statement.{statement}
 use Rattle.session.proofs.run.Tie as tie
 

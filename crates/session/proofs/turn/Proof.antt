@@ -6,7 +6,7 @@ use lib.Seq.{length-take-le}
 use Rattle.session.specs.declared.Input.{Input}
 use Rattle.session.specs.declared.Input.the-variants.{Record}
 use Rattle.session.specs.Input.{Held}
-use Rattle.session.proofs.Reached.{stays, judged-one}
+use Rattle.lines.proofs.Reached.{stays, judged-one}
 use Rattle.session.proofs.turn.Statement.{statement}
 use Rattle.session.proofs.turn.Tie as tie
 

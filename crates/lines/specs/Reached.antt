@@ -1,4 +1,4 @@
--- The images that a run of the program goes through.
+-- The images that a run of a program goes through.
 use Prim.Native.Nat.{ℕ}
 use mathlib.Core.Path.{_≡_}
 use mathlib.Core.List.{List}

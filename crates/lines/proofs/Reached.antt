@@ -10,7 +10,7 @@ use Rattle.policy.specs.Tables.{emptyImage}
 use Rattle.policy.specs.Judge.{Out, refusal, judge, writeEmpty}
 use Rattle.policy.specs.Settled.{Gives}
 use Rattle.policy.specs.History.{imageAfter}
-use Rattle.session.specs.Reached.{After, Reached}
+use Rattle.lines.specs.Reached.{After, Reached}
 
 -- where no record was judged
 pub stays : (img : List ℕ) → After img img
