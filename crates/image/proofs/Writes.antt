@@ -1,21 +1,18 @@
 -- What writing code leaves, as tables.
-use Prim.Native.Nat.{ℕ, _+_, _-_, _*_, _^_, _≤_, _<_}
+use Prim.Native.Nat.{ℕ, _+_, _-_, _^_, _≤_, _<_}
 use native.Mathlib.Omega.{arith}
 use native.Mathlib.Nat.{not-le-of-lt}
-use mathlib.Core.Path.{_≡_, refl, sym, ap, ap₂, _∙_, subst}
+use mathlib.Core.Path.{_≡_, refl, sym, ap, _∙_, subst}
 use mathlib.Core.Bool.{Bool, cond}
 use mathlib.Core.List.{List, [], _∷_, _++_}
-use mathlib.Core.List.{List·Memᴰ as In}
 use lib.Dec.{eqb}
-use lib.ListN.{length, getD, set, take, drop, replicate, length-append}
+use lib.ListN.{length, set, take, drop, replicate, length-append}
 use Rattle.policy.specs.Contract.{Aid, Tok}
 use Rattle.policy.specs.Layout.{Layout, usedAt, unmetAt, waitingAt, size}
-use Rattle.policy.specs.Tables.{Tables, Unmet, Waiting, bit, rowOf, readNumber, writeNumber, writeBits, writeAid, writeTok, writeUnmet, writeWaiting, writeList, decode}
+use Rattle.policy.specs.Tables.{Tables, bit, rowOf, readNumber, writeNumber, writeBits, writeAid, writeTok, writeUnmet, writeWaiting, decode}
 use Rattle.policy.specs.Draft.{put, put2, put3}
 use Rattle.policy.proofs.Sets.{T-false}
 use Rattle.policy.proofs.Pieces.{length-aid, length-unmet, length-waiting}
-use Rattle.rows.specs.Area.{IsArea, HasRoom, keepRows, appended, dropped}
-use Rattle.rows.proofs.Lists.{kept-in, kept-short}
 use Rattle.rows.proofs.Over.{over-on, part-at}
 use Rattle.bits.proofs.Row.{rowOf-lt}
 use Rattle.geometry.specs.declared.Card.{Card}
@@ -27,7 +24,7 @@ use Rattle.image.specs.Wrote.{Wrote}
 use Rattle.image.proofs.Laid.{laid-length, entry-in}
 use Rattle.image.proofs.Access.{entry-number, unmet-is, waiting-is}
 use Rattle.image.proofs.Replace.{Holds, laid-holds, holds-laid, holds-decode, holds-used, holds-aid, holds-tok, holds-provides, holds-entry, holds-unmet, holds-waiting}
-use Rattle.image.proofs.Lent.{in-more, fits-more, lent-area, lent-dropped, lent-room, lent-appended}
+use Rattle.image.proofs.Lent.{Rows}
 use Rattle.image.proofs.Over.{over-byte, over-length, over-row, entry-put3, row-put2}
 use Rattle.image.proofs.RowBits.{row-bits, bit-in, Ends, ends-in, put-ends, put-is, put-lt, put-bits, bit-set, bit-clear}
 
@@ -109,68 +106,24 @@ module _ (c : Card) where
     pub aid-wrote : {img′ : List ℕ} (n at : ℕ) (a : Aid) → n < L .packages → length a ≤ 16 → at ≡ aidAt L n → img′ ≡ over at (writeAid a) img → Wrote L img′ (withAid n a t)
     aid-wrote n at a p s q e = wrote-as (e ∙ ap (λ (z : ℕ). over z (writeAid a) img) q) (holds-aid L (layout-ok c) (laid-holds L h) n a p s)
 
-    -- ---- the lists: rows dropped, and a row more
-    module _ (at n : ℕ) (a : at ≡ unmetAt L) (b : n ≡ 1 + L .capacity * 20) where
-      unmet-part : take n (drop at img) ≡ writeList L writeUnmet 20 (t .unmet)
-      unmet-part = ap₂ (λ (x y : ℕ). take x (drop y img)) b a ∙ unmet-is L (layout-ok c) h
+    -- ---- the two lists
+    pub unmets : Rows L img writeUnmet 20 (unmetAt L) (λ u. u .callee) (t .unmet) (λ l. withUnmet l t)
+    unmets = record {
+      wide = length-unmet;
+      is = unmet-is L (layout-ok c) h;
+      few = h .room .unmet-fits;
+      short = h .room .unmet-short;
+      wrote = λ l p q. holds-wrote (holds-unmet L (layout-ok c) (laid-holds L h) l p q);
+    }
 
-      unmet-wide : (u : Unmet) → In u (t .unmet) → length (writeUnmet u) ≡ 20
-      unmet-wide u i = length-unmet u (h .room .unmet-short u i)
-
-      pub unmet-area : IsArea 20 (take n (drop at img)) × (getD (take n (drop at img)) 0 0 ≤ 32)
-      unmet-area = lent-area L writeUnmet 20 (t .unmet) unmet-wide (h .room .unmet-fits) at n img unmet-part (limits c .capacity-low)
-
-      pub unmet-dropped : (mask : ℕ) {new : List ℕ} → new ≡ dropped 20 mask (take n (drop at img))
-          → Wrote L (take at img ++ (new ++ drop n (drop at img))) (withUnmet (keepRows mask (t .unmet)) t)
-      unmet-dropped mask e =
-          let l = keepRows mask (t .unmet) in
-          let fits : length l ≤ L .capacity = omega (arith, kept-short mask 0 (t .unmet), h .room .unmet-fits) in
-          wrote-as
-          (lent-dropped L writeUnmet 20 (t .unmet) unmet-wide (h .room .unmet-fits) at n img unmet-part mask b e ∙ ap (λ (z : ℕ). over z (writeList L writeUnmet 20 l) img) a)
-          (holds-unmet L (layout-ok c) (laid-holds L h) l fits (λ u i. h .room .unmet-short u (kept-in mask 0 (t .unmet) i)))
-
-      module _ (x : Unmet) (s : length (x .callee) ≤ 16) (lt : length (t .unmet) < L .capacity) where
-        pub unmet-room : HasRoom 20 (writeUnmet x) (take n (drop at img))
-        unmet-room = lent-room L writeUnmet 20 (t .unmet) unmet-wide (h .room .unmet-fits) at n img unmet-part x (length-unmet x s) lt (limits c .capacity-low)
-
-        pub unmet-appended : {new : List ℕ} → new ≡ appended 20 (writeUnmet x) (take n (drop at img))
-            → Wrote L (take at img ++ (new ++ drop n (drop at img))) (withUnmet (t .unmet ++ (x ∷ [])) t)
-        unmet-appended e =
-            let l = t .unmet ++ (x ∷ []) in
-            wrote-as
-            (lent-appended L writeUnmet 20 (t .unmet) unmet-wide (h .room .unmet-fits) at n img unmet-part x (length-unmet x s) lt b e ∙ ap (λ (z : ℕ). over z (writeList L writeUnmet 20 l) img) a)
-            (holds-unmet L (layout-ok c) (laid-holds L h) l (fits-more (t .unmet) x lt) (in-more (λ y. length (y .callee) ≤ 16) (t .unmet) x (h .room .unmet-short) s))
-
-    module _ (at n : ℕ) (a : at ≡ waitingAt L) (b : n ≡ 1 + L .capacity * 19) where
-      waiting-part : take n (drop at img) ≡ writeList L writeWaiting 19 (t .waiting)
-      waiting-part = ap₂ (λ (x y : ℕ). take x (drop y img)) b a ∙ waiting-is L (layout-ok c) h
-
-      waiting-wide : (u : Waiting) → In u (t .waiting) → length (writeWaiting u) ≡ 19
-      waiting-wide u i = length-waiting u (h .room .waiting-short u i)
-
-      pub waiting-area : IsArea 19 (take n (drop at img)) × (getD (take n (drop at img)) 0 0 ≤ 32)
-      waiting-area = lent-area L writeWaiting 19 (t .waiting) waiting-wide (h .room .waiting-fits) at n img waiting-part (limits c .capacity-low)
-
-      pub waiting-dropped : (mask : ℕ) {new : List ℕ} → new ≡ dropped 19 mask (take n (drop at img))
-          → Wrote L (take at img ++ (new ++ drop n (drop at img))) (withWaiting (keepRows mask (t .waiting)) t)
-      waiting-dropped mask e =
-          let l = keepRows mask (t .waiting) in
-          let fits : length l ≤ L .capacity = omega (arith, kept-short mask 0 (t .waiting), h .room .waiting-fits) in
-          wrote-as
-          (lent-dropped L writeWaiting 19 (t .waiting) waiting-wide (h .room .waiting-fits) at n img waiting-part mask b e ∙ ap (λ (z : ℕ). over z (writeList L writeWaiting 19 l) img) a)
-          (holds-waiting L (layout-ok c) (laid-holds L h) l fits (λ u i. h .room .waiting-short u (kept-in mask 0 (t .waiting) i)))
-
-      module _ (x : Waiting) (s : length (x .caller) ≤ 16) (lt : length (t .waiting) < L .capacity) where
-        pub waiting-room : HasRoom 19 (writeWaiting x) (take n (drop at img))
-        waiting-room = lent-room L writeWaiting 19 (t .waiting) waiting-wide (h .room .waiting-fits) at n img waiting-part x (length-waiting x s) lt (limits c .capacity-low)
-
-        pub waiting-appended : {new : List ℕ} → new ≡ appended 19 (writeWaiting x) (take n (drop at img))
-            → Wrote L (take at img ++ (new ++ drop n (drop at img))) (withWaiting (t .waiting ++ (x ∷ [])) t)
-        waiting-appended e =
-            let l = t .waiting ++ (x ∷ []) in
-            wrote-as
-            (lent-appended L writeWaiting 19 (t .waiting) waiting-wide (h .room .waiting-fits) at n img waiting-part x (length-waiting x s) lt b e ∙ ap (λ (z : ℕ). over z (writeList L writeWaiting 19 l) img) a)
-            (holds-waiting L (layout-ok c) (laid-holds L h) l (fits-more (t .waiting) x lt) (in-more (λ y. length (y .caller) ≤ 16) (t .waiting) x (h .room .waiting-short) s))
+    pub waitings : Rows L img writeWaiting 19 (waitingAt L) (λ v. v .caller) (t .waiting) (λ l. withWaiting l t)
+    waitings = record {
+      wide = length-waiting;
+      is = waiting-is L (layout-ok c) h;
+      few = h .room .waiting-fits;
+      short = h .room .waiting-short;
+      wrote = λ l p q. holds-wrote (holds-waiting L (layout-ok c) (laid-holds L h) l p q);
+    }
 
     -- ---- an entry of a table
     module _ (tb : Table) (i j at : ℕ) (p : i < L .packages) (q : j < L .packages) (a : at ≡ entryAt L tb i j) where

@@ -3,7 +3,8 @@ use Prim.Native.Nat.{_-_}
 use native.Mathlib.Omega.{arith}
 use borrow.Author.Needs.{needs}
 use Rattle.geometry.proofs.Bounds.{limits}
-use Rattle.image.proofs.Writes.{laid-len, unmet-room, unmet-appended}
+use Rattle.image.proofs.Lent.{rows-room, rows-appended}
+use Rattle.image.proofs.Writes.{laid-len, unmets}
 use Rattle.image.proofs.write.append_unmet.Statement.{statement}
 use Rattle.image.proofs.write.append_unmet.Tie as tie
 
@@ -13,7 +14,7 @@ append-requires c κs =
     let a = s .args in
     let at = c .before .before .before .unmet-at in (
       (s .pre .1 .1 .0, omega arith),
-      unmet-room (a .c) (s .pre .0) (at .result) (c .before .before .waiting-at .result - at .result) (at .ensures) (omega arith)
+      rows-room (a .c) (unmets (a .c) (s .pre .0)) (at .result) (c .before .before .waiting-at .result - at .result) (at .ensures) (omega arith)
           (record { callee = a .aid .now; tok = record { itf = a .interface; mth = a .method }; caller = a .caller }) (s .pre .1 .1 .0) (s .pre .1 .0),
     )
 
@@ -23,7 +24,7 @@ returns c =
     let a = s .args in
     let at = c .before .before .before .before .before .before .unmet-at in
     let end = c .before .before .before .before .before .waiting-at in
-    unmet-appended (a .c) (s .pre .0) (at .result) (end .result - at .result) (at .ensures) (omega arith)
+    rows-appended (a .c) (unmets (a .c) (s .pre .0)) (at .result) (end .result - at .result) (at .ensures) (omega arith)
     (record { callee = a .aid .now; tok = record { itf = a .interface; mth = a .method }; caller = a .caller }) (s .pre .1 .1 .0) (s .pre .1 .0) (c .before .before .append .ensures)
 
 pub append-unmet-spec : {M : Type 1} → statement M

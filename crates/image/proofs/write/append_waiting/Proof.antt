@@ -4,7 +4,8 @@ use native.Mathlib.Omega.{arith}
 use lib.ListN.{length}
 use borrow.Author.Needs.{needs}
 use Rattle.geometry.proofs.Bounds.{limits}
-use Rattle.image.proofs.Writes.{laid-len, waiting-room, waiting-appended}
+use Rattle.image.proofs.Lent.{rows-room, rows-appended}
+use Rattle.image.proofs.Writes.{laid-len, waitings}
 use Rattle.image.proofs.write.append_waiting.Statement.{statement}
 use Rattle.image.proofs.write.append_waiting.Tie as tie
 
@@ -14,7 +15,7 @@ append-requires c κs =
     let a = s .args in
     let at = c .before .before .waiting-at in (
       (s .pre .1 .1 .0, omega arith),
-      waiting-room (a .c) (s .pre .0) (at .result) (length (a .img .now) - at .result) (at .ensures) (omega (arith, laid-len (a .c) (s .pre .0)))
+      rows-room (a .c) (waitings (a .c) (s .pre .0)) (at .result) (length (a .img .now) - at .result) (at .ensures) (omega (arith, laid-len (a .c) (s .pre .0)))
           (record { caller = a .aid .now; callee = a .callee; service = a .service }) (s .pre .1 .1 .0) (s .pre .1 .0),
     )
 
@@ -23,7 +24,7 @@ returns c =
     let s = c .before .before .before .before .before .before .before .before in
     let a = s .args in
     let at = c .before .before .before .before .before .waiting-at in
-    waiting-appended (a .c) (s .pre .0) (at .result) (length (a .img .now) - at .result) (at .ensures) (omega (arith, laid-len (a .c) (s .pre .0)))
+    rows-appended (a .c) (waitings (a .c) (s .pre .0)) (at .result) (length (a .img .now) - at .result) (at .ensures) (omega (arith, laid-len (a .c) (s .pre .0)))
     (record { caller = a .aid .now; callee = a .callee; service = a .service }) (s .pre .1 .1 .0) (s .pre .1 .0) (c .before .before .append .ensures)
 
 pub append-waiting-spec : {M : Type 1} → statement M

@@ -2,7 +2,8 @@
 use Prim.Native.Nat.{_-_}
 use native.Mathlib.Omega.{arith}
 use borrow.Author.Needs.{needs}
-use Rattle.image.proofs.Writes.{laid-len, unmet-area, unmet-dropped}
+use Rattle.image.proofs.Lent.{rows-area, rows-dropped}
+use Rattle.image.proofs.Writes.{laid-len, unmets}
 use Rattle.image.proofs.write.drop_unmet.Statement.{statement}
 use Rattle.image.proofs.write.drop_unmet.Tie as tie
 
@@ -17,9 +18,9 @@ drop-unmet-spec =
     (λ c. omega (arith, laid-len (c .before .before .before .args .c) (c .before .before .before .pre)))
     (λ c κs. let s = c .before .before .before .before in
     let at = c .before .before .unmet-at in
-    unmet-area (s .args .c) (s .pre) (at .result) (c .before .waiting-at .result - at .result) (at .ensures) (omega arith))
+    rows-area (s .args .c) (unmets (s .args .c) (s .pre)) (at .result) (c .before .waiting-at .result - at .result) (at .ensures) (omega arith))
     (λ c. search needs)
     (λ c. let end = c .before .before .before .before .waiting-at in
     let at = c .before .before .before .before .before .unmet-at in
     let s = c .before .before .before .before .before .before .before in
-    unmet-dropped (s .args .c) (s .pre) (at .result) (end .result - at .result) (at .ensures) (omega arith) (s .args .mask) (c .before .before .drop-rows .ensures)))
+    rows-dropped (s .args .c) (unmets (s .args .c) (s .pre)) (at .result) (end .result - at .result) (at .ensures) (omega arith) (s .args .mask) (c .before .before .drop-rows .ensures)))

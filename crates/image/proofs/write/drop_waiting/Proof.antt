@@ -3,7 +3,8 @@ use Prim.Native.Nat.{_-_}
 use native.Mathlib.Omega.{arith}
 use lib.ListN.{length}
 use borrow.Author.Needs.{needs}
-use Rattle.image.proofs.Writes.{laid-len, waiting-area, waiting-dropped}
+use Rattle.image.proofs.Lent.{rows-area, rows-dropped}
+use Rattle.image.proofs.Writes.{laid-len, waitings}
 use Rattle.image.proofs.write.drop_waiting.Statement.{statement}
 use Rattle.image.proofs.write.drop_waiting.Tie as tie
 
@@ -17,9 +18,9 @@ drop-waiting-spec =
     (λ c. search needs)
     (λ c κs. let s = c .before .before .before in
     let at = c .before .waiting-at in
-    waiting-area (s .args .c) (s .pre) (at .result) (length (s .args .img .now) - at .result) (at .ensures) (omega (arith, laid-len (s .args .c) (s .pre))))
+    rows-area (s .args .c) (waitings (s .args .c) (s .pre)) (at .result) (length (s .args .img .now) - at .result) (at .ensures) (omega (arith, laid-len (s .args .c) (s .pre))))
     (λ c. search needs)
     (λ c. let at = c .before .before .before .before .waiting-at in
     let s = c .before .before .before .before .before .before in
-    waiting-dropped (s .args .c) (s .pre) (at .result) (length (s .args .img .now) - at .result) (at .ensures) (omega (arith, laid-len (s .args .c) (s .pre)))
+    rows-dropped (s .args .c) (waitings (s .args .c) (s .pre)) (at .result) (length (s .args .img .now) - at .result) (at .ensures) (omega (arith, laid-len (s .args .c) (s .pre)))
     (s .args .mask) (c .before .before .drop-rows .ensures)))
