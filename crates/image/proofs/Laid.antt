@@ -12,7 +12,6 @@ use Rattle.policy.specs.Lists.{eqBytes}
 use Rattle.policy.specs.Contract.{Aid, Tok}
 use Rattle.policy.specs.Layout.{Layout, LayoutOk, aidSize, unmetSize, waitingSize, usedAt, aidsAt, tokensAt, providesAt, unmetAt, waitingAt, size}
 use Rattle.policy.specs.Tables.{Tables, Unmet, Waiting, noTok, pieces, readAid, writeAid, readTok, writeTok, readUnmet, writeUnmet, readWaiting, writeWaiting, bitOf, readTable, decode, encode}
-use Rattle.policy.specs.Draft.{withCalls, withGrants, withNeeds}
 use Rattle.policy.specs.Sound.{soundTables, sound}
 use Rattle.policy.proofs.Sets.{and-l, and-r, test, eqBytes→}
 use Rattle.policy.proofs.Bits.{length-bits, read-bits, read-line, read-lines}
@@ -168,7 +167,7 @@ sound-laid L {img} ok =
       room = formed-room L t (sound-formed L img ok) (sound-fitting L img ok);
     }
 
--- ---- room is kept by each change
+-- ---- room is kept by each change: `search` takes the other parts from `room`
 -- a property of both values of a choice; its test is at hand for the first, and refuted for the second
 either : {A : Type 0} (P : A → Type 0) (c : Bool) (x y : A) → (T c → P x) → ((T c → ⊥) → P y) → P (cond c x y)
 either P true x y f g = f tt
@@ -176,94 +175,39 @@ either P false x y f g = g (λ t. t)
 
 module _ (L : Layout) (t : Tables) (room : Room L t) where
   pub room-used : (f : ℕ → Bool) → ((x : ℕ) → T (f x) → x < L .packages) → Room L (withUsed f t)
-  room-used f h = record {
-    used-in = h;
-    aid-short = room .aid-short;
-    aid-off = room .aid-off;
-    tok-off = room .tok-off;
-    provides-in = room .provides-in;
-    calls-in = room .calls-in;
-    grants-in = room .grants-in;
-    needs-in = room .needs-in;
-    unmet-fits = room .unmet-fits;
-    unmet-short = room .unmet-short;
-    waiting-fits = room .waiting-fits;
-    waiting-short = room .waiting-short;
-  }
+  room-used f h = search
 
   pub room-aid : (n : ℕ) (a : Aid) → n < L .packages → length a ≤ 16 → Room L (withAid n a t)
-  room-aid n a p h = record {
-    used-in = room .used-in;
-    aid-short = λ x. either (λ z. length z ≤ 16) (eqb x n) a (t .aid x) (λ _. h) (λ _. room .aid-short x);
-    aid-off = λ x q. either (λ z. z ≡ []) (eqb x n) a (t .aid x) (λ e. absurd (not-le-of-lt p (subst (λ (y : ℕ). L .packages ≤ y) (eqb→eq x n e) q))) (λ _. room .aid-off x q);
-    tok-off = room .tok-off;
-    provides-in = room .provides-in;
-    calls-in = room .calls-in;
-    grants-in = room .grants-in;
-    needs-in = room .needs-in;
-    unmet-fits = room .unmet-fits;
-    unmet-short = room .unmet-short;
-    waiting-fits = room .waiting-fits;
-    waiting-short = room .waiting-short;
-  }
+  room-aid n a p h = search (short, off)
+    where
+      short : (x : ℕ) → length (withAid n a t .aid x) ≤ 16
+      short x = either (λ z. length z ≤ 16) (eqb x n) a (t .aid x) (λ _. h) (λ _. room .aid-short x)
+
+      off : (x : ℕ) → L .packages ≤ x → withAid n a t .aid x ≡ []
+      off x q = either (λ z. z ≡ []) (eqb x n) a (t .aid x) (λ e. absurd (not-le-of-lt p (subst (λ (y : ℕ). L .packages ≤ y) (eqb→eq x n e) q))) (λ _. room .aid-off x q)
 
   pub room-tok : (j k : ℕ) (s : Tok) → j < L .packages → k < L .services → Room L (withTok j k s t)
-  room-tok j k s p q = record {
-    used-in = room .used-in;
-    aid-short = room .aid-short;
-    aid-off = room .aid-off;
-    tok-off = λ x y o. either (λ z. z ≡ noTok) (eqb x j && eqb y k) s (t .tok x y) (λ e. out x y (both x y j k e) o) (λ _. room .tok-off x y o);
-    provides-in = room .provides-in;
-    calls-in = room .calls-in;
-    grants-in = room .grants-in;
-    needs-in = room .needs-in;
-    unmet-fits = room .unmet-fits;
-    unmet-short = room .unmet-short;
-    waiting-fits = room .waiting-fits;
-    waiting-short = room .waiting-short;
-  }
+  room-tok j k s p q = search off
     where
       out : (x y : ℕ) → (x ≡ j) × (y ≡ k) → (L .packages ≤ x) ⊎ (L .services ≤ y) → s ≡ noTok
       out x y e (inl o) = absurd (not-le-of-lt p (subst (λ (z : ℕ). L .packages ≤ z) (e .0) o))
       out x y e (inr o) = absurd (not-le-of-lt q (subst (λ (z : ℕ). L .services ≤ z) (e .1) o))
 
-  pub room-provides : (j : ℕ) (f : ℕ → Bool) → j < L .packages → ((y : ℕ) → T (f y) → y < L .services) → Room L (withProvides j f t)
-  room-provides j f p h = record {
-    used-in = room .used-in;
-    aid-short = room .aid-short;
-    aid-off = room .aid-off;
-    tok-off = room .tok-off;
-    provides-in = λ x y. either (λ b. T b → (x < L .packages) × (y < L .services)) (eqb x j) (f y) (t .provides x y)
-        (λ e s. (subst (λ (z : ℕ). z < L .packages) (sym (eqb→eq x j e)) p, h y s)) (λ _. room .provides-in x y);
-    calls-in = room .calls-in;
-    grants-in = room .grants-in;
-    needs-in = room .needs-in;
-    unmet-fits = room .unmet-fits;
-    unmet-short = room .unmet-short;
-    waiting-fits = room .waiting-fits;
-    waiting-short = room .waiting-short;
-  }
+      off : (x y : ℕ) → (L .packages ≤ x) ⊎ (L .services ≤ y) → withTok j k s t .tok x y ≡ noTok
+      off x y o = either (λ z. z ≡ noTok) (eqb x j && eqb y k) s (t .tok x y) (λ e. out x y (both x y j k e) o) (λ _. room .tok-off x y o)
 
-  room-bits : (c g n : ℕ → ℕ → ℕ → Bool) → BitsIn L c → BitsIn L g → BitsIn L n → Room L (withNeeds n (withGrants g (t .waiting) (withCalls c (t .unmet) t)))
-  room-bits c g n p q r = record {
-    used-in = room .used-in;
-    aid-short = room .aid-short;
-    aid-off = room .aid-off;
-    tok-off = room .tok-off;
-    provides-in = room .provides-in;
-    calls-in = p;
-    grants-in = q;
-    needs-in = r;
-    unmet-fits = room .unmet-fits;
-    unmet-short = room .unmet-short;
-    waiting-fits = room .waiting-fits;
-    waiting-short = room .waiting-short;
-  }
+  pub room-provides : (j : ℕ) (f : ℕ → Bool) → j < L .packages → ((y : ℕ) → T (f y) → y < L .services) → Room L (withProvides j f t)
+  room-provides j f p h = search inside
+    where
+      inside : (x y : ℕ) → T (withProvides j f t .provides x y) → (x < L .packages) × (y < L .services)
+      inside x y =
+          either (λ b. T b → (x < L .packages) × (y < L .services)) (eqb x j) (f y) (t .provides x y)
+          (λ e s. (subst (λ (z : ℕ). z < L .packages) (sym (eqb→eq x j e)) p, h y s)) (λ _. room .provides-in x y)
 
   pub room-table : (tb : Table) (b : ℕ → ℕ → ℕ → Bool) → BitsIn L b → Room L (withTable tb b t)
-  room-table Calls b h = room-bits b (t .grants) (t .needs) h (room .grants-in) (room .needs-in)
-  room-table Grants b h = room-bits (t .calls) b (t .needs) (room .calls-in) h (room .needs-in)
-  room-table Needs b h = room-bits (t .calls) (t .grants) b (room .calls-in) (room .grants-in) h
+  room-table Calls b h = search
+  room-table Grants b h = search
+  room-table Needs b h = search
 
   pub room-entry : (tb : Table) (i j : ℕ) (f : ℕ → Bool) → i < L .packages → j < L .packages → ((z : ℕ) → T (f z) → z < L .services) → Room L (withEntry tb i j f t)
   room-entry tb i j f p q h =
@@ -272,33 +216,7 @@ module _ (L : Layout) (t : Tables) (room : Room L t) where
       (λ e s. let o = both x y i j e in (subst (λ (k : ℕ). k < L .packages) (sym (o .0)) p, subst (λ (k : ℕ). k < L .packages) (sym (o .1)) q, h z s)) (λ _. entry-in L t room tb x y z))
 
   pub room-unmet : (l : List Unmet) → length l ≤ L .capacity → ((u : Unmet) → In u l → length (u .callee) ≤ 16) → Room L (withUnmet l t)
-  room-unmet l p h = record {
-    used-in = room .used-in;
-    aid-short = room .aid-short;
-    aid-off = room .aid-off;
-    tok-off = room .tok-off;
-    provides-in = room .provides-in;
-    calls-in = room .calls-in;
-    grants-in = room .grants-in;
-    needs-in = room .needs-in;
-    unmet-fits = p;
-    unmet-short = h;
-    waiting-fits = room .waiting-fits;
-    waiting-short = room .waiting-short;
-  }
+  room-unmet l p h = search
 
   pub room-waiting : (l : List Waiting) → length l ≤ L .capacity → ((v : Waiting) → In v l → length (v .caller) ≤ 16) → Room L (withWaiting l t)
-  room-waiting l p h = record {
-    used-in = room .used-in;
-    aid-short = room .aid-short;
-    aid-off = room .aid-off;
-    tok-off = room .tok-off;
-    provides-in = room .provides-in;
-    calls-in = room .calls-in;
-    grants-in = room .grants-in;
-    needs-in = room .needs-in;
-    unmet-fits = room .unmet-fits;
-    unmet-short = room .unmet-short;
-    waiting-fits = p;
-    waiting-short = h;
-  }
+  room-waiting l p h = search
