@@ -6,6 +6,9 @@ use mathlib.Core.Logic.{_⊎_, inl, inr}
 use mathlib.Core.Bool.{Bool, true, false, not, _&&_, _||_, cond}
 use mathlib.Core.List.{List}
 use lib.Dec.{T, eqb, eqb-refl}
+use lib.ListN.{length}
+use lib.Pow.{pow-pos}
+use borrow.Author.Needs.{needs}
 use Rattle.policy.specs.Lists.{exists, upto}
 use Rattle.policy.specs.Contract.{Tok}
 use Rattle.policy.specs.Layout.{Layout}
@@ -19,9 +22,10 @@ use Rattle.geometry.specs.declared.Card.{Card}
 use Rattle.geometry.specs.declared.Table.{Table}
 use Rattle.geometry.specs.declared.Table.the-variants.{Calls, Grants, Needs}
 use Rattle.geometry.specs.Geometry.{layoutOf}
+use Rattle.geometry.proofs.Bounds.{layout-ok}
 use Rattle.image.specs.Laid.{tableOf, Laid, withTok, withProvides, withTable, withEntry}
 use Rattle.image.specs.Wrote.{Wrote, withoutPackage, inColumn, inRow, withoutServices}
-use Rattle.image.proofs.Laid.{entry-in}
+use Rattle.image.proofs.Laid.{entry-in, laid-length}
 
 -- bits of a table by row, column and service
 abbrev Bits : Type 0
@@ -248,3 +252,10 @@ module _ (L : Layout) (n : ℕ) where
       toks x y (inr p) =
           let e : t .tok x y ≡ noTok = laid .room .tok-off x y (inr p) in
           ap (cond (exists (λ k. eqb x n && eqb y k) (upto m)) noTok) e ∙ same (exists (λ k. eqb x n && eqb y k) (upto m)) ∙ sym (same (eqb x n)) ∙ ap (cond (eqb x n) noTok) (sym e)
+
+-- ---- the loops that clear: `search clears` at each need
+-- every laid image of a card has the same length
+pub laid-same : (c : Card) {old img : List ℕ} → Laid (layoutOf c) img → Laid (layoutOf c) old → length img ≡ length old
+laid-same c h g = laid-length (layoutOf c) (layout-ok c) h ∙ sym (laid-length (layoutOf c) (layout-ok c) g)
+
+pub ruleset clears = (laid-same, cleared-start, column-turn, row-turn, cross-done, column-done, row-done, toks-start, toks-turn, services-done, pow-pos, needs)
