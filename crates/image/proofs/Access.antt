@@ -10,15 +10,15 @@ use lib.ListN.{length, getD, take, drop, replicate}
 use lib.Seq.{split-at, length-take-le}
 use Rattle.policy.specs.Lists.{flat}
 use Rattle.policy.specs.Contract.{Aid}
-use Rattle.policy.specs.Layout.{Layout, LayoutOk, aidSize, unmetSize, waitingSize, usedAt, unmetAt, waitingAt}
-use Rattle.policy.specs.Tables.{Tables, Unmet, Waiting, rowOf, readNumber, writeAid, writeTok, writeUnmet, writeWaiting, writeList, writeBits, bit, decode, encode}
-use Rattle.policy.proofs.Bits.{length-bits, read-number, rowOf-lt, bit-rowOf}
+use Rattle.policy.specs.Layout.{Layout, LayoutOk, unmetSize, waitingSize, usedAt, unmetAt, waitingAt}
+use Rattle.policy.specs.Tables.{Tables, Unmet, Waiting, rowOf, readNumber, writeAid, writeUnmet, writeWaiting, writeList, writeBits, decode, encode}
+use Rattle.policy.proofs.Bits.{length-bits, read-number, rowOf-lt}
 use Rattle.policy.proofs.Pieces.{length-aid, length-unmet, length-waiting}
 use Rattle.geometry.specs.declared.Table.{Table}
 use Rattle.geometry.specs.Geometry.{aidAt, tokAt, provAt, entryAt}
 use Rattle.image.specs.Laid.{tableOf, Laid, withUnmet, withWaiting}
 use Rattle.image.proofs.Swap.{Swap, swap-read, swap-byte, segment-byte, swap-cast, swap-skip, swap-head, swap-among}
-use Rattle.image.proofs.Places.{length-unmets, length-waitings, swap-header, swap-used, swap-aid, swap-tok, swap-row, swap-entry, swap-unmet, swap-waiting}
+use Rattle.image.proofs.Places.{length-unmets, length-waitings, swap-used, swap-aid, swap-tok, swap-row, swap-entry, swap-unmet, swap-waiting}
 
 -- ---- row r of a list
 in-get : {A : Type 0} (l : List A) (r : ℕ) (d : A) → r < length l → In (getD l r d) l
@@ -49,13 +49,10 @@ module _ (L : Layout) (lo : LayoutOk L) {img : List ℕ} (h : Laid L img) where
   byte : {b : List ℕ} {off x : ℕ} {s s′ : List ℕ} → Swap (encode L t) b off (x ∷ s) s′ → getD img off 0 ≡ x
   byte {off = off} {x = x} p = subst (λ (z : List ℕ). getD z off 0 ≡ x) (h .laid) (swap-byte p 0)
 
-  -- a row of n bits: its bytes, its number, and its bits
-  module _ (n : ℕ) (f : ℕ → Bool) (fit : 2 ^ n ≤ 256 ^ L .width) (off : ℕ) (e : take (L .width) (drop off img) ≡ writeBits L n f) where
-    number : readNumber 0 (take (L .width) (drop off img)) ≡ rowOf n f
-    number = ap (readNumber 0) e ∙ read-number (L .width) (rowOf n f) [] (le-trans (rowOf-lt n f) fit)
-
-    one-bit : (k : ℕ) → k < n → bit (readNumber 0 (take (L .width) (drop off img))) k ≡ f k
-    one-bit k p = ap (λ (z : ℕ). bit z k) number ∙ bit-rowOf n f k p
+  -- a row of n bits, as a number
+  number : (n : ℕ) (f : ℕ → Bool) → 2 ^ n ≤ 256 ^ L .width → {b : List ℕ} {off : ℕ} → Swap (encode L t) b off (writeBits L n f) (writeBits L n f)
+      → readNumber 0 (take (L .width) (drop off img)) ≡ rowOf n f
+  number n f fit p = ap (readNumber 0) (read p (L .width) (length-bits L n f)) ∙ read-number (L .width) (rowOf n f) [] (le-trans (rowOf-lt n f) fit)
 
   -- the bytes of an AID in its place, and what follows it in a row
   bytes : (a : Aid) {b : List ℕ} {off : ℕ} → Swap (encode L t) b off (writeAid a) (writeAid a) → take (length a) (drop (off + 1) img) ≡ a
@@ -69,24 +66,12 @@ module _ (L : Layout) (lo : LayoutOk L) {img : List ℕ} (h : Laid L img) where
       ap (λ (z : ℕ). getD img z 0) (sym (add-assoc off 17 i))
       ∙ segment-byte img (off + 17) (length s) i 0 (read (swap-skip (writeAid a) s s (length-aid a short) p) (length s) refl) lt
 
-  pub header-is : take 3 img ≡ L .header
-  header-is = read (swap-header L lo t (h .room)) 3 (lo .header-size)
-
   -- ---- the used package numbers
-  pub used-is : take (L .width) (drop (usedAt L) img) ≡ writeBits L (L .packages) (t .used)
-  used-is = read (swap-used L lo t (h .room) (t .used)) (L .width) (length-bits L (L .packages) (t .used))
-
   pub used-number : readNumber 0 (take (L .width) (drop (usedAt L) img)) ≡ rowOf (L .packages) (t .used)
-  used-number = number (L .packages) (t .used) (lo .packages-fit) (usedAt L) used-is
+  used-number = number (L .packages) (t .used) (lo .packages-fit) (swap-used L lo t (h .room) (t .used))
 
-  pub used-bit : (k : ℕ) → k < L .packages → bit (readNumber 0 (take (L .width) (drop (usedAt L) img))) k ≡ t .used k
-  used-bit = one-bit (L .packages) (t .used) (lo .packages-fit) (usedAt L) used-is
-
-  -- ---- an AID: its place, its length, and its bytes
+  -- ---- an AID: its length, and its bytes
   module _ (k : ℕ) (p : k < L .packages) where
-    pub aid-is : take aidSize (drop (aidAt L k) img) ≡ writeAid (t .aid k)
-    aid-is = read (swap-aid L lo t (h .room) k (t .aid k) p) aidSize (length-aid (t .aid k) (h .room .aid-short k))
-
     pub aid-length : getD img (aidAt L k) 0 ≡ length (t .aid k)
     aid-length = byte (swap-aid L lo t (h .room) k (t .aid k) p)
 
@@ -95,9 +80,6 @@ module _ (L : Layout) (lo : LayoutOk L) {img : List ℕ} (h : Laid L img) where
 
   -- ---- the tokens of a service
   module _ (j k : ℕ) (p : j < L .packages) (q : k < L .services) where
-    pub tok-is : take 2 (drop (tokAt L j k) img) ≡ writeTok (t .tok j k)
-    tok-is = read (swap-tok L lo t (h .room) j k (t .tok j k) p q) 2 refl
-
     pub tok-itf : getD img (tokAt L j k) 0 ≡ t .tok j k .itf
     tok-itf = byte (swap-tok L lo t (h .room) j k (t .tok j k) p q)
 
@@ -105,29 +87,12 @@ module _ (L : Layout) (lo : LayoutOk L) {img : List ℕ} (h : Laid L img) where
     tok-mth = let s = t .tok j k in byte (swap-skip (s .itf ∷ []) (s .mth ∷ []) (s .mth ∷ []) refl (swap-tok L lo t (h .room) j k s p q))
 
   -- ---- the provided services of a package
-  module _ (j : ℕ) (p : j < L .packages) where
-    pub provides-is : take (L .width) (drop (provAt L j) img) ≡ writeBits L (L .services) (t .provides j)
-    provides-is = read (swap-row L lo t (h .room) j (t .provides j) p) (L .width) (length-bits L (L .services) (t .provides j))
-
-    pub provides-number : readNumber 0 (take (L .width) (drop (provAt L j) img)) ≡ rowOf (L .services) (t .provides j)
-    provides-number = number (L .services) (t .provides j) (lo .services-fit) (provAt L j) provides-is
-
-    pub provides-bit : (k : ℕ) → k < L .services → bit (readNumber 0 (take (L .width) (drop (provAt L j) img))) k ≡ t .provides j k
-    provides-bit = one-bit (L .services) (t .provides j) (lo .services-fit) (provAt L j) provides-is
+  pub provides-number : (j : ℕ) → j < L .packages → readNumber 0 (take (L .width) (drop (provAt L j) img)) ≡ rowOf (L .services) (t .provides j)
+  provides-number j p = number (L .services) (t .provides j) (lo .services-fit) (swap-row L lo t (h .room) j (t .provides j) p)
 
   -- ---- an entry of a table of bits
-  module _ (tb : Table) (i j : ℕ) (p : i < L .packages) (q : j < L .packages) where
-    abbrev entry : ℕ → Bool
-    entry = tableOf tb t i j
-
-    pub entry-is : take (L .width) (drop (entryAt L tb i j) img) ≡ writeBits L (L .services) (tableOf tb t i j)
-    entry-is = read (swap-entry L lo t (h .room) tb i j entry p q) (L .width) (length-bits L (L .services) entry)
-
-    pub entry-number : readNumber 0 (take (L .width) (drop (entryAt L tb i j) img)) ≡ rowOf (L .services) (tableOf tb t i j)
-    entry-number = number (L .services) entry (lo .services-fit) (entryAt L tb i j) entry-is
-
-    pub entry-bit : (k : ℕ) → k < L .services → bit (readNumber 0 (take (L .width) (drop (entryAt L tb i j) img))) k ≡ tableOf tb t i j k
-    entry-bit = one-bit (L .services) entry (lo .services-fit) (entryAt L tb i j) entry-is
+  pub entry-number : (tb : Table) (i j : ℕ) → i < L .packages → j < L .packages → readNumber 0 (take (L .width) (drop (entryAt L tb i j) img)) ≡ rowOf (L .services) (tableOf tb t i j)
+  entry-number tb i j p q = number (L .services) (tableOf tb t i j) (lo .services-fit) (swap-entry L lo t (h .room) tb i j (tableOf tb t i j) p q)
 
   -- ---- the list of unmet calls: the whole, its count, and its rows
   pub unmet-is : take (1 + L .capacity * unmetSize) (drop (unmetAt L) img) ≡ writeList L writeUnmet unmetSize (t .unmet)
@@ -148,9 +113,6 @@ module _ (L : Layout) (lo : LayoutOk L) {img : List ℕ} (h : Laid L img) where
 
     at-unmet : Swap (encode L t) (encode L (withUnmet (t .unmet) t)) (unmetAt L + (1 + r * unmetSize)) (writeUnmet u) (writeUnmet u)
     at-unmet = list-row L writeUnmet unmetSize (t .unmet) (λ v i. length-unmet v (h .room .unmet-short v i)) r d p (swap-unmet L lo t (h .room) (t .unmet))
-
-    pub unmet-row : take unmetSize (drop (unmetAt L + (1 + r * unmetSize)) img) ≡ writeUnmet (getD (t .unmet) r d)
-    unmet-row = read at-unmet unmetSize (length-unmet u callee-short)
 
     pub unmet-length : getD img (unmetAt L + (1 + r * unmetSize)) 0 ≡ length (getD (t .unmet) r d .callee)
     unmet-length = byte at-unmet
@@ -186,9 +148,6 @@ module _ (L : Layout) (lo : LayoutOk L) {img : List ℕ} (h : Laid L img) where
 
     at-waiting : Swap (encode L t) (encode L (withWaiting (t .waiting) t)) (waitingAt L + (1 + r * waitingSize)) (writeWaiting v) (writeWaiting v)
     at-waiting = list-row L writeWaiting waitingSize (t .waiting) (λ x i. length-waiting x (h .room .waiting-short x i)) r d p (swap-waiting L lo t (h .room) (t .waiting))
-
-    pub waiting-row : take waitingSize (drop (waitingAt L + (1 + r * waitingSize)) img) ≡ writeWaiting (getD (t .waiting) r d)
-    waiting-row = read at-waiting waitingSize (length-waiting v caller-short)
 
     pub waiting-length : getD img (waitingAt L + (1 + r * waitingSize)) 0 ≡ length (getD (t .waiting) r d .caller)
     waiting-length = byte at-waiting

@@ -192,10 +192,6 @@ module _ (L : Layout) where
     swap-table Needs b = part to-needs (writeTable L (t .needs)) (writeTable L b) (after-needs t)
 
     -- ---- each place of it, and that of the changed tables
-    pub swap-header : Swap (encode L t) (encode L t) 0 (L .header) (L .header)
-    unfolding encode
-    swap-header = swap-head (L .header) (L .header) _ (swap-after [] (encode L t) (encode L t) refl)
-
     pub swap-used : (f : ℕ → Bool) → Swap (encode L t) (encode L (withUsed f t)) (usedAt L) (Used t) (writeBits L n f)
     unfolding encode
     swap-used f = part to-used (Used t) (writeBits L n f) (after-used t)

@@ -70,9 +70,6 @@ module _ (c : Card) where
   pub holds-wrote : {img : List ℕ} {t : Tables} → Holds L img t → Wrote L img t
   holds-wrote h = record { laid = holds-laid L (layout-ok c) h; tables = holds-decode L (layout-ok c) h }
 
-  pub wrote-holds : {img : List ℕ} {t : Tables} → Wrote L img t → Holds L img t
-  wrote-holds {img = img} h = subst (Holds L img) (h .tables) (laid-holds L (h .laid))
-
   -- the image that code leaves, and the one of a law
   wrote-as : {img img′ : List ℕ} {t : Tables} → img′ ≡ img → Holds L img t → Wrote L img′ t
   wrote-as {t = t} e h = subst (λ (z : List ℕ). Wrote L z t) (sym e) (holds-wrote h)
