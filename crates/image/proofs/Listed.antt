@@ -46,60 +46,56 @@ module _ (c : Card) (img : List ℕ) (h : Laid (layoutOf c) img) where
   unmet-counted a r q e = e ∙ ap (λ (x : ℕ). getD img x 0) q ∙ at.unmet-count (layoutOf c) (layout-ok c) h
 
   -- row r, which stands at a
-  module _ (r : ℕ) (p : r < length (decode (layoutOf c) img .unmet)) where
-    pub unmet-less : r < layoutOf c .capacity
-    unmet-less = omega (arith, h .room .unmet-fits)
+  module _ (r : ℕ) (p : r < length (decode (layoutOf c) img .unmet)) (a : ℕ) (q : a ≡ unmetAt (layoutOf c) + (1 + r * 20)) where
+    unmet-room : a + 20 ≤ length img
+    unmet-room = omega (arith, laid-size c img h, unmet-in c r (omega (arith, h .room .unmet-fits)))
 
-    module _ (a : ℕ) (q : a ≡ unmetAt (layoutOf c) + (1 + r * 20)) where
-      unmet-room : a + 20 ≤ length img
-      unmet-room = omega (arith, laid-size c img h, unmet-in c r unmet-less)
+    pub unmet-byte : (k : ℕ) → k < 20 → a + k < length img
+    unmet-byte k l = omega (arith, unmet-room)
 
-      pub unmet-byte : (k : ℕ) → k < 20 → a + k < length img
-      unmet-byte k l = omega (arith, unmet-room)
+    pub unmet-sum : (k : ℕ) → k < 20 → Fits w64 (a + k)
+    unmet-sum k l = omega (arith, laid-size c img h, unmet-room, limits c)
 
-      pub unmet-sum : (k : ℕ) → k < 20 → Fits w64 (a + k)
-      unmet-sum k l = omega (arith, unmet-in c r unmet-less, limits c)
+    pub unmet-aid : a + 17 ≤ length img
+    unmet-aid = omega (arith, unmet-room)
 
-      pub unmet-aid : a + 17 ≤ length img
-      unmet-aid = omega (arith, unmet-room)
+    pub unmet-tokens : a + 17 + 2 ≤ length img
+    unmet-tokens = omega (arith, unmet-room)
 
-      pub unmet-tokens : a + 17 + 2 ≤ length img
-      unmet-tokens = omega (arith, unmet-room)
+    callee-length : getD img a 0 ≡ length (unmetRow t r .callee)
+    callee-length = ap (λ (x : ℕ). getD img x 0) q ∙ at.unmet-length (layoutOf c) (layout-ok c) h r noUnmet p
 
-      callee-length : getD img a 0 ≡ length (unmetRow t r .callee)
-      callee-length = ap (λ (x : ℕ). getD img x 0) q ∙ at.unmet-length (layoutOf c) (layout-ok c) h r noUnmet p
+    pub callee-short : getD img a 0 ≤ 16
+    callee-short = omega (arith, callee-length, at.callee-short (layoutOf c) (layout-ok c) h r noUnmet p)
 
-      pub callee-short : getD img a 0 ≤ 16
-      callee-short = omega (arith, callee-length, at.callee-short (layoutOf c) (layout-ok c) h r noUnmet p)
+    callee-seen : aidIn img a ≡ unmetRow t r .callee
+    callee-seen =
+        aid-held img a (unmetRow t r .callee) callee-length
+        (ap (λ (x : ℕ). take (length (unmetRow t r .callee)) (drop (x + 1) img)) q ∙ at.unmet-bytes (layoutOf c) (layout-ok c) h r noUnmet p)
 
-      callee-seen : aidIn img a ≡ unmetRow t r .callee
-      callee-seen =
-          aid-held img a (unmetRow t r .callee) callee-length
-          (ap (λ (x : ℕ). take (length (unmetRow t r .callee)) (drop (x + 1) img)) q ∙ at.unmet-bytes (layoutOf c) (layout-ok c) h r noUnmet p)
+    pub callee-is : (aid : List ℕ) (v : Bool) → v ≡ eqAid (aidIn img a) aid → v ≡ eqAid (unmetRow (decode (layoutOf c) img) r .callee) aid
+    callee-is aid v z = z ∙ ap (λ (s : Aid). eqAid s aid) callee-seen
 
-      pub callee-is : (aid : List ℕ) (v : Bool) → v ≡ eqAid (aidIn img a) aid → v ≡ eqAid (unmetRow (decode (layoutOf c) img) r .callee) aid
-      callee-is aid v z = z ∙ ap (λ (s : Aid). eqAid s aid) callee-seen
+    pub itf-seen : (n : ℕ) → n ≡ getD img (a + 17) 0 → n ≡ unmetRow (decode (layoutOf c) img) r .tok .itf
+    itf-seen n e = e ∙ ap (λ (x : ℕ). getD img (x + 17) 0) q ∙ at.unmet-itf (layoutOf c) (layout-ok c) h r noUnmet p
 
-      pub itf-seen : (n : ℕ) → n ≡ getD img (a + 17) 0 → n ≡ unmetRow (decode (layoutOf c) img) r .tok .itf
-      itf-seen n e = e ∙ ap (λ (x : ℕ). getD img (x + 17) 0) q ∙ at.unmet-itf (layoutOf c) (layout-ok c) h r noUnmet p
+    pub mth-seen : (n : ℕ) → n ≡ getD img (a + 18) 0 → n ≡ unmetRow (decode (layoutOf c) img) r .tok .mth
+    mth-seen n e = e ∙ ap (λ (x : ℕ). getD img (x + 18) 0) q ∙ at.unmet-mth (layoutOf c) (layout-ok c) h r noUnmet p
 
-      pub mth-seen : (n : ℕ) → n ≡ getD img (a + 18) 0 → n ≡ unmetRow (decode (layoutOf c) img) r .tok .mth
-      mth-seen n e = e ∙ ap (λ (x : ℕ). getD img (x + 18) 0) q ∙ at.unmet-mth (layoutOf c) (layout-ok c) h r noUnmet p
+    tok-seen : tokensIn img (a + 17) ≡ unmetRow t r .tok
+    tok-seen = λ i. record { itf = itf-seen (getD img (a + 17) 0) refl i; mth = mth-seen (getD img (a + 17 + 1) 0) (ap (λ (x : ℕ). getD img x 0) (add-assoc a 17 1)) i }
 
-      tok-seen : tokensIn img (a + 17) ≡ unmetRow t r .tok
-      tok-seen = λ i. record { itf = itf-seen (getD img (a + 17) 0) refl i; mth = mth-seen (getD img (a + 17 + 1) 0) (ap (λ (x : ℕ). getD img x 0) (add-assoc a 17 1)) i }
+    pub by-seen : (n : ℕ) → n ≡ getD img (a + 19) 0 → n ≡ unmetRow (decode (layoutOf c) img) r .caller
+    by-seen n e = e ∙ ap (λ (x : ℕ). getD img (x + 19) 0) q ∙ at.unmet-caller (layoutOf c) (layout-ok c) h r noUnmet p
 
-      pub by-seen : (n : ℕ) → n ≡ getD img (a + 19) 0 → n ≡ unmetRow (decode (layoutOf c) img) r .caller
-      by-seen n e = e ∙ ap (λ (x : ℕ). getD img (x + 19) 0) q ∙ at.unmet-caller (layoutOf c) (layout-ok c) h r noUnmet p
+    module _ (aid : List ℕ) (x y : ℕ) (b : Bool) (e : b ≡ eqTok (tokensIn img (a + 17)) (tokens x y)) where
+      pub asks-other : not b ≡ true → false ≡ eqAid (unmetRow (decode (layoutOf c) img) r .callee) aid && eqTok (unmetRow (decode (layoutOf c) img) r .tok) (tokens x y)
+      asks-other g = other b (eqAid (unmetRow t r .callee) aid) (eqTok (unmetRow t r .tok) (tokens x y)) (e ∙ ap (λ (s : Tok). eqTok s (tokens x y)) tok-seen) g
 
-      module _ (aid : List ℕ) (x y : ℕ) (b : Bool) (e : b ≡ eqTok (tokensIn img (a + 17)) (tokens x y)) where
-        pub asks-other : not b ≡ true → false ≡ eqAid (unmetRow (decode (layoutOf c) img) r .callee) aid && eqTok (unmetRow (decode (layoutOf c) img) r .tok) (tokens x y)
-        asks-other g = other b (eqAid (unmetRow t r .callee) aid) (eqTok (unmetRow t r .tok) (tokens x y)) (e ∙ ap (λ (s : Tok). eqTok s (tokens x y)) tok-seen) g
-
-        pub asks-seen : (v : Bool) → not b ≡ false → v ≡ eqAid (unmetRow (decode (layoutOf c) img) r .callee) aid
-            → v ≡ eqAid (unmetRow (decode (layoutOf c) img) r .callee) aid && eqTok (unmetRow (decode (layoutOf c) img) r .tok) (tokens x y)
-        asks-seen v g z =
-            alike b v (eqAid (unmetRow t r .callee) aid) (eqTok (unmetRow t r .tok) (tokens x y)) (e ∙ ap (λ (s : Tok). eqTok s (tokens x y)) tok-seen) g z
+      pub asks-seen : (v : Bool) → not b ≡ false → v ≡ eqAid (unmetRow (decode (layoutOf c) img) r .callee) aid
+          → v ≡ eqAid (unmetRow (decode (layoutOf c) img) r .callee) aid && eqTok (unmetRow (decode (layoutOf c) img) r .tok) (tokens x y)
+      asks-seen v g z =
+          alike b v (eqAid (unmetRow t r .callee) aid) (eqTok (unmetRow t r .tok) (tokens x y)) (e ∙ ap (λ (s : Tok). eqTok s (tokens x y)) tok-seen) g z
 
   -- ---- waiting grants, alike
   pub waiting-low : length (decode (layoutOf c) img .waiting) ≤ 32
@@ -111,44 +107,40 @@ module _ (c : Card) (img : List ℕ) (h : Laid (layoutOf c) img) where
   pub waiting-counted : (a r : ℕ) → a ≡ waitingAt (layoutOf c) → r ≡ getD img a 0 → r ≡ length (decode (layoutOf c) img .waiting)
   waiting-counted a r q e = e ∙ ap (λ (x : ℕ). getD img x 0) q ∙ at.waiting-count (layoutOf c) (layout-ok c) h
 
-  module _ (r : ℕ) (p : r < length (decode (layoutOf c) img .waiting)) where
-    pub waiting-less : r < layoutOf c .capacity
-    waiting-less = omega (arith, h .room .waiting-fits)
+  module _ (r : ℕ) (p : r < length (decode (layoutOf c) img .waiting)) (a : ℕ) (q : a ≡ waitingAt (layoutOf c) + (1 + r * 19)) where
+    waiting-room : a + 19 ≤ length img
+    waiting-room = omega (arith, laid-size c img h, waiting-in c r (omega (arith, h .room .waiting-fits)))
 
-    module _ (a : ℕ) (q : a ≡ waitingAt (layoutOf c) + (1 + r * 19)) where
-      waiting-room : a + 19 ≤ length img
-      waiting-room = omega (arith, laid-size c img h, waiting-in c r waiting-less)
+    pub waiting-byte : (k : ℕ) → k < 19 → a + k < length img
+    waiting-byte k l = omega (arith, waiting-room)
 
-      pub waiting-byte : (k : ℕ) → k < 19 → a + k < length img
-      waiting-byte k l = omega (arith, waiting-room)
+    pub waiting-sum : (k : ℕ) → k < 19 → Fits w64 (a + k)
+    waiting-sum k l = omega (arith, laid-size c img h, waiting-room, limits c)
 
-      pub waiting-sum : (k : ℕ) → k < 19 → Fits w64 (a + k)
-      waiting-sum k l = omega (arith, waiting-in c r waiting-less, limits c)
+    pub waiting-aid : a + 17 ≤ length img
+    waiting-aid = omega (arith, waiting-room)
 
-      pub waiting-aid : a + 17 ≤ length img
-      waiting-aid = omega (arith, waiting-room)
+    caller-length : getD img a 0 ≡ length (waitingRow t r .caller)
+    caller-length = ap (λ (x : ℕ). getD img x 0) q ∙ at.waiting-length (layoutOf c) (layout-ok c) h r noWaiting p
 
-      caller-length : getD img a 0 ≡ length (waitingRow t r .caller)
-      caller-length = ap (λ (x : ℕ). getD img x 0) q ∙ at.waiting-length (layoutOf c) (layout-ok c) h r noWaiting p
+    pub caller-short : getD img a 0 ≤ 16
+    caller-short = omega (arith, caller-length, at.caller-short (layoutOf c) (layout-ok c) h r noWaiting p)
 
-      pub caller-short : getD img a 0 ≤ 16
-      caller-short = omega (arith, caller-length, at.caller-short (layoutOf c) (layout-ok c) h r noWaiting p)
+    caller-seen : aidIn img a ≡ waitingRow t r .caller
+    caller-seen =
+        aid-held img a (waitingRow t r .caller) caller-length
+        (ap (λ (x : ℕ). take (length (waitingRow t r .caller)) (drop (x + 1) img)) q ∙ at.waiting-bytes (layoutOf c) (layout-ok c) h r noWaiting p)
 
-      caller-seen : aidIn img a ≡ waitingRow t r .caller
-      caller-seen =
-          aid-held img a (waitingRow t r .caller) caller-length
-          (ap (λ (x : ℕ). take (length (waitingRow t r .caller)) (drop (x + 1) img)) q ∙ at.waiting-bytes (layoutOf c) (layout-ok c) h r noWaiting p)
+    pub waits-seen : (aid : List ℕ) (v : Bool) → v ≡ eqAid (aidIn img a) aid → v ≡ eqAid (waitingRow (decode (layoutOf c) img) r .caller) aid
+    waits-seen aid v z = z ∙ ap (λ (s : Aid). eqAid s aid) caller-seen
 
-      pub waits-seen : (aid : List ℕ) (v : Bool) → v ≡ eqAid (aidIn img a) aid → v ≡ eqAid (waitingRow (decode (layoutOf c) img) r .caller) aid
-      waits-seen aid v z = z ∙ ap (λ (s : Aid). eqAid s aid) caller-seen
+    pub granter-seen : (n : ℕ) → n ≡ getD img (a + 17) 0 → n ≡ waitingRow (decode (layoutOf c) img) r .callee
+    granter-seen n e = e ∙ ap (λ (x : ℕ). getD img (x + 17) 0) q ∙ at.waiting-callee (layoutOf c) (layout-ok c) h r noWaiting p
 
-      pub granter-seen : (n : ℕ) → n ≡ getD img (a + 17) 0 → n ≡ waitingRow (decode (layoutOf c) img) r .callee
-      granter-seen n e = e ∙ ap (λ (x : ℕ). getD img (x + 17) 0) q ∙ at.waiting-callee (layoutOf c) (layout-ok c) h r noWaiting p
+    pub granted-seen : (n : ℕ) → n ≡ getD img (a + 18) 0 → n ≡ waitingRow (decode (layoutOf c) img) r .service
+    granted-seen n e = e ∙ ap (λ (x : ℕ). getD img (x + 18) 0) q ∙ at.waiting-service (layoutOf c) (layout-ok c) h r noWaiting p
 
-      pub granted-seen : (n : ℕ) → n ≡ getD img (a + 18) 0 → n ≡ waitingRow (decode (layoutOf c) img) r .service
-      granted-seen n e = e ∙ ap (λ (x : ℕ). getD img (x + 18) 0) q ∙ at.waiting-service (layoutOf c) (layout-ok c) h r noWaiting p
-
-pub ruleset listed = (unmet-counts, unmet-counted, unmet-less, unmet-byte, unmet-sum, unmet-aid, unmet-tokens, callee-short, callee-is, itf-seen, mth-seen, by-seen, asks-other, asks-seen, waiting-counts, waiting-counted, waiting-less, waiting-byte, waiting-sum, waiting-aid, caller-short, waits-seen, granter-seen, granted-seen, needs)
+pub ruleset listed = (unmet-counts, unmet-counted, unmet-byte, unmet-sum, unmet-aid, unmet-tokens, callee-short, callee-is, itf-seen, mth-seen, by-seen, asks-other, asks-seen, waiting-counts, waiting-counted, waiting-byte, waiting-sum, waiting-aid, caller-short, waits-seen, granter-seen, granted-seen, needs)
 
 -- ---- the loops that gather a mask of rows: `search masks`
 pub ruleset masks = (mask-start, mask-turn, mask-doubles, mask-adds, mask-end, unmet-low, waiting-low, needs)
