@@ -18,15 +18,8 @@ Inv-loop img c aid n i₀ i = (i ≤ n) × (first (λ k. decode (layoutOf c) img
 abbrev μ-loop : tie.MeasureT-loop
 μ-loop img c aid n i₀ i = n - i
 
-returns : tie.Need-returns Inv-loop μ-loop
-unfolding numberOf
-returns c = search early
-
-returns-2 : tie.Need-returns-2 Inv-loop μ-loop
-unfolding numberOf
-returns-2 c = search early
-
 pub find-package-spec : {M : Type 1} → statement M
+unfolding numberOf
 find-package-spec =
     tie.close
     (tie.spec
@@ -35,8 +28,8 @@ find-package-spec =
     (λ c κs. search early)
     (λ c. search early)
     (λ c κs. search early)
-    returns
     (λ c. search early)
     (λ c. search early)
     (λ c. search early)
-    returns-2)
+    (λ c. search early)
+    (λ c. search early))

@@ -19,15 +19,8 @@ Inv-loop img c j interface method n k₀ k = (k ≤ n) × (first (λ x. decode (
 abbrev μ-loop : tie.MeasureT-loop
 μ-loop img c j interface method n k₀ k = n - k
 
-returns : tie.Need-returns Inv-loop μ-loop
-unfolding serviceOf
-returns c = search early
-
-returns-2 : tie.Need-returns-2 Inv-loop μ-loop
-unfolding serviceOf
-returns-2 c = search early
-
 pub find-service-spec : {M : Type 1} → statement M
+unfolding serviceOf
 find-service-spec =
     tie.close
     (tie.spec
@@ -36,8 +29,8 @@ find-service-spec =
     (λ c κs. search early)
     (λ c. search early)
     (λ c κs. search early)
-    returns
     (λ c. search early)
     (λ c. search early)
     (λ c. search early)
-    returns-2)
+    (λ c. search early)
+    (λ c. search early))
