@@ -1,23 +1,24 @@
 -- What code reads of the two lists of a laid image of a card, in the form in which the needs ask it: `search listed`.
-use Prim.Native.Nat.{ℕ, _+_, _*_, _≤_, _<_}
+use Prim.Native.Nat.{ℕ, _+_, _-_, _*_, _≤_, _<_}
 use native.Mathlib.Omega.{arith}
 use native.Mathlib.Nat.{add-assoc}
-use mathlib.Core.Path.{_≡_, refl, sym, ap, _∙_}
+use mathlib.Core.Path.{_≡_, refl, sym, ap, ap₂, _∙_}
 use mathlib.Core.Bool.{Bool, true, false, not, _&&_, and-false, and-true}
 use mathlib.Core.List.{List}
+use lib.Dec.{eqb}
 use lib.ListN.{length, getD, take, drop}
 use mir.Syntax.{w64}
-use mir.Val.{Fits}
+use mir.Val.{boolByte, Fits}
 use borrow.Author.Needs.{needs}
 use Rattle.policy.specs.Contract.{Aid, eqAid, Tok, eqTok}
 use Rattle.policy.specs.Layout.{unmetAt, waitingAt}
-use Rattle.policy.specs.Tables.{Tables, decode}
+use Rattle.policy.specs.Tables.{Tables, Unmet, Waiting, decode}
 use Rattle.policy.proofs.Sets.{false-T}
 use Rattle.geometry.specs.declared.Card.{Card}
 use Rattle.geometry.specs.Geometry.{layoutOf}
 use Rattle.geometry.proofs.Bounds.{layout-ok, limits, unmet-in, waiting-in}
 use Rattle.image.specs.Laid.{Laid}
-use Rattle.image.specs.Read.{tokens, aidIn, tokensIn, noUnmet, unmetRow, noWaiting, waitingRow}
+use Rattle.image.specs.Read.{tokens, aidIn, tokensIn, noUnmet, unmetRow, noWaiting, waitingRow, maskOf}
 use Rattle.image.proofs.Access as at
 use Rattle.image.proofs.Seen.{aid-held, laid-size}
 use Rattle.image.proofs.Masks.{mask-start, mask-turn, mask-doubles, mask-adds, mask-end}
@@ -143,4 +144,19 @@ module _ (c : Card) (img : List ℕ) (h : Laid (layoutOf c) img) where
 pub ruleset listed = (unmet-counts, unmet-counted, unmet-byte, unmet-sum, unmet-aid, unmet-tokens, callee-short, callee-is, itf-seen, mth-seen, by-seen, asks-other, asks-seen, waiting-counts, waiting-counted, waiting-byte, waiting-sum, waiting-aid, caller-short, waits-seen, granter-seen, granted-seen, needs)
 
 -- ---- the loops that gather a mask of rows: `search masks`
-pub ruleset masks = (mask-start, mask-turn, mask-doubles, mask-adds, mask-end, unmet-low, waiting-low, needs)
+-- a turn whose test is of numbers that were read
+module _ (f : Unmet → Bool) (l : List Unmet) (r m : ℕ) (e : m ≡ maskOf f (drop r l)) (h : 0 < r) (i : r ≤ length l) where
+  pub unmet-turn : (b : Bool) → b ≡ f (getD l (r - 1) noUnmet) → m * 2 + boolByte b ≡ maskOf f (drop (r - 1) l)
+  unmet-turn = mask-turn f l r m e h i noUnmet
+
+module _ (f : Waiting → Bool) (l : List Waiting) (r m : ℕ) (e : m ≡ maskOf f (drop r l)) (h : 0 < r) (i : r ≤ length l) where
+  pub waiting-turn : (b : Bool) → b ≡ f (getD l (r - 1) noWaiting) → m * 2 + boolByte b ≡ maskOf f (drop (r - 1) l)
+  waiting-turn = mask-turn f l r m e h i noWaiting
+
+pub number-same : (n x y : ℕ) → x ≡ y → eqb x n ≡ eqb y n
+number-same n x y e = ap (λ (z : ℕ). eqb z n) e
+
+pub both-same : (a b c d : Bool) → a ≡ b → c ≡ d → a && c ≡ b && d
+both-same a b c d p q = ap₂ (λ (x y : Bool). x && y) p q
+
+pub ruleset masks = (mask-start, mask-turn, mask-doubles, mask-adds, mask-end, unmet-turn, waiting-turn, number-same, both-same, unmet-low, waiting-low, needs)

@@ -1,14 +1,12 @@
 -- `image::lists::granting` meets its contract.
-use Prim.Native.Nat.{ℕ, _≤_}
-use native.Mathlib.Omega.{arith}
-use mathlib.Core.Path.{_≡_, ap₂}
+use Prim.Native.Nat.{_≤_}
+use mathlib.Core.Path.{_≡_}
 use mathlib.Core.Bool.{_&&_}
 use lib.Dec.{eqb}
 use lib.ListN.{length, drop}
 use Rattle.policy.specs.Tables.{decode}
 use Rattle.geometry.specs.Geometry.{layoutOf}
-use Rattle.image.specs.Read.{noWaiting, maskOf}
-use Rattle.image.proofs.Masks.{mask-turn}
+use Rattle.image.specs.Read.{maskOf}
 use Rattle.image.proofs.Listed.{masks}
 use Rattle.image.proofs.lists.granting.Statement.{statement}
 use Rattle.image.proofs.lists.granting.Tie as tie
@@ -18,14 +16,6 @@ Inv-loop img c j k r₀ mask₀ r mask = (r ≤ length (decode (layoutOf c) img 
 
 abbrev μ-loop : tie.MeasureT-loop
 μ-loop img c j k r₀ mask₀ r mask = r
-
-loop-again : tie.Need-loop-again Inv-loop μ-loop
-loop-again c =
-    let l = c .before .before .before .loop in (
-      omega arith,
-      mask-turn _ _ (l .r) (l .mask) (l .inv .1) (c .before .before .loop-test .taken) (l .inv .0) noWaiting _
-          (ap₂ (λ (x y : ℕ). eqb x (c .before .before .before .before .before .before .args .j) && eqb y (c .before .before .before .before .before .before .args .k)) (c .before .waiting-callee .ensures) (c .waiting-service .ensures)),
-    )
 
 pub granting-spec : {M : Type 1} → statement M
 granting-spec =
@@ -42,5 +32,5 @@ granting-spec =
     (λ c. search masks)
     (λ c. search masks)
     (λ c. search masks)
-    loop-again
+    (λ c. search masks)
     (λ c. search masks))
