@@ -1,6 +1,7 @@
 -- `image::write::clear_cross` meets its contract. Assumes nothing.
 use Prim.Native.Nat.{_-_, _≤_}
 use native.Mathlib.Omega.{arith}
+use lib.Pow.{pow-pos}
 use Rattle.policy.specs.Tables.{decode}
 use Rattle.geometry.specs.Geometry.{layoutOf}
 use Rattle.image.specs.Laid.{tableOf, withTable}
@@ -25,7 +26,8 @@ clear-cross-spec =
     (λ c κs. search clears)
     (λ c. search clears)
     (λ c κs. (search clears, search clears))
-    (λ c κs. (search clears, search clears))
+    (λ c κs. let s = c .before .before .before .before .before .before .before .before .before in
+    (search clears, ((omega arith, s .pre .1), pow-pos (layoutOf (s .args .c) .services))))
     (λ c. search clears)
     (λ c. search clears)
     (λ c. let b = c .before .before .before .before .before .before in
