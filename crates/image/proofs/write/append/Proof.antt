@@ -13,31 +13,18 @@ use Rattle.image.proofs.write.append.Statement.{statement}
 use Rattle.image.proofs.write.append.Tie as tie
 
 -- the row, after both writes
-made : (a tail : List ℕ) {one two : List ℕ} → length a ≤ 16 → length tail ≤ 3 → one ≡ over 0 (writeAid a) (replicate 20 0) → two ≡ over 17 tail one → take (17 + length tail) two ≡ writeAid a ++ tail
-made a tail s t e q = ap (take (17 + length tail)) (q ∙ ap (over 17 tail) e) ∙ row-made a tail (replicate 20 0) s (omega arith)
+module _ (a tail : List ℕ) {one two : List ℕ} (s : length a ≤ 16) (t : length tail ≤ 3) (e : one ≡ over 0 (writeAid a) (replicate 20 0)) (q : two ≡ over 17 tail one) where
+  made : take (17 + length tail) two ≡ writeAid a ++ tail
+  made = ap (take (17 + length tail)) (q ∙ ap (over 17 tail) e) ∙ row-made a tail (replicate 20 0) s (omega arith)
 
-row-counted : tie.Need-slice-aggregate-append-row
-row-counted c =
-    let s = c .before .before .before .before .before .before .before .before .before .before .before in
-    let a = s .args in
-    sym (ap length (made (a .aid .now) (a .tail .now) (s .pre .0 .0) (s .pre .0 .1) (c .before .before .before .before .before .before .put-slot .ensures) (c .before .before .before .put .ensures))
-    ∙ row-wide (a .aid .now) (a .tail .now) (s .pre .0 .0))
+  made-long : 17 + length tail ≡ length (take (17 + length tail) two)
+  made-long = sym (ap length made ∙ row-wide a tail s)
 
-append-row-requires : tie.Need-append-row-requires
-append-row-requires c κs =
-    let s = c .before .before .before .before .before .before .before .before .before .before .before in
-    let a = s .args in
-    subst (λ (z : List ℕ). HasRoom (17 + length (a .tail .now)) z (a .area .now))
-    (sym (made (a .aid .now) (a .tail .now) (s .pre .0 .0) (s .pre .0 .1) (c .before .before .before .before .before .before .put-slot .ensures) (c .before .before .before .put .ensures)))
-    (s .pre .1)
+  made-room : (area : List ℕ) → HasRoom (17 + length tail) (writeAid a ++ tail) area → HasRoom (17 + length tail) (take (17 + length tail) two) area
+  made-room area h = subst (λ (z : List ℕ). HasRoom (17 + length tail) z area) (sym made) h
 
-returns : tie.Need-returns
-returns c =
-    let s = c .before .before .before .before .before .before .before .before .before .before .before .before .before .before in
-    let a = s .args in
-    c .before .before .append-row .ensures
-    ∙ ap (λ (z : List ℕ). appended (17 + length (a .tail .now)) z (a .area .now))
-    (made (a .aid .now) (a .tail .now) (s .pre .0 .0) (s .pre .0 .1) (c .before .before .before .before .before .before .before .before .before .put-slot .ensures) (c .before .before .before .before .before .before .put .ensures))
+  made-appended : (area : List ℕ) {new : List ℕ} → new ≡ appended (17 + length tail) (take (17 + length tail) two) area → new ≡ appended (17 + length tail) (writeAid a ++ tail) area
+  made-appended area h = h ∙ ap (λ (z : List ℕ). appended (17 + length tail) z area) made
 
 pub append-spec : {M : Type 1} → statement M
 append-spec =
@@ -49,7 +36,7 @@ append-spec =
     (λ c κs. search needs)
     (λ c. search needs)
     (λ c. search needs)
-    row-counted
-    append-row-requires
+    (λ c. search (made-long, needs))
+    (λ c κs. search (made-room, needs))
     (λ c. search needs)
-    returns)
+    (λ c. search (made-appended, needs)))
