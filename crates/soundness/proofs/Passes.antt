@@ -1,18 +1,18 @@
 -- An image that is what its tables give passes the check where they satisfy the facts.
 use Prim.Native.Nat.{ℕ, zero, suc, _+_, _*_, _-_, _/_, _%_, _^_, _≤_, _<_, zero-le}
 use native.Mathlib.Omega.{arith}
-use mathlib.Core.Path.{_≡_, sym, ap, _∙_, subst}
+use mathlib.Core.Path.{_≡_, refl, sym, ap, _∙_, subst}
 use mathlib.Core.Logic.{_⊎_, inl, inr}
 use mathlib.Core.Bool.{Bool, not, _&&_, _||_}
-use mathlib.Core.List.{List, _++_, map}
+use mathlib.Core.List.{List, [], _∷_, _++_, map}
 use mathlib.Core.List.{List·Memᴰ as In}
 use lib.Dec.{T, eqb, leb, ltb, eqb→eq, leb→le, le→leb, lt→ltb}
 use lib.ListN.{length, take, drop, replicate}
 use lib.Seq.{take-at, take-take}
 use Rattle.policy.specs.Lists.{implies, every, upto, NoRepeat}
 use Rattle.policy.specs.Contract.{Aid, Tok, validAid}
-use Rattle.policy.specs.Layout.{Layout, size, aidSize, unmetSize, waitingSize, unmetAt, waitingAt}
-use Rattle.policy.specs.Tables.{Tables, Unmet, Waiting, noTok, bit, readAid, writeAid, readTok, readUnmet, writeUnmet, readWaiting, writeWaiting, decode}
+use Rattle.policy.specs.Layout.{Layout, size, aidSize, unmetSize, waitingSize}
+use Rattle.policy.specs.Tables.{Tables, Unmet, Waiting, noTok, bit, readAid, writeAid, readTok, writeTok, readUnmet, readWaiting, readList, writeList, decode}
 use Rattle.policy.proofs.Sets.{T-false, and-l, and-r, and-i, or-l, or-r, implies-i, not-i, test, false-T, in-map, in-upto}
 use Rattle.policy.proofs.Equal.{eqb-of}
 use Rattle.policy.proofs.Pieces.{in-or-off, length-aid, length-unmet, length-waiting}
@@ -24,12 +24,13 @@ use Rattle.geometry.specs.declared.Table.the-variants.{Calls, Grants, Needs}
 use Rattle.soundness.specs.declared.Kept.{Kept}
 use Rattle.soundness.specs.declared.Kept.the-variants.{Unmet as Unmets, Waiting as Waitings}
 use Rattle.soundness.specs.Check.{byteAt, partAt, zerosAt, sameAt, aidOk, within, rowAt, usedRow, provRow, numberAt, isTok, newTok, tokOk, toksOk, newAid, blankOk, packageOk, packagesOk}
-use Rattle.soundness.specs.Check.{grantOk, pairOk, lineOk, linesOk, isUsed, unserved, unmetOk, isProvided, waitingOk, rowSize, placeAt, countOf, rowOk, newRow, placeOk, listOk}
+use Rattle.soundness.specs.Check.{grantOk, pairOk, lineOk, linesOk, isUsed, unserved, unmetOk, isProvided, waitingOk, listAt, rowSize, placeAt, countOf, rowOk, newRow, placeOk, listOk}
 use Rattle.soundness.proofs.Parts.{same-part, byte-zeros, part-zeros, Filled, filled-ok, blank-zeros}
-use Rattle.soundness.proofs.Decoded.{piece-end, used-read, aid-read, tok-read, unmet-read, waiting-read}
+use Rattle.soundness.proofs.Decoded.{piece-end, used-read, aid-read, tok-read, list-read}
 use Rattle.soundness.proofs.Encoded.{Bytes, list-parts, length-rows}
 use Rattle.soundness.proofs.Whole.{Full, Parts}
 use Rattle.soundness.proofs.Lookup.{below-all, cond-by, tok-bytes, unmet-at, waiting-at, number-is, NumberIs, used-is, prov-is, calls-is, grants-is, needs-is, row-small, prov-small}
+use Rattle.soundness.proofs.Tests.{row-low}
 use Rattle.soundness.proofs.Lookup.{aid-same, same-used, found-used}
 
 three-i : (a b c : Bool) → T a → T b → T c → T (a && b && c)
@@ -192,77 +193,88 @@ module _ (L : Layout) (lf : Full L) (l : List ℕ) (bytes : Bytes l) (len : leng
         grant-ok
 
   -- ---- lists
-  -- the AID's place of a row that is written as it was read
-  row-filled : (at w : ℕ) → 17 ≤ w → (rest : List ℕ) → T (validAid (readAid (take 17 (partAt l at w)))) → writeAid (readAid (take 17 (partAt l at w))) ++ rest ≡ partAt l at w → Filled (partAt l at 17)
-  row-filled at w h rest v e =
-      let a = readAid (take 17 (partAt l at w)) in
-      subst Filled (take-take 17 w (drop at l) h) (sym (take-at (writeAid a) rest 17 (length-aid a (valid-short a v))) ∙ ap (take 17) e)
+  list-end : (k : Kept) → listAt L k + (1 + L .capacity * rowSize k) ≤ length l
+  list-end Unmets = omega arith
+  list-end Waitings = omega arith
 
-  -- the AID at at is valid
-  aid-ok : (at : ℕ) → at + 17 ≤ length l → Filled (partAt l at 17) → T (validAid (readAid (partAt l at 17))) → T (aidOk l at)
-  aid-ok at h f v = filled-ok l at h (readAid (partAt l at 17)) v (sym f)
+  -- a list's rows are read by f, and each is written as its AID and the rest
+  module _ (k : Kept) {A : Type 0} (f : List ℕ → A) (name : A → Aid) (rest : A → List ℕ) (named : (p : List ℕ) → name (f p) ≡ readAid (take 17 p))
+      (long : (r : A) → length (name r) ≤ 16 → length (writeAid (name r) ++ rest r) ≡ rowSize k) where
+    abbrev w : ℕ
+    w = rowSize k
 
-  module _ (k : Kept) {A : Type 0} (f : List ℕ → A) (once : NoRepeat (map (λ q. f (partAt l (placeAt L k q) (rowSize k))) (upto (countOf L l k)))) where
-    new-row : (q : ℕ) → q < countOf L l k → T (newRow L l k q)
-    unfolding newRow
-    new-row q h = below-all (λ p. not (sameAt l (placeAt L k q) (placeAt L k p) (rowSize k))) q (λ p c. not-i (sameAt l (placeAt L k q) (placeAt L k p) (rowSize k)) (λ s.
-        let e : q ≡ p = map-inj (λ q. f (partAt l (placeAt L k q) (rowSize k))) (upto (countOf L l k)) once (in-upto (countOf L l k) q h) (in-upto (countOf L l k) p (omega arith))
-        (ap f (same-part l (placeAt L k q) (placeAt L k p) (rowSize k) s)) in
-        absurd (omega arith)))
+    abbrev count : ℕ
+    count = countOf L l k
 
-  list-ok : (k : Kept) → countOf L l k ≤ L .capacity → ((q : ℕ) → q < countOf L l k → T (rowOk L l k (placeAt L k q))) → ((q : ℕ) → q < countOf L l k → T (newRow L l k q))
-      → partAt l (placeAt L k (countOf L l k)) ((L .capacity - countOf L l k) * rowSize k) ≡ replicate ((L .capacity - countOf L l k) * rowSize k) 0 → T (listOk L l k)
-  unfolding listOk
-  list-ok k h rows new zeros =
-      three-i (leb (countOf L l k) (L .capacity)) (every (placeOk L l k) (upto (countOf L l k))) (zerosAt l (placeAt L k (countOf L l k)) ((L .capacity - countOf L l k) * rowSize k))
-      (le→leb (countOf L l k) (L .capacity) h)
-      (below-all (placeOk L l k) (countOf L l k) (λ q p. and-i (rowOk L l k (placeAt L k q)) (newRow L l k q) (rows q p) (new q p)))
-      (part-zeros l (placeAt L k (countOf L l k)) ((L .capacity - countOf L l k) * rowSize k) zeros)
+    abbrev row : ℕ → A
+    row q = f (partAt l (placeAt L k q) w)
+
+    abbrev listed : List A
+    listed = readList f w (drop (listAt L k) l)
+
+    abbrev write : A → List ℕ
+    write r = writeAid (name r) ++ rest r
+
+    module _ (fits : length listed ≤ L .capacity) (valid : (r : A) → In r listed → T (validAid (name r))) (once : NoRepeat listed)
+        (back : writeList L write w listed ≡ partAt l (listAt L k) (1 + L .capacity * w)) where
+      rows-are : listed ≡ map row (upto count)
+      rows-are = list-read l f w (listAt L k) (let h = list-end k in omega arith)
+
+      in-list : (q : ℕ) → q < count → In (row q) listed
+      in-list q p = subst (In (row q)) (sym rows-are) (in-map row (in-upto count q p))
+
+      count-fits : count ≤ L .capacity
+      count-fits = subst (λ (z : ℕ). z ≤ L .capacity) (length-rows L l f write w (listAt L k) (list-end k)) fits
+
+      row-valid : (q : ℕ) → q < count → T (validAid (name (row q)))
+      row-valid q p = valid (row q) (in-list q p)
+
+      rows-back : ((q : ℕ) → q < count → write (row q) ≡ partAt l (placeAt L k q) w) × (partAt l (placeAt L k count) ((L .capacity - count) * w) ≡ replicate ((L .capacity - count) * w) 0)
+      rows-back = list-parts L l f write w (listAt L k) (list-end k) count-fits (λ q p. long (row q) (valid-short (name (row q)) (row-valid q p))) back
+
+      -- the AID's place of a row
+      module _ (q : ℕ) (p : q < count) where
+        abbrev at : ℕ
+        at = placeAt L k q
+
+        front : take 17 (partAt l at w) ≡ partAt l at 17
+        front = take-take 17 w (drop at l) (let h = row-low k in omega arith)
+
+        name-back : writeAid (name (row q)) ≡ partAt l at 17
+        name-back = sym (take-at (writeAid (name (row q))) (rest (row q)) 17 (length-aid (name (row q)) (valid-short (name (row q)) (row-valid q p)))) ∙ ap (take 17) (rows-back .0 q p) ∙ front
+
+        row-filled : Filled (partAt l at 17)
+        row-filled = ap writeAid (sym (named (partAt l at w) ∙ ap readAid front)) ∙ name-back
+
+        row-aid : T (aidOk l at)
+        row-aid =
+            let a = list-end k in
+            let b = row-low k in
+            let c = count-fits in
+            let d = piece-end w (L .capacity) q (omega arith) in
+            filled-ok l at (omega arith) (name (row q)) (row-valid q p) (sym name-back)
+
+      new-row : (q : ℕ) → q < count → T (newRow L l k q)
+      unfolding newRow
+      new-row q h = below-all (λ p. not (sameAt l (placeAt L k q) (placeAt L k p) w)) q (λ p c. not-i (sameAt l (placeAt L k q) (placeAt L k p) w) (λ s.
+          let e : q ≡ p = map-inj row (upto count) (subst NoRepeat rows-are once) (in-upto count q h) (in-upto count p (omega arith)) (ap f (same-part l (placeAt L k q) (placeAt L k p) w s)) in
+          absurd (omega arith)))
+
+      list-ok : ((at : ℕ) → In (f (partAt l at w)) listed → Filled (partAt l at 17) → T (aidOk l at) → T (rowOk L l k at)) → T (listOk L l k)
+      unfolding listOk
+      list-ok ok =
+          three-i (leb count (L .capacity)) (every (placeOk L l k) (upto count)) (zerosAt l (placeAt L k count) ((L .capacity - count) * w))
+          (le→leb count (L .capacity) count-fits)
+          (below-all (placeOk L l k) count (λ q p. and-i (rowOk L l k (placeAt L k q)) (newRow L l k q) (ok (placeAt L k q) (in-list q p) (row-filled q p) (row-aid q p)) (new-row q p)))
+          (part-zeros l (placeAt L k count) ((L .capacity - count) * w) (rows-back .1))
 
   -- ---- unmet calls
-  abbrev unmets : ℕ
-  unmets = countOf L l Unmets
-
-  abbrev unmetRow : ℕ → Unmet
-  unmetRow q = readUnmet (partAt l (placeAt L Unmets q) unmetSize)
-
-  unmets-are : t .unmet ≡ map unmetRow (upto unmets)
-  unmets-are = unmet-read L l (omega arith)
-
-  in-unmets : (q : ℕ) → q < unmets → In (unmetRow q) (t .unmet)
-  in-unmets q p = subst (In (unmetRow q)) (sym unmets-are) (in-map unmetRow (in-upto unmets q p))
-
-  unmets-fit : unmets ≤ L .capacity
-  unfolding decode
-  unmets-fit = subst (λ (z : ℕ). z ≤ L .capacity) (length-rows L l readUnmet writeUnmet unmetSize (unmetAt L) (omega arith)) (fi .unmet-fits)
-
-  unmet-valid : (q : ℕ) → q < unmets → T (validAid (unmetRow q .callee))
-  unmet-valid q p = fo .unmet .unmet-valid (unmetRow q) (in-unmets q p)
-
-  unmet-parts : ((q : ℕ) → q < unmets → writeUnmet (unmetRow q) ≡ partAt l (placeAt L Unmets q) unmetSize)
-      × (partAt l (placeAt L Unmets unmets) ((L .capacity - unmets) * unmetSize) ≡ replicate ((L .capacity - unmets) * unmetSize) 0)
-  unfolding decode
-  unmet-parts = list-parts L l readUnmet writeUnmet unmetSize (unmetAt L) (omega arith) unmets-fit
-      (λ q p. length-unmet (unmetRow q) (valid-short (unmetRow q .callee) (unmet-valid q p))) (parts .1)
-
-  module _ (q : ℕ) (p : q < unmets) where
-    abbrev at : ℕ
-    at = placeAt L Unmets q
-
+  module _ (at : ℕ) (has : In (readUnmet (partAt l at unmetSize)) (t .unmet)) (fill : Filled (partAt l at 17)) (ok : T (aidOk l at)) where
     abbrev u : Unmet
     u = record { callee = readAid (partAt l at 17); tok = readTok (partAt l (at + 17) 2); caller = byteAt l (at + 19) }
 
     in-u : In u (t .unmet)
-    in-u = subst (λ (z : Unmet). In z (t .unmet)) (unmet-at l at) (in-unmets q p)
-
-    inside : at + 20 ≤ length l
-    inside = let h = unmets-fit in let c = piece-end unmetSize (L .capacity) q (omega arith) in omega arith
-
-    u-valid : T (validAid (u .callee))
-    u-valid = fo .unmet .unmet-valid u in-u
-
-    u-filled : Filled (partAt l at 17)
-    u-filled = row-filled at 20 (omega arith) _ (unmet-valid q p) (unmet-parts .0 q p)
+    in-u = subst (λ (z : Unmet). In z (t .unmet)) (unmet-at l at) has
 
     u-served : T (unserved L l (at + 17) (u .caller) (numberAt L l at))
     unfolding newTok
@@ -271,7 +283,7 @@ module _ (L : Layout) (lf : Full L) (l : List ℕ) (bytes : Bytes l) (len : leng
         go : (c : ℕ) → NumberIs L l at c → T (unserved L l (at + 17) (u .caller) c)
         go c (inl b) = or-l (eqb c n) (not (eqb c (u .caller)) && newTok L l m (at + 17) c) (eqb-of (b .0))
         go c (inr b) =
-            let e : t .aid c ≡ u .callee = aid-same L lf l bytes len (fo .names) filled at u-filled c (b .0) (b .1) in
+            let e : t .aid c ≡ u .callee = aid-same L lf l bytes len (fo .names) filled at fill c (b .0) (b .1) in
             or-r (eqb c n) (not (eqb c (u .caller)) && newTok L l m (at + 17) c) (and-i (not (eqb c (u .caller))) (newTok L l m (at + 17) c)
             (not-i (eqb c (u .caller)) (λ s. fo .unmet .unmet-other u in-u (sym e ∙ ap (t .aid) (eqb→eq c (u .caller) s))))
             (below-all (λ k. not (isTok L l (at + 17) c k)) m (λ k d. not-i (isTok L l (at + 17) c k) (λ s.
@@ -280,56 +292,20 @@ module _ (L : Layout) (lf : Full L) (l : List ℕ) (bytes : Bytes l) (len : leng
     unmet-ok : T (unmetOk L l at)
     unfolding unmetOk
     unmet-ok = three-i (isUsed L l (u .caller)) (aidOk l at) (unserved L l (at + 17) (u .caller) (numberAt L l at))
-        (subst T (used-read L l (u .caller)) (fo .unmet .off .off-used u in-u)) (aid-ok at (let h = inside in omega arith) u-filled u-valid) u-served
+        (subst T (used-read L l (u .caller)) (fo .unmet .off .off-used u in-u)) ok u-served
 
   unmets-ok : T (listOk L l Unmets)
-  unfolding rowOk
-  unmets-ok = list-ok Unmets unmets-fit unmet-ok (new-row Unmets readUnmet (subst NoRepeat unmets-are (fo .unmet .unmet-once))) (unmet-parts .1)
+  unfolding decode rowOk
+  unmets-ok = list-ok Unmets readUnmet (λ u. u .callee) (λ u. writeTok (u .tok) ++ (u .caller ∷ [])) (λ p. refl) length-unmet
+      (fi .unmet-fits) (fo .unmet .unmet-valid) (fo .unmet .unmet-once) (parts .1) unmet-ok
 
   -- ---- waiting grants
-  abbrev waitings : ℕ
-  waitings = countOf L l Waitings
-
-  abbrev waitingRow : ℕ → Waiting
-  waitingRow q = readWaiting (partAt l (placeAt L Waitings q) waitingSize)
-
-  waitings-are : t .waiting ≡ map waitingRow (upto waitings)
-  waitings-are = waiting-read L l (omega arith)
-
-  in-waitings : (q : ℕ) → q < waitings → In (waitingRow q) (t .waiting)
-  in-waitings q p = subst (In (waitingRow q)) (sym waitings-are) (in-map waitingRow (in-upto waitings q p))
-
-  waitings-fit : waitings ≤ L .capacity
-  unfolding decode
-  waitings-fit = subst (λ (z : ℕ). z ≤ L .capacity) (length-rows L l readWaiting writeWaiting waitingSize (waitingAt L) (omega arith)) (fi .waiting-fits)
-
-  waiting-valid : (q : ℕ) → q < waitings → T (validAid (waitingRow q .caller))
-  waiting-valid q p = fo .waiting .wait-valid (waitingRow q) (in-waitings q p)
-
-  waiting-parts : ((q : ℕ) → q < waitings → writeWaiting (waitingRow q) ≡ partAt l (placeAt L Waitings q) waitingSize)
-      × (partAt l (placeAt L Waitings waitings) ((L .capacity - waitings) * waitingSize) ≡ replicate ((L .capacity - waitings) * waitingSize) 0)
-  unfolding decode
-  waiting-parts = list-parts L l readWaiting writeWaiting waitingSize (waitingAt L) (omega arith) waitings-fit
-      (λ q p. length-waiting (waitingRow q) (valid-short (waitingRow q .caller) (waiting-valid q p))) (parts .2)
-
-  module _ (q : ℕ) (p : q < waitings) where
-    abbrev place-v : ℕ
-    place-v = placeAt L Waitings q
-
+  module _ (at : ℕ) (has : In (readWaiting (partAt l at waitingSize)) (t .waiting)) (fill : Filled (partAt l at 17)) (ok : T (aidOk l at)) where
     abbrev v : Waiting
-    v = record { caller = readAid (partAt l place-v 17); callee = byteAt l (place-v + 17); service = byteAt l (place-v + 18) }
+    v = record { caller = readAid (partAt l at 17); callee = byteAt l (at + 17); service = byteAt l (at + 18) }
 
     in-v : In v (t .waiting)
-    in-v = subst (λ (z : Waiting). In z (t .waiting)) (waiting-at l place-v) (in-waitings q p)
-
-    v-inside : place-v + 19 ≤ length l
-    v-inside = let h = waitings-fit in let c = piece-end waitingSize (L .capacity) q (omega arith) in omega arith
-
-    v-valid : T (validAid (v .caller))
-    v-valid = fo .waiting .wait-valid v in-v
-
-    v-filled : Filled (partAt l place-v 17)
-    v-filled = row-filled place-v 19 (omega arith) _ (waiting-valid q p) (waiting-parts .0 q p)
+    in-v = subst (λ (z : Waiting). In z (t .waiting)) (waiting-at l at) has
 
     v-provided : T (isProvided L l (v .callee) (v .service))
     v-provided =
@@ -339,22 +315,22 @@ module _ (L : Layout) (lf : Full L) (l : List ℕ) (bytes : Bytes l) (len : leng
         three-i (ltb (v .callee) n) (ltb (v .service) m) (bit (provRow L l (v .callee)) (v .service))
         (lt→ltb (v .callee) n h) (lt→ltb (v .service) m c) (subst T (prov-is L lf l bytes len (v .callee) (v .service) h c) s)
 
-    v-absent : T (eqb (numberAt L l place-v) n)
-    v-absent = go (numberAt L l place-v) (number-is L l place-v)
+    v-absent : T (eqb (numberAt L l at) n)
+    v-absent = go (numberAt L l at) (number-is L l at)
       where
-        go : (c : ℕ) → NumberIs L l place-v c → T (eqb c n)
+        go : (c : ℕ) → NumberIs L l at c → T (eqb c n)
         go c (inl b) = eqb-of (b .0)
-        go c (inr b) = absurd (fo .waiting .wait-off v in-v c (same-used L lf l bytes len (fo .names) filled place-v v-filled v-valid c (b .0) (b .1))
-            (aid-same L lf l bytes len (fo .names) filled place-v v-filled c (b .0) (b .1)))
+        go c (inr b) = absurd (fo .waiting .wait-off v in-v c (same-used L lf l bytes len (fo .names) filled at fill (fo .waiting .wait-valid v in-v) c (b .0) (b .1))
+            (aid-same L lf l bytes len (fo .names) filled at fill c (b .0) (b .1)))
 
-    waiting-ok : T (waitingOk L l place-v)
+    waiting-ok : T (waitingOk L l at)
     unfolding waitingOk
-    waiting-ok = three-i (isProvided L l (v .callee) (v .service)) (aidOk l place-v) (eqb (numberAt L l place-v) n)
-        v-provided (aid-ok place-v (let h = v-inside in omega arith) v-filled v-valid) v-absent
+    waiting-ok = three-i (isProvided L l (v .callee) (v .service)) (aidOk l at) (eqb (numberAt L l at) n) v-provided ok v-absent
 
   waitings-ok : T (listOk L l Waitings)
-  unfolding rowOk
-  waitings-ok = list-ok Waitings waitings-fit waiting-ok (new-row Waitings readWaiting (subst NoRepeat waitings-are (fo .waiting .wait-once))) (waiting-parts .1)
+  unfolding decode rowOk
+  waitings-ok = list-ok Waitings readWaiting (λ v. v .caller) (λ v. v .callee ∷ v .service ∷ []) (λ p. refl) length-waiting
+      (fi .waiting-fits) (fo .waiting .wait-valid) (fo .waiting .wait-once) (parts .2) waiting-ok
 
   pub passes : T (packagesOk L l) × T (linesOk L l) × T (listOk L l Unmets) × T (listOk L l Waitings)
   unfolding packagesOk linesOk lineOk
