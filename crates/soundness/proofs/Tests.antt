@@ -11,8 +11,9 @@ use lib.Dec.{eqb, leb, ltb}
 use lib.ListN.{length, getD, take, drop}
 use lib.Seq.{take-suc, take-all}
 use borrow.Author.Tests.{lt-ltb, le-ltb, le-leb, lt-leb, eq-eqb, ne-eqb}
-use Rattle.policy.specs.Lists.{every, eqBytes}
+use Rattle.policy.specs.Lists.{every, upto, eqBytes}
 use Rattle.policy.specs.Layout.{size}
+use Rattle.bits.proofs.Loops.{early}
 use Rattle.geometry.specs.declared.Card.{Card}
 use Rattle.geometry.specs.declared.Card.the-variants.{Small}
 use Rattle.geometry.specs.Geometry.{layoutOf, tokAt}
@@ -209,3 +210,9 @@ head-of c l h e p = head-is l h (head-len c 2 (length l) e (omega arith)) (ap le
 pub ruleset places = (tokens-len, list-len, row-len, rest-len, row-least, row-most, unmet-row, waiting-row, geo)
 
 pub ruleset tests = (and-fell, and-rest, and-held, or-held, or-rest, cond-held, cond-fell, not-held, not-fell, not-is, leb-held, leb-fell, ltb-held, ltb-fell, eqb-held, eqb-fell, eqb-is, fell, held, took, left)
+
+-- ---- a loop that leaves at the first number for which f fails: it has shown f for those below i, of the n
+abbrev pub Shown : (ℕ → Bool) → ℕ → ℕ → Type 0
+Shown f n i = (i ≤ n) × (every f (upto i) ≡ true)
+
+pub ruleset turns = (early, places)

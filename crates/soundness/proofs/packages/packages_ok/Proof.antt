@@ -1,31 +1,14 @@
 -- `packages::packages_ok` meets its contract.
-use mathlib.Core.Path.{_≡_}
-use mathlib.Core.Bool.{true}
-use Prim.Native.Nat.{_≤_, _-_}
-use Rattle.policy.specs.Lists.{every, upto}
-use Rattle.bits.proofs.Loops.{early}
+use Prim.Native.Nat.{_-_}
 use Rattle.geometry.specs.Geometry.{layoutOf}
-use Rattle.geometry.proofs.Bounds.{geo}
 use Rattle.soundness.specs.Check.{packageOk, packagesOk}
+use Rattle.soundness.proofs.Tests.{Shown, turns}
 use Rattle.soundness.proofs.packages.packages_ok.Statement.{statement}
 use Rattle.soundness.proofs.packages.packages_ok.Tie as tie
-
-abbrev Inv-loop : tie.InvT-loop
-Inv-loop img c n i₀ i = (i ≤ n) × (every (packageOk (layoutOf c) img) (upto i) ≡ true)
-
-abbrev μ-loop : tie.MeasureT-loop
-μ-loop img c n i₀ i = n - i
 
 pub packages-ok-spec : {M : Type 1} → statement M
 unfolding packagesOk
 packages-ok-spec =
     tie.close
-    (tie.spec Inv-loop μ-loop
-    (λ c κs. search (early, geo))
-    (λ c. search (early, geo))
-    (λ c κs. search (early, geo))
-    (λ c. search (early, geo))
-    (λ c. search (early, geo))
-    (λ c. search (early, geo))
-    (λ c. search (early, geo))
-    (λ c. search (early, geo)))
+    (tie.spec (λ img c n i₀ i. Shown (packageOk (layoutOf c) img) n i) (λ img c n i₀ i. n - i)
+    (λ c κs. search turns) (λ c. search turns) (λ c κs. search turns) (λ c. search turns) (λ c. search turns) (λ c. search turns) (λ c. search turns) (λ c. search turns))

@@ -1,31 +1,14 @@
 -- `packages::toks_ok` meets its contract.
-use mathlib.Core.Path.{_≡_}
-use mathlib.Core.Bool.{true}
-use Prim.Native.Nat.{_≤_, _-_}
-use Rattle.policy.specs.Lists.{every, upto}
-use Rattle.bits.proofs.Loops.{early}
+use Prim.Native.Nat.{_-_}
 use Rattle.geometry.specs.Geometry.{layoutOf}
-use Rattle.geometry.proofs.Bounds.{geo}
 use Rattle.soundness.specs.Check.{tokOk, toksOk}
+use Rattle.soundness.proofs.Tests.{Shown, turns}
 use Rattle.soundness.proofs.packages.toks_ok.Statement.{statement}
 use Rattle.soundness.proofs.packages.toks_ok.Tie as tie
-
-abbrev Inv-loop : tie.InvT-loop
-Inv-loop img c j n k₀ k = (k ≤ n) × (every (tokOk (layoutOf c) img j) (upto k) ≡ true)
-
-abbrev μ-loop : tie.MeasureT-loop
-μ-loop img c j n k₀ k = n - k
 
 pub toks-ok-spec : {M : Type 1} → statement M
 unfolding toksOk
 toks-ok-spec =
     tie.close
-    (tie.spec Inv-loop μ-loop
-    (λ c κs. search (early, geo))
-    (λ c. search (early, geo))
-    (λ c κs. search (early, geo))
-    (λ c. search (early, geo))
-    (λ c. search (early, geo))
-    (λ c. search (early, geo))
-    (λ c. search (early, geo))
-    (λ c. search (early, geo)))
+    (tie.spec (λ img c j n k₀ k. Shown (tokOk (layoutOf c) img j) n k) (λ img c j n k₀ k. n - k)
+    (λ c κs. search turns) (λ c. search turns) (λ c κs. search turns) (λ c. search turns) (λ c. search turns) (λ c. search turns) (λ c. search turns) (λ c. search turns))
