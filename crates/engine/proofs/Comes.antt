@@ -5,16 +5,15 @@ use mathlib.Core.List.{List}
 use borrow.Author.Needs.{needs}
 use Rattle.policy.specs.Contract.{Aid, Row}
 use Rattle.policy.specs.Layout.{Layout}
-use Rattle.policy.specs.Record.{Change, addCall, removeCall, addGrant, removeGrant, addNeed, removeNeed}
+use Rattle.policy.specs.Record.{addCall, removeCall, addGrant, removeGrant, addNeed, removeNeed}
 use Rattle.policy.specs.Tables.{Tables, decode}
 use Rattle.policy.specs.Judge.{Out}
 use Rattle.policy.specs.Settled.{settled, Gives}
 use Rattle.policy.proofs.SoundFacts.{sound-formed}
-use Rattle.image.specs.Laid.{Laid}
-use Rattle.image.proofs.Laid.{sound-laid}
 use Rattle.engine.specs.Asked.{Asked}
 use Rattle.engine.specs.Plans.{done, Inside, callPlan, grantPlan, addCallPlan, removeCallPlan, addNeedPlan, removeNeedPlan, addGrantPlan, removeGrantPlan}
 use Rattle.engine.specs.declared.plan.Plan.{Plan}
+use Rattle.engine.proofs.Remove.{asked-laid}
 use Rattle.engine.proofs.Planned.{add-call-planned, remove-call-planned, add-grant-planned, remove-grant-planned, add-need-planned, remove-need-planned}
 use Rattle.engine.proofs.Inside.{add-call-inside, remove-call-inside, add-grant-inside, remove-grant-inside, add-need-inside, remove-need-inside}
 
@@ -24,9 +23,6 @@ pub record Comes (L : Layout) (img : List ℕ) (r : Row) (o : Out) (q : Plan) : 
   pub inside : Inside L (decode L img) r q
 
 module _ (L : Layout) (img : List ℕ) (a : Aid) where
-  pub asked-laid : (c : Change) → Asked L img a c → Laid L img
-  asked-laid c ask = sound-laid L (ask .is-sound)
-
   module _ (r : Row) where
     abbrev t : Tables
     t = decode L img

@@ -1,9 +1,11 @@
 -- Kind 2 in code: what was found and checked, and the verdict. Assumes nothing.
 use Prim.Native.Nat.{ℕ, _≤_, _<_}
+use native.Mathlib.Omega.{arith}
 use mathlib.Core.Path.{_≡_, sym, _∙_, subst}
 use mathlib.Core.List.{List}
 use mathlib.Core.Option.{some}
 use lib.ListN.{length}
+use borrow.Author.Needs.{needs}
 use Rattle.policy.specs.Contract.{Aid}
 use Rattle.policy.specs.Layout.{Layout}
 use Rattle.policy.specs.Record.{Change, remove}
@@ -16,6 +18,9 @@ use Rattle.policy.specs.Settled.{settled, Gives}
 use Rattle.policy.proofs.SoundFacts.{sound-formed}
 use Rattle.policy.proofs.Found.{NumberIs, number-is}
 use Rattle.policy.proofs.Pieces.{valid-short}
+use Rattle.geometry.specs.declared.Card.{Card}
+use Rattle.geometry.specs.Geometry.{layoutOf}
+use Rattle.geometry.proofs.Bounds.{limits}
 use Rattle.image.specs.Laid.{Laid}
 use Rattle.image.specs.Wrote.{Wrote}
 use Rattle.image.specs.Read.{numberOr}
@@ -47,15 +52,15 @@ module _ (L : Layout) (img : List ℕ) (a : Aid) (ask : Asked L img a remove) wh
   abbrev t : Tables
   t = decode L img
 
-  -- n is what the search for the package gave, and the verdict is (number, second)
-  module _ (n : ℕ) (found : n ≡ numberOr (L .packages) (numberOf L t a)) where
-    pub says-absent : L .packages ≤ n → (number second : ℕ) → (number ≡ 5) × (second ≡ 255) → Gives (settled L img a remove) number second img
-    says-absent h number second v = gives-as number second (v .0) (v .1) (remove-absent L img a (package-none L t a n found h))
+  -- n is what the search for the package gave, of so many packages, and the verdict is (number, second)
+  module _ (n most : ℕ) (found : n ≡ numberOr (L .packages) (numberOf L t a)) (all : most ≡ L .packages) where
+    pub says-absent : most ≤ n → (number second : ℕ) → (number ≡ 5) × (second ≡ 255) → Gives (settled L img a remove) number second img
+    says-absent h number second v = gives-as number second (v .0) (v .1) (remove-absent L img a (package-none L t a n found (omega arith)))
 
     -- m is the cause that the check gave
-    module _ (h : n < L .packages) (m : ℕ) (e : m ≡ answer (lookCauses (shortRemove L t n))) where
+    module _ (h : n < most) (m : ℕ) (e : m ≡ answer (lookCauses (shortRemove L t n))) where
       at : numberOf L t a ≡ some n
-      at = package-some L t a n found h
+      at = package-some L t a n found (omega arith)
 
       aid-is : t .aid n ≡ a
       aid-is = aid-at L img a ask n at
@@ -68,3 +73,15 @@ module _ (L : Layout) (img : List ℕ) (a : Aid) (ask : Asked L img a remove) wh
           → (number second : ℕ) → (number ≡ 0) × (second ≡ n) → Gives (settled L img a remove) number second img2
       says-done z low w1 w2 number second v =
           gives-as number second (v .0) (v .1) (remove-done L img a n at ask m e z (wrote-as L (removed-is L t n low a aid-is) (wrote-then L (tablesWithout n) w1 w2)))
+
+-- ---- what the code's tests say of a number that is below most: it is in range, and a package's is a byte
+pub in-range : (n most all : ℕ) → most ≡ all → n < most → n < all
+in-range n most all e h = omega arith
+
+pub is-byte : (c : Card) (n most : ℕ) → most ≡ layoutOf c .packages → n < most → n < 256
+is-byte c n most e h = omega (arith, limits c)
+
+pub services-few : (c : Card) → layoutOf c .services ≤ 16
+services-few c = limits c .services-low
+
+pub ruleset removal = (asked-laid, asked-short, in-range, is-byte, services-few, says-absent, says-refused, says-done, needs)

@@ -7,6 +7,7 @@ use mathlib.Core.List.{List, [], _∷_, _++_}
 use mathlib.Core.Option.{some}
 use lib.Dec.{T, eqb, eqb→eq, leb→le}
 use lib.ListN.{length}
+use borrow.Author.Needs.{needs}
 use borrow.Author.Tests.{eq-eqb, ne-eqb}
 use Rattle.policy.specs.Lists.{keep, from, upto}
 use Rattle.policy.specs.Contract.{Aid, Tok}
@@ -34,7 +35,7 @@ use Rattle.engine.proofs.Leaves.{sum-ext, none-count}
 use Rattle.engine.proofs.Counts.{ones-same, left-same, left-length, left-rows-are}
 use Rattle.engine.proofs.Causes.{fits-not, fits-yes, at-9, at-10, at-0}
 use Rattle.engine.proofs.Removed.{service-absent, service-missing, service-refused, service-done}
-use Rattle.engine.proofs.Remove.{aid-at, gives-as}
+use Rattle.engine.proofs.Remove.{asked-laid, asked-short, aid-at, gives-as, in-range, is-byte}
 
 -- ---- bit k alone
 alone : (mask k : ℕ) → mask ≡ rowOf 16 (λ z. eqb z k || bit 0 z) → (z : ℕ) → z < 16 → bit mask z ≡ eqb z k
@@ -172,25 +173,25 @@ gone-is L t a j k e =
     ap (λ (x : Aid). leftRows L t x j (λ z. eqb z k)) (sym e) ∙ left-rows-are L t (λ z. eqb z k) (λ z. eqb z k) (λ z h. refl) j in
     ap (λ (l : List Unmet). tablesWithoutService j k (withWaiting (keep (λ w. not (eqb (w .callee) j && eqb (w .service) k)) (t .waiting)) (withUnmet (t .unmet ++ l) t))) left
 
--- ---- the verdict (number, second); j and k are what the searches gave
-module _ (L : Layout) (img : List ℕ) (a : Aid) (s : Tok) (ask : Asked L img a (removeService s)) (j : ℕ) (found : j ≡ numberOr (L .packages) (numberOf L (decode L img) a)) where
+-- ---- the verdict (number, second); j and k are what the searches gave, of so many packages and services
+module _ (L : Layout) (img : List ℕ) (a : Aid) (s : Tok) (ask : Asked L img a (removeService s)) (j most : ℕ) (found : j ≡ numberOr (L .packages) (numberOf L (decode L img) a)) (all : most ≡ L .packages) where
   abbrev on : Tables
   on = decode L img
 
-  pub says-absent : L .packages ≤ j → (number second : ℕ) → (number ≡ 5) × (second ≡ 255) → Gives (settled L img a (removeService s)) number second img
-  says-absent h number second v = gives-as number second (v .0) (v .1) (service-absent L img a s ask (package-none L on a j found h))
+  pub says-absent : most ≤ j → (number second : ℕ) → (number ≡ 5) × (second ≡ 255) → Gives (settled L img a (removeService s)) number second img
+  says-absent h number second v = gives-as number second (v .0) (v .1) (service-absent L img a s ask (package-none L on a j found (omega arith)))
 
-  module _ (h : j < L .packages) (k : ℕ) (served : k ≡ numberOr (L .services) (serviceOf L on j s)) where
+  module _ (h : j < most) (k size : ℕ) (served : k ≡ numberOr (L .services) (serviceOf L on j s)) (whole : size ≡ L .services) where
     at : numberOf L on a ≡ some j
-    at = package-some L on a j found h
+    at = package-some L on a j found (omega arith)
 
-    pub says-missing : L .services ≤ k → (number second : ℕ) → (number ≡ 6) × (second ≡ 255) → Gives (settled L img a (removeService s)) number second img
-    says-missing l number second v = gives-as number second (v .0) (v .1) (service-missing L img a s ask j at (service-none L on j s k served l))
+    pub says-missing : size ≤ k → (number second : ℕ) → (number ≡ 6) × (second ≡ 255) → Gives (settled L img a (removeService s)) number second img
+    says-missing l number second v = gives-as number second (v .0) (v .1) (service-missing L img a s ask j at (service-none L on j s k served (omega arith)))
 
     -- m is the cause that the check gave
-    module _ (l : k < L .services) (m : ℕ) (e : m ≡ answer (lookCauses (shortRemoveService L on j k))) where
+    module _ (l : k < size) (m : ℕ) (e : m ≡ answer (lookCauses (shortRemoveService L on j k))) where
       spot : serviceOf L on j s ≡ some k
-      spot = service-some L on j s k served l
+      spot = service-some L on j s k served (omega arith)
 
       pub says-refused : (m ≡ 0 → ⊥) → (number second : ℕ) → (number ≡ m) × (second ≡ 255) → Gives (settled L img a (removeService s)) number second img
       says-refused ne number second v = gives-as number second (v .0) (v .1) (service-refused L img a s ask j at k spot m e ne)
@@ -201,3 +202,5 @@ module _ (L : Layout) (img : List ℕ) (a : Aid) (s : Tok) (ask : Asked L img a 
       says-done z w1 w2 number second v =
           gives-as number second (v .0) (v .1)
           (service-done L img a s ask j at k spot m e z (wrote-as L (gone-is L on a j k (aid-at L img a ask j at)) (wrote-then L (tablesWithoutService j k) w1 w2)))
+
+pub ruleset removal = (asked-laid, asked-short, in-range, is-byte, says-absent, says-missing, says-refused, says-done, needs)
