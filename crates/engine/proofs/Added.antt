@@ -6,6 +6,7 @@ use mathlib.Core.Bool.{Bool, true, false, not, cond}
 use mathlib.Core.List.{List}
 use mathlib.Core.Option.{Option}
 use lib.ListN.{length}
+use borrow.Author.Needs.{needs}
 use Rattle.policy.specs.Lists.{every, orElse}
 use Rattle.policy.specs.Contract.{Aid, Tok}
 use Rattle.policy.specs.Layout.{Layout}
@@ -13,10 +14,12 @@ use Rattle.policy.specs.Tables.{Tables}
 use Rattle.policy.specs.Lookup.{numberOf, serviceOf, freeService}
 use Rattle.policy.specs.ShortCheck.{count, fits, notInstalled}
 use Rattle.image.specs.Read.{numberOr}
+use Rattle.image.proofs.Laid.{sound-laid}
 use Rattle.image.proofs.Numbers.{package-none, package-some, service-none, service-some, free-service-none, free-service-some}
 use Rattle.engine.specs.Services.{rowGranted, addingPlan}
 use Rattle.engine.specs.declared.services.Adding.{Adding}
 use Rattle.engine.specs.declared.services.Adding.the-variants.{Refuse, Add}
+use Rattle.engine.proofs.Remove.{in-range}
 
 module _ (L : Layout) (t : Tables) (a : Aid) (s : Tok) (l : List Aid) where
   abbrev byLook : ℕ → ℕ → Bool → Bool → Adding
@@ -77,3 +80,5 @@ off true e = sym e
 pub on : (b : Bool) → not b ≡ false → b ≡ true
 on true e = refl
 on false e = sym e
+
+pub ruleset adding = (sound-laid, in-range, plan-absent, plan-had, plan-full, plan-ungranted, plan-crowded, plan-add, off, on, needs)
