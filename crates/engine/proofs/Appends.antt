@@ -26,40 +26,42 @@ unmets = record { get = λ t. t .unmet; put = withUnmet; get-put = λ l t. refl;
 abbrev pub waitings : ListOf Waiting
 waitings = record { get = λ t. t .waiting; put = withWaiting; get-put = λ l t. refl; put-put = λ l m t. refl; put-get = λ t. refl }
 
-module _ (L : Layout) where
-  pub wrote-as : {img : List ℕ} {t t′ : Tables} → t ≡ t′ → Wrote L img t → Wrote L img t′
-  wrote-as {img} e w = subst (λ (z : Tables). Wrote L img z) e w
+pub wrote-as : (L : Layout) {img : List ℕ} {t t′ : Tables} → t ≡ t′ → Wrote L img t → Wrote L img t′
+wrote-as L {img} e w = subst (λ (z : Tables). Wrote L img z) e w
 
-  module _ {A : Type 0} (lists : ListOf A) where
-    abbrev get : Tables → List A
-    get = lists .get
+-- the rows h of the first i of n numbers have gone to the end of the list of the tables t
+pub record Appended {A : Type 0} (L : Layout) (lists : ListOf A) (t : Tables) (h : ℕ → List A) (n i : ℕ) (img : List ℕ) : Type 0 where
+  pub within : i ≤ n
+  pub wrote : Wrote L img (lists .put (lists .get t ++ flat h (upto i)) t)
 
-    abbrev put : List A → Tables → Tables
-    put = lists .put
+module _ {A : Type 0} {L : Layout} {lists : ListOf A} where
+  pub append-start : {h : ℕ → List A} {n : ℕ} {img : List ℕ} → Laid L img → Appended L lists (decode L img) h n 0 img
+  append-start {img = img} l =
+      let t = decode L img in
+      record { within = omega arith; wrote = record { laid = l; tables = sym (ap (λ (l : List A). lists .put l t) (append-nil (lists .get t)) ∙ lists .put-get t) } }
 
-    pub append-start : {img : List ℕ} → Laid L img → Wrote L img (put (get (decode L img) ++ []) (decode L img))
-    append-start {img} h =
-        let t = decode L img in
-        record { laid = h; tables = sym (ap (λ (l : List A). put l t) (append-nil (get t)) ∙ lists .put-get t) }
+  module _ {t : Tables} {h : ℕ → List A} {n i : ℕ} {img : List ℕ} (g : Appended L lists t h n i img) where
+    abbrev T : Tables
+    T = lists .put (lists .get t ++ flat h (upto i)) t
 
-    -- the rows h of the first i numbers stand in the list; x are those that the turn appends
-    module _ (t : Tables) (h : ℕ → List A) (i : ℕ) {img : List ℕ} (w : Wrote L img (put (get t ++ flat h (upto i)) t)) (x : Tables → List A)
-        (e : x (put (get t ++ flat h (upto i)) t) ≡ h i) where
-      pub append-turn : {img′ : List ℕ} → Wrote L img′ (put (get (decode L img) ++ x (decode L img)) (decode L img)) → Wrote L img′ (put (get t ++ flat h (upto (i + 1))) t)
-      append-turn v =
-          let T = put (get t ++ flat h (upto i)) t in
-          wrote-as
-          (ap₂ (λ (l m : List A). put (l ++ m) T) (lists .get-put (get t ++ flat h (upto i)) t) e ∙ lists .put-put ((get t ++ flat h (upto i)) ++ h i) (get t ++ flat h (upto i)) t
-          ∙ ap (λ (l : List A). put l t) (append-assoc (get t) (flat h (upto i)) (h i) ∙ ap (λ (l : List A). get t ++ l) (sym (flat-snoc h i))))
-          (wrote-then L (λ z. put (get z ++ x z) z) w v)
+    -- x are the rows that the turn appends
+    module _ (x : Tables → List A) (e : x T ≡ h i) (l : i < n) where
+      pub append-turn : {img′ : List ℕ} → Wrote L img′ (lists .put (lists .get (decode L img) ++ x (decode L img)) (decode L img)) → Appended L lists t h n (i + 1) img′
+      append-turn v = record {
+        within = omega arith;
+        wrote =
+            wrote-as L
+            (ap₂ (λ (l m : List A). lists .put (l ++ m) T) (lists .get-put (lists .get t ++ flat h (upto i)) t) e ∙ lists .put-put ((lists .get t ++ flat h (upto i)) ++ h i) (lists .get t ++ flat h (upto i)) t
+            ∙ ap (λ (l : List A). lists .put l t) (append-assoc (lists .get t) (flat h (upto i)) (h i) ∙ ap (λ (l : List A). lists .get t ++ l) (sym (flat-snoc h i))))
+            (wrote-then L (λ z. lists .put (lists .get z ++ x z) z) (g .wrote) v);
+      }
 
-      pub append-room : (n most : ℕ) → length (get t) + length (flat h (upto n)) ≤ most → i < n → length (get (decode L img)) + length (x (decode L img)) ≤ most
-      append-room n most r l =
-          let p : length (get (decode L img)) ≡ length (get t) + length (flat h (upto i)) =
-          ap (λ (z : Tables). length (get z)) (w .tables) ∙ ap length (lists .get-put (get t ++ flat h (upto i)) t) ∙ length-append (get t) (flat h (upto i)) in
-          let q : length (x (decode L img)) ≡ length (h i) = ap (λ (z : Tables). length (x z)) (w .tables) ∙ ap length e in
-          omega (arith, flat-room h n i l)
+      pub append-room : {m most : ℕ} → n ≡ m → length (lists .get t) + length (flat h (upto m)) ≤ most → length (lists .get (decode L img)) + length (x (decode L img)) ≤ most
+      append-room {m} s r =
+          let p : length (lists .get (decode L img)) ≡ length (lists .get t) + length (flat h (upto i)) =
+          ap (λ (z : Tables). length (lists .get z)) (g .wrote .tables) ∙ ap length (lists .get-put (lists .get t ++ flat h (upto i)) t) ∙ length-append (lists .get t) (flat h (upto i)) in
+          let q : length (x (decode L img)) ≡ length (h i) = ap (λ (z : Tables). length (x z)) (g .wrote .tables) ∙ ap length e in
+          omega (arith, flat-room h m i (omega arith))
 
-    pub append-end : (t : Tables) (h : ℕ → List A) (i m n : ℕ) → i ≤ m → m ≤ i → m ≡ n → {img : List ℕ} → Wrote L img (put (get t ++ flat h (upto i)) t)
-        → Wrote L img (put (get t ++ flat h (upto n)) t)
-    append-end t h i m n a b e w = let q : i ≡ n = omega arith in wrote-as (ap (λ (z : ℕ). put (get t ++ flat h (upto z)) t) q) w
+    pub append-end : {m : ℕ} → n ≡ m → n ≤ i → Wrote L img (lists .put (lists .get t ++ flat h (upto m)) t)
+    append-end {m} s l = let a = g .within in let q : i ≡ m = omega arith in wrote-as L (ap (λ (z : ℕ). lists .put (lists .get t ++ flat h (upto z)) t) q) (g .wrote)
