@@ -12,18 +12,23 @@ use borrow.Author.Tests.{ltb-true}
 use Rattle.policy.specs.Lists.{every, isSome}
 use Rattle.policy.specs.Contract.{Aid, Tok, Row}
 use Rattle.policy.specs.Layout.{Layout}
-use Rattle.policy.specs.Tables.{Tables}
+use Rattle.policy.specs.Record.{aRow}
+use Rattle.policy.specs.Tables.{Tables, decode}
 use Rattle.policy.specs.Lookup.{Place as Found, numberOf, serviceOf, serverOf}
 use Rattle.policy.specs.Draft.{put3, callRow, withCalls, withNeeds, addCallAt, addGrantAt, addNeedAt}
 use Rattle.policy.specs.ShortCheck.{count}
 use Rattle.policy.proofs.Sets.{T-true, and-l, and-r}
+use Rattle.geometry.specs.declared.Card.{Card}
+use Rattle.geometry.specs.Geometry.{layoutOf}
 use Rattle.image.specs.declared.read.Place.{Place}
 use Rattle.image.specs.Laid.{withUnmet}
 use Rattle.image.specs.Wrote.{Wrote}
 use Rattle.image.specs.Read.{numberOr, placeOr}
 use Rattle.image.proofs.Numbers.{Below, service-below, server-none, server-some}
+use Rattle.record.specs.Meaning.{itemsIn}
+use Rattle.record.specs.declared.Items.{Items}
 use Rattle.engine.proofs.Meets.{aid-short}
-use Rattle.engine.proofs.ItemTurns.{Turns, RoomBy, room-here, room-after}
+use Rattle.engine.proofs.ItemTurns.{Turns, Turning, RoomBy, room-here, room-after}
 use Rattle.loading.specs.Loads.{served, present}
 use Rattle.loading.specs.Writes.{calledAll, serviceNumber, grantedAll, neededAll}
 use Rattle.loading.proofs.Checks.{served-is}
@@ -141,3 +146,7 @@ module _ (L : Layout) (n : ℕ) where
     here = λ x l t. and-l (served L t x) (every (served L t) l);
     still = λ x l t h. needs-still x l t (serverOf L t x) (and-r (served L t x) (every (served L t) l) h);
   }
+
+-- ---- a loop over the rows of one of them
+abbrev pub RowsLeft : Card → Turns Row → List ℕ → List ℕ → Items → List ℕ → Items → Type 0
+RowsLeft c s img₀ rec todo₀ img todo = Turning aRow (layoutOf c) s (decode (layoutOf c) img₀) (itemsIn aRow rec todo₀) rec img todo × (length img ≡ length img₀)
