@@ -1,5 +1,4 @@
 -- `loading::write::need_all` meets its contract.
-use native.Mathlib.Omega.{arith}
 use Rattle.geometry.specs.Geometry.{layoutOf}
 use Rattle.engine.proofs.ItemTurns.{turning-here, turning-end, items}
 use Rattle.loading.proofs.RowTurns.{needed, RowsLeft}
@@ -17,6 +16,5 @@ need-all-spec =
     let e = c .before .before .before in
     let l = e .before .before .before in
     (l .loop .inv .0 .laid, (e .take-row .ensures .other, (l .before .before .before .pre .1 .1 .0, turning-here _ (l .loop .inv .0) (e .take-row .ensures .split)))))
-    (λ c. omega (arith, c .before .before .before .before .before .before .before .take-row .ensures .split .fewer))
-    (λ c. search items) (λ c. search items)
+    (λ c. search items) (λ c. search items) (λ c. search items)
     (λ c. turning-end _ (c .before .before .loop .inv .0) (c .if1 .left)))
