@@ -5,6 +5,7 @@ use mathlib.Core.Path.{_≡_, refl, sym, ap, _∙_, subst}
 use mathlib.Core.Bool.{Bool}
 use mathlib.Core.List.{List}
 use lib.ListN.{length, length-append}
+use borrow.Author.Needs.{needs}
 use Rattle.policy.specs.Lists.{keep, flat, upto}
 use Rattle.policy.specs.Tables.{bit, rowOf}
 use Rattle.policy.proofs.Sets.{length-keep, length-from, upto-in}
@@ -21,25 +22,27 @@ pub record Turned (f : ℕ → List ℕ) (start : ℕ) (old : List ℕ) (m i at 
   pub so-far : Put start (flat f (upto i)) old at out
   pub same : length out ≡ length old
 
-module _ (f : ℕ → List ℕ) (start m : ℕ) (old : List ℕ) where
+module _ {f : ℕ → List ℕ} {start m : ℕ} {old : List ℕ} where
   pub turned-none : Turned f start old m 0 start old
   turned-none = record { within = omega arith; so-far = put-nothing start old; same = refl }
 
-  module _ (i at : ℕ) (out : List ℕ) (h : Turned f start old m i at out) where
-    pub turn-short : (n : ℕ) → i < m → m ≡ n → Short start (flat f (upto n)) → Short at (f i)
-    turn-short n l e s = omega (arith, h .so-far .ends, flat-room f n i (omega arith))
+  module _ {i at : ℕ} {out : List ℕ} (h : Turned f start old m i at out) where
+    pub turn-short : {n : ℕ} → i < m → m ≡ n → Short start (flat f (upto n)) → Short at (f i)
+    turn-short {n} l e s = omega (arith, h .so-far .ends, flat-room f n i (omega arith))
 
-    pub turned-on : (r : ℕ) (new : List ℕ) → i < m → Put at (f i) out r new → length new ≡ length out → Turned f start old m (i + 1) r new
-    turned-on r new l p e = record {
+    pub turned-on : {r : ℕ} {new : List ℕ} → i < m → Put at (f i) out r new → length new ≡ length out → Turned f start old m (i + 1) r new
+    turned-on {r} {new} l p e = record {
       within = omega arith;
       so-far = subst (λ (z : List ℕ). Put start z old r new) (sym (flat-snoc f i)) (after start at (flat f (upto i)) (f i) r old out new (h .so-far) p (h .same));
       same = e ∙ h .same;
     }
 
-    pub turned-all : (n : ℕ) → m ≤ i → m ≡ n → Put start (flat f (upto n)) old at out
-    turned-all n l e =
+    pub turned-all : {n : ℕ} → m ≤ i → m ≡ n → Put start (flat f (upto n)) old at out
+    turned-all {n} l e =
         let q : i ≡ n = omega (arith, h .within) in
         subst (λ (z : ℕ). Put start (flat f (upto z)) old at out) q (h .so-far)
+
+pub ruleset turned = (turned-none, turned-on, turned-all, needs)
 
 -- ---- a loop that counts: the rows of the numbers below i, at most 16 of each
 pub record Counted {A : Type 0} (f : ℕ → List A) (m i total : ℕ) : Type 0 where
