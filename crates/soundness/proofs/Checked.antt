@@ -8,12 +8,12 @@ use mathlib.Core.Bool.{Bool, not, _&&_}
 use mathlib.Core.List.{List, [], map}
 use mathlib.Core.List.{List·Memᴰ as In}
 use lib.Dec.{T, eqb, leb, ltb, eqb→eq, ltb→lt, leb→le}
-use lib.ListN.{length, drop, replicate}
+use lib.ListN.{length, take, drop, replicate}
 use lib.Seq.{take-take}
 use Rattle.policy.specs.Lists.{implies, every, upto, NoRepeat}
 use Rattle.policy.specs.Contract.{Aid, validAid}
-use Rattle.policy.specs.Layout.{Layout, size, aidSize, unmetSize, waitingSize, unmetAt, waitingAt}
-use Rattle.policy.specs.Tables.{Tables, Unmet, Waiting, noTok, bit, readAid, writeAid, readTok, writeTok, readUnmet, writeUnmet, readWaiting, writeWaiting, decode}
+use Rattle.policy.specs.Layout.{Layout, size, aidSize}
+use Rattle.policy.specs.Tables.{Tables, Unmet, Waiting, noTok, bit, readAid, writeAid, readTok, writeTok, readUnmet, writeUnmet, readWaiting, writeWaiting, readList, writeList, decode}
 use Rattle.policy.proofs.Sets.{and-l, and-r, and-i, or-e, implies-e, not-e, test, false-T, map-in, upto-in, once-map, once-upto}
 use Rattle.policy.proofs.Equal.{eqb-of}
 use Rattle.policy.proofs.Pieces.{in-or-off}
@@ -27,9 +27,10 @@ use Rattle.soundness.specs.declared.Kept.the-variants.{Unmet as Unmets, 
 use Rattle.soundness.specs.Check.{byteAt, partAt, zerosAt, sameAt, aidOk, within, rowAt, usedRow, provRow, numberAt, isTok, newTok, tokOk, toksOk, newAid, blankOk, packageOk, packagesOk}
 use Rattle.soundness.specs.Check.{grantOk, pairOk, lineOk, linesOk, isUsed, unserved, unmetOk, isProvided, waitingOk, listAt, rowSize, placeAt, countOf, rowOk, newRow, placeOk, listOk}
 use Rattle.soundness.proofs.Parts.{part-length, part-same, zero-byte, zeros-part, Filled, filled-inj, ok-filled, zeros-blank}
-use Rattle.soundness.proofs.Decoded.{piece-end, used-read, aid-read, aid-off, tok-read, tok-off, unmet-read, waiting-read}
+use Rattle.soundness.proofs.Decoded.{piece-end, used-read, aid-read, aid-off, tok-read, tok-off, list-read}
 use Rattle.soundness.proofs.Encoded.{Bytes, tok-back, unmet-back, waiting-back, list-back, length-rows}
-use Rattle.soundness.proofs.Whole.{Full, Parts}
+use Rattle.soundness.proofs.Whole.{list-end, Full, Parts}
+use Rattle.soundness.proofs.Tests.{row-low}
 use Rattle.soundness.proofs.Lookup.{below, cond-then, cond-else, tok-bytes, unmet-at, waiting-at, number-same, used-is, prov-is, calls-is, grants-is, needs-is}
 use Rattle.soundness.proofs.Lookup.{found-used}
 
@@ -253,26 +254,52 @@ module _ (L : Layout) (lf : Full L) (l : List ℕ) (bytes : Bytes l) (len : leng
         let h = below (placeOk L l k) count (list-facts .1) q p in
         (and-l (rowOk L l k (placeAt L k q)) (newRow L l k q) h, and-r (rowOk L l k (placeAt L k q)) (newRow L l k q) h)
 
-    module _ {A : Type 0} (f : List ℕ → A) (g : A → List ℕ) (back : (q : ℕ) → q < count → g (f (row q)) ≡ row q) where
-      rows-once : NoRepeat (map (λ q. f (row q)) (upto count))
+    row-in : (q : ℕ) → q < count → placeAt L k q + rowSize k ≤ length l
+    row-in q p = let a = list-end L l len k in let b = list-facts .0 in let c = piece-end (rowSize k) (L .capacity) q (omega arith) in omega arith
+
+    past-rows : partAt l (placeAt L k count) ((L .capacity - count) * rowSize k) ≡ replicate ((L .capacity - count) * rowSize k) 0
+    past-rows =
+        let h = list-end L l len k in
+        let q : L .capacity * rowSize k ≡ count * rowSize k + (L .capacity - count) * rowSize k =
+        ap (λ (x : ℕ). x * rowSize k) (sym (add-sub-of-le (list-facts .0))) ∙ add-mul count (L .capacity - count) (rowSize k) in
+        zeros-part l (placeAt L k count) ((L .capacity - count) * rowSize k) (omega arith) (list-facts .2)
+
+    -- rows are read by f and written by g; the AID's place of a row that passes is filled
+    module _ {A : Type 0} (f : List ℕ → A) (g : A → List ℕ) (back : (p : List ℕ) → length p ≡ rowSize k → Filled (take 17 p) → g (f p) ≡ p)
+        (fill : (at : ℕ) → at + rowSize k ≤ length l → T (rowOk L l k at) → Filled (partAt l at 17)) where
+      abbrev listed : List A
+      listed = readList f (rowSize k) (drop (listAt L k) l)
+
+      rows-are : listed ≡ map (λ q. f (row q)) (upto count)
+      rows-are = list-read l f (rowSize k) (listAt L k) (let h = list-end L l len k in omega arith)
+
+      rows-back : (q : ℕ) → q < count → g (f (row q)) ≡ row q
+      rows-back q p =
+          let at = placeAt L k q in
+          let h = row-in q p in
+          back (row q) (part-length l at (rowSize k) h) (subst Filled (sym (take-take 17 (rowSize k) (drop at l) (let w = row-low k in omega arith))) (fill at h (row-ok q p .0)))
+
+      rows-once : NoRepeat listed
       unfolding newRow
-      rows-once = once-map (λ q. f (row q)) (upto count) (λ x y a b e. level x y (new x y (upto-in count a) (upto-in count b) e) (new y x (upto-in count b) (upto-in count a) (sym e))) (once-upto count)
+      rows-once = subst NoRepeat (sym rows-are)
+          (once-map (λ q. f (row q)) (upto count) (λ x y a b e. level x y (new x y (upto-in count a) (upto-in count b) e) (new y x (upto-in count b) (upto-in count a) (sym e))) (once-upto count))
         where
           new : (x y : ℕ) → x < count → y < count → f (row x) ≡ f (row y) → x < y → ⊥
           new x y a b e h =
               not-e (sameAt l (placeAt L k y) (placeAt L k x) (rowSize k)) (below (λ q. not (sameAt l (placeAt L k y) (placeAt L k q) (rowSize k))) y (row-ok y b .1) x h)
-              (part-same l (placeAt L k y) (placeAt L k x) (rowSize k) (sym (back y b) ∙ ap g (sym e) ∙ back x a))
+              (part-same l (placeAt L k y) (placeAt L k x) (rowSize k) (sym (rows-back y b) ∙ ap g (sym e) ∙ rows-back x a))
 
-  each-row : {A : Type 0} (f : ℕ → A) (c : ℕ) {rows : List A} → rows ≡ map f (upto c) → (P : A → Type 0) → ((q : ℕ) → q < c → P (f q)) → (x : A) → In x rows → P x
-  each-row {A} f c e P h x i =
-      let p = map-in f (upto c) (subst (λ (z : List A). In x z) e i) in
-      subst P (sym (p .2)) (h (p .0) (upto-in c (p .1)))
+      rows-fit : length listed ≤ L .capacity
+      rows-fit = subst (λ (z : ℕ). z ≤ L .capacity) (sym (length-rows L l f g (rowSize k) (listAt L k) (list-end L l len k))) (list-facts .0)
 
-  unmet-in : (q : ℕ) → q < L .capacity → placeAt L Unmets q + 20 ≤ length l
-  unmet-in q h = let e = piece-end unmetSize (L .capacity) q h in omega arith
+      list-part : writeList L g (rowSize k) listed ≡ partAt l (listAt L k) (1 + L .capacity * rowSize k)
+      list-part = list-back L l f g (rowSize k) (listAt L k) (list-end L l len k) (list-facts .0) rows-back past-rows
 
-  waiting-in : (q : ℕ) → q < L .capacity → placeAt L Waitings q + 19 ≤ length l
-  waiting-in q h = let e = piece-end waitingSize (L .capacity) q h in omega arith
+      each-row : (P : A → Type 0) → ((at : ℕ) → at + rowSize k ≤ length l → T (rowOk L l k at) → P (f (partAt l at (rowSize k)))) → (x : A) → In x listed → P x
+      each-row P h x i =
+          let p = map-in (λ q. f (row q)) (upto count) (subst (In x) rows-are i) in
+          let c = upto-in count (p .1) in
+          subst P (sym (p .2)) (h (placeAt L k (p .0)) (row-in (p .0) c) (row-ok (p .0) c .0))
 
   module _ (packages : T (packagesOk L l)) where
     abbrev na : Names L (t .used) (t .aid) (t .tok) (t .provides)
@@ -346,25 +373,17 @@ module _ (L : Layout) (lf : Full L) (l : List ℕ) (bytes : Bytes l) (len : leng
           absurd (omega arith)
 
     module _ (unmets : T (listOk L l Unmets)) where
-      unmet-row : (q : ℕ) → q < count Unmets unmets → (placeAt L Unmets q + 20 ≤ length l) × T (unmetOk L l (placeAt L Unmets q))
+      unmet-fill : (at : ℕ) → at + 20 ≤ length l → T (rowOk L l Unmets at) → Filled (partAt l at 17)
       unfolding rowOk
-      unmet-row q p = let h = list-facts Unmets unmets .0 in (unmet-in q (omega arith), row-ok Unmets unmets q p .0)
-
-      unmet-rows-back : (q : ℕ) → q < count Unmets unmets → writeUnmet (readUnmet (row Unmets unmets q)) ≡ row Unmets unmets q
-      unmet-rows-back q p =
-          let h = unmet-row q p in
-          let at = placeAt L Unmets q in
-          unmet-back (partAt l at 20) (part-length l at 20 (h .0)) (subst Filled (sym (take-take 17 20 (drop at l) (omega arith))) (unmet-filled at (h .0) (h .1) .0))
-
-      unmets-are : t .unmet ≡ map (λ q. readUnmet (row Unmets unmets q)) (upto (count Unmets unmets))
-      unmets-are = unmet-read L l (omega arith)
+      unmet-fill at a b = unmet-filled at a b .0
 
       each-unmet : (P : Unmet → Type 0) → ((at : ℕ) → at + 20 ≤ length l → T (unmetOk L l at)
           → P (record { callee = readAid (partAt l at 17); tok = readTok (partAt l (at + 17) 2); caller = byteAt l (at + 19) })) → (u : Unmet) → In u (t .unmet) → P u
-      each-unmet P f = each-row (λ q. readUnmet (row Unmets unmets q)) (count Unmets unmets) unmets-are P
-          (λ q p. let h = unmet-row q p in subst P (sym (unmet-at l (placeAt L Unmets q))) (f (placeAt L Unmets q) (h .0) (h .1)))
+      unfolding decode rowOk
+      each-unmet P f = each-row Unmets unmets readUnmet writeUnmet unmet-back unmet-fill P (λ at a b. subst P (sym (unmet-at l at)) (f at a b))
 
       unmet-rows : UnmetRows (t .used) (t .aid) (t .tok) (t .provides) (t .unmet)
+      unfolding decode
       unmet-rows = record {
         off = record {
           off-used = each-unmet (λ u. T (t .used (u .caller))) row-used;
@@ -373,34 +392,26 @@ module _ (L : Layout) (lf : Full L) (l : List ℕ) (bytes : Bytes l) (len : leng
         };
         unmet-valid = each-unmet (λ u. T (validAid (u .callee))) (λ at a b. unmet-filled at a b .1);
         unmet-other = each-unmet (λ u. u .callee ≡ t .aid (u .caller) → ⊥) (λ at a b e. row-other at a b (byteAt l (at + 19)) (row-used at a b) (sym e) refl);
-        unmet-once = subst NoRepeat (sym unmets-are) (rows-once Unmets unmets readUnmet writeUnmet unmet-rows-back);
+        unmet-once = rows-once Unmets unmets readUnmet writeUnmet unmet-back unmet-fill;
       }
 
     module _ (waitings : T (listOk L l Waitings)) where
-      waiting-row : (q : ℕ) → q < count Waitings waitings → (placeAt L Waitings q + 19 ≤ length l) × T (waitingOk L l (placeAt L Waitings q))
+      waiting-fill : (at : ℕ) → at + 19 ≤ length l → T (rowOk L l Waitings at) → Filled (partAt l at 17)
       unfolding rowOk
-      waiting-row q p = let h = list-facts Waitings waitings .0 in (waiting-in q (omega arith), row-ok Waitings waitings q p .0)
-
-      waiting-rows-back : (q : ℕ) → q < count Waitings waitings → writeWaiting (readWaiting (row Waitings waitings q)) ≡ row Waitings waitings q
-      waiting-rows-back q p =
-          let h = waiting-row q p in
-          let at = placeAt L Waitings q in
-          waiting-back (partAt l at 19) (part-length l at 19 (h .0)) (subst Filled (sym (take-take 17 19 (drop at l) (omega arith))) (waiting-filled at (h .0) (h .1) .0))
-
-      waitings-are : t .waiting ≡ map (λ q. readWaiting (row Waitings waitings q)) (upto (count Waitings waitings))
-      waitings-are = waiting-read L l (omega arith)
+      waiting-fill at a b = waiting-filled at a b .0
 
       each-waiting : (P : Waiting → Type 0) → ((at : ℕ) → at + 19 ≤ length l → T (waitingOk L l at)
           → P (record { caller = readAid (partAt l at 17); callee = byteAt l (at + 17); service = byteAt l (at + 18) })) → (v : Waiting) → In v (t .waiting) → P v
-      each-waiting P f = each-row (λ q. readWaiting (row Waitings waitings q)) (count Waitings waitings) waitings-are P
-          (λ q p. let h = waiting-row q p in subst P (sym (waiting-at l (placeAt L Waitings q))) (f (placeAt L Waitings q) (h .0) (h .1)))
+      unfolding decode rowOk
+      each-waiting P f = each-row Waitings waitings readWaiting writeWaiting waiting-back waiting-fill P (λ at a b. subst P (sym (waiting-at l at)) (f at a b))
 
       waiting-rows : WaitingRows (t .used) (t .aid) (t .provides) (t .waiting)
+      unfolding decode
       waiting-rows = record {
         wait-valid = each-waiting (λ v. T (validAid (v .caller))) (λ at a b. waiting-filled at a b .1);
         wait-off = each-waiting (λ v. (j : ℕ) → T (t .used j) → t .aid j ≡ v .caller → ⊥) row-absent;
         wait-prov = each-waiting (λ v. T (t .provides (v .callee) (v .service))) row-prov;
-        wait-once = subst NoRepeat (sym waitings-are) (rows-once Waitings waitings readWaiting writeWaiting waiting-rows-back);
+        wait-once = rows-once Waitings waitings readWaiting writeWaiting waiting-back waiting-fill;
       }
 
   -- ---- the whole
@@ -421,29 +432,14 @@ module _ (L : Layout) (lf : Full L) (l : List ℕ) (bytes : Bytes l) (len : leng
     pub check-fitting : Fitting L t
     unfolding decode
     check-fitting = record {
-      unmet-fits = subst (λ (z : ℕ). z ≤ L .capacity) (sym (length-rows L l readUnmet writeUnmet unmetSize (unmetAt L) (omega arith))) (list-facts Unmets unmets .0);
-      waiting-fits = subst (λ (z : ℕ). z ≤ L .capacity) (sym (length-rows L l readWaiting writeWaiting waitingSize (waitingAt L) (omega arith))) (list-facts Waitings waitings .0);
+      unmet-fits = rows-fit Unmets unmets readUnmet writeUnmet unmet-back (unmet-fill packages unmets);
+      waiting-fits = rows-fit Waitings waitings readWaiting writeWaiting waiting-back (waiting-fill packages waitings);
     }
 
     pub check-parts : Parts L lf l bytes len
     unfolding decode
-    check-parts =
-        let u = list-facts Unmets unmets in
-        let v = list-facts Waitings waitings in (
-          λ i h. ap writeAid (aid-read L l i h) ∙ filled packages i h,
-          list-back L l readUnmet writeUnmet unmetSize (unmetAt L) (omega arith) (u .0) (unmet-rows-back packages unmets) (rest Unmets u-in (u .0) (u .2)),
-          list-back L l readWaiting writeWaiting waitingSize (waitingAt L) (omega arith) (v .0) (waiting-rows-back packages waitings) (rest Waitings v-in (v .0) (v .2)),
-        )
-      where
-        u-in : listAt L Unmets + (1 + L .capacity * rowSize Unmets) ≤ length l
-        u-in = omega arith
-
-        v-in : listAt L Waitings + (1 + L .capacity * rowSize Waitings) ≤ length l
-        v-in = omega arith
-
-        rest : (k : Kept) → listAt L k + (1 + L .capacity * rowSize k) ≤ length l → countOf L l k ≤ L .capacity → T (zerosAt l (placeAt L k (countOf L l k)) ((L .capacity - countOf L l k) * rowSize k))
-            → partAt l (placeAt L k (countOf L l k)) ((L .capacity - countOf L l k) * rowSize k) ≡ replicate ((L .capacity - countOf L l k) * rowSize k) 0
-        rest k h c z =
-            let q : L .capacity * rowSize k ≡ countOf L l k * rowSize k + (L .capacity - countOf L l k) * rowSize k =
-            ap (λ (x : ℕ). x * rowSize k) (sym (add-sub-of-le c)) ∙ add-mul (countOf L l k) (L .capacity - countOf L l k) (rowSize k) in
-            zeros-part l (placeAt L k (countOf L l k)) ((L .capacity - countOf L l k) * rowSize k) (omega arith) z
+    check-parts = (
+      λ i h. ap writeAid (aid-read L l i h) ∙ filled packages i h,
+      list-part Unmets unmets readUnmet writeUnmet unmet-back (unmet-fill packages unmets),
+      list-part Waitings waitings readWaiting writeWaiting waiting-back (waiting-fill packages waitings),
+    )

@@ -11,8 +11,8 @@ use lib.ListN.{length, getD, take, drop}
 use lib.Seq.{drop-cons, drop-drop}
 use Rattle.policy.specs.Lists.{from, upto}
 use Rattle.policy.specs.Contract.{Tok}
-use Rattle.policy.specs.Layout.{Layout, aidSize, aidsAt, tokensAt, providesAt, unmetSize, waitingSize, callsAt, grantsAt, needsAt, unmetAt, waitingAt}
-use Rattle.policy.specs.Tables.{Tables, noTok, bit, pieces, readAid, readTok, readUnmet, readWaiting, readList, bitOf, readTable, decode}
+use Rattle.policy.specs.Layout.{Layout, aidSize, aidsAt, tokensAt, providesAt, callsAt, grantsAt, needsAt}
+use Rattle.policy.specs.Tables.{Tables, noTok, bit, pieces, readAid, readTok, readList, bitOf, readTable, decode}
 use Rattle.policy.proofs.Pieces.{in-or-off, read-at, read-off}
 use Rattle.geometry.specs.Geometry.{aidAt, tokAt, entryAt}
 use Rattle.geometry.specs.declared.Table.the-variants.{Calls, Grants, Needs}
@@ -117,11 +117,3 @@ module _ (L : Layout) (l : List ℕ) where
   pub needs-read : (i j k : ℕ) → i < L .packages → j < L .packages → t .needs i j k ≡ ltb k (L .services) && bit (rowAt L l (entryAt L Needs i j)) k
   unfolding decode
   needs-read = table-read (needsAt L)
-
-  pub unmet-read : unmetAt L < length l → t .unmet ≡ map (λ r. readUnmet (partAt l (unmetAt L + (1 + r * unmetSize)) unmetSize)) (upto (byteAt l (unmetAt L)))
-  unfolding decode
-  unmet-read h = list-read l readUnmet unmetSize (unmetAt L) h
-
-  pub waiting-read : waitingAt L < length l → t .waiting ≡ map (λ r. readWaiting (partAt l (waitingAt L + (1 + r * waitingSize)) waitingSize)) (upto (byteAt l (waitingAt L)))
-  unfolding decode
-  waiting-read h = list-read l readWaiting waitingSize (waitingAt L) h

@@ -28,7 +28,7 @@ use Rattle.soundness.specs.Check.{grantOk, pairOk, lineOk, linesOk, isUs
 use Rattle.soundness.proofs.Parts.{same-part, byte-zeros, part-zeros, Filled, filled-ok, blank-zeros}
 use Rattle.soundness.proofs.Decoded.{piece-end, used-read, aid-read, tok-read, list-read}
 use Rattle.soundness.proofs.Encoded.{Bytes, list-parts, length-rows}
-use Rattle.soundness.proofs.Whole.{Full, Parts}
+use Rattle.soundness.proofs.Whole.{Full, list-end, Parts}
 use Rattle.soundness.proofs.Lookup.{below-all, cond-by, tok-bytes, unmet-at, waiting-at, number-is, NumberIs, used-is, prov-is, calls-is, grants-is, needs-is, row-small, prov-small}
 use Rattle.soundness.proofs.Tests.{row-low}
 use Rattle.soundness.proofs.Lookup.{aid-same, same-used, found-used}
@@ -193,10 +193,6 @@ module _ (L : Layout) (lf : Full L) (l : List ℕ) (bytes : Bytes l) (len : leng
         grant-ok
 
   -- ---- lists
-  list-end : (k : Kept) → listAt L k + (1 + L .capacity * rowSize k) ≤ length l
-  list-end Unmets = omega arith
-  list-end Waitings = omega arith
-
   -- a list's rows are read by f, and each is written as its AID and the rest
   module _ (k : Kept) {A : Type 0} (f : List ℕ → A) (name : A → Aid) (rest : A → List ℕ) (named : (p : List ℕ) → name (f p) ≡ readAid (take 17 p))
       (long : (r : A) → length (name r) ≤ 16 → length (writeAid (name r) ++ rest r) ≡ rowSize k) where
@@ -218,19 +214,19 @@ module _ (L : Layout) (lf : Full L) (l : List ℕ) (bytes : Bytes l) (len : leng
     module _ (fits : length listed ≤ L .capacity) (valid : (r : A) → In r listed → T (validAid (name r))) (once : NoRepeat listed)
         (back : writeList L write w listed ≡ partAt l (listAt L k) (1 + L .capacity * w)) where
       rows-are : listed ≡ map row (upto count)
-      rows-are = list-read l f w (listAt L k) (let h = list-end k in omega arith)
+      rows-are = list-read l f w (listAt L k) (let h = list-end L l len k in omega arith)
 
       in-list : (q : ℕ) → q < count → In (row q) listed
       in-list q p = subst (In (row q)) (sym rows-are) (in-map row (in-upto count q p))
 
       count-fits : count ≤ L .capacity
-      count-fits = subst (λ (z : ℕ). z ≤ L .capacity) (length-rows L l f write w (listAt L k) (list-end k)) fits
+      count-fits = subst (λ (z : ℕ). z ≤ L .capacity) (length-rows L l f write w (listAt L k) (list-end L l len k)) fits
 
       row-valid : (q : ℕ) → q < count → T (validAid (name (row q)))
       row-valid q p = valid (row q) (in-list q p)
 
       rows-back : ((q : ℕ) → q < count → write (row q) ≡ partAt l (placeAt L k q) w) × (partAt l (placeAt L k count) ((L .capacity - count) * w) ≡ replicate ((L .capacity - count) * w) 0)
-      rows-back = list-parts L l f write w (listAt L k) (list-end k) count-fits (λ q p. long (row q) (valid-short (name (row q)) (row-valid q p))) back
+      rows-back = list-parts L l f write w (listAt L k) (list-end L l len k) count-fits (λ q p. long (row q) (valid-short (name (row q)) (row-valid q p))) back
 
       -- the AID's place of a row
       module _ (q : ℕ) (p : q < count) where
@@ -248,7 +244,7 @@ module _ (L : Layout) (lf : Full L) (l : List ℕ) (bytes : Bytes l) (len : leng
 
         row-aid : T (aidOk l at)
         row-aid =
-            let a = list-end k in
+            let a = list-end L l len k in
             let b = row-low k in
             let c = count-fits in
             let d = piece-end w (L .capacity) q (omega arith) in

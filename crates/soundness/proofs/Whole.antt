@@ -11,7 +11,9 @@ use Rattle.policy.specs.Tables.{Tables, writeAid, writeTok, writeUnmet, writeWa
 use Rattle.policy.proofs.Bits.{length-bits, writeLine, length-line, length-lines}
 use Rattle.policy.proofs.Pieces.{length-table}
 use Rattle.geometry.specs.Geometry.{aidAt, tokAt, provAt}
-use Rattle.soundness.specs.Check.{partAt}
+use Rattle.soundness.specs.declared.Kept.{Kept}
+use Rattle.soundness.specs.declared.Kept.the-variants.{Unmet as Unmets, Waiting as Waitings}
+use Rattle.soundness.specs.Check.{partAt, listAt, rowSize}
 use Rattle.soundness.proofs.Parts.{part-length}
 use Rattle.soundness.proofs.Decoded.{piece-end, used-read, tok-read, prov-read, table-read}
 use Rattle.soundness.proofs.Encoded.{Bytes, part-bytes, bits-back, tok-back, join, split, flat-part, part-flat}
@@ -22,6 +24,11 @@ pub record Full (L : Layout) : Type 0 where
   pub packages-full : 2 ^ L .packages ≡ 256 ^ L .width
   pub services-full : 2 ^ L .services ≡ 256 ^ L .width
   pub services-low : L .services ≤ 16
+
+-- a list ends in the image
+pub list-end : (L : Layout) (l : List ℕ) → length l ≡ size L → (k : Kept) → listAt L k + (1 + L .capacity * rowSize k) ≤ length l
+list-end L l len Unmets = omega arith
+list-end L l len Waitings = omega arith
 
 module _ (L : Layout) (lf : Full L) (l : List ℕ) (bytes : Bytes l) (len : length l ≡ size L) where
   abbrev n : ℕ
