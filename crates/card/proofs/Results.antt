@@ -5,13 +5,13 @@ use mathlib.Core.Path.{_≡_, refl, sym, ap, _∙_, subst}
 use mathlib.Core.Logic.{_⊎_, inl, inr}
 use mathlib.Core.Bool.{Bool, true, false, not, _&&_, cond}
 use mathlib.Core.List.{List, [], _∷_, _++_, map}
-use mathlib.Core.Option.{Option, none, some}
+use mathlib.Core.Option.{Option, some}
 use lib.Dec.{T, eqb, eqb→eq, leb, leb→le, ltb}
 use lib.ListN.{length, drop}
 use Rattle.policy.specs.Lists.{isSome}
 use Rattle.policy.specs.Contract.{Aid, Contract, validAid}
 use Rattle.policy.specs.Layout.{small, size}
-use Rattle.policy.specs.Record.{Request, Change, Got, andThen, given, done, aid, byte, number, fields, change, whole, parse, firstAid}
+use Rattle.policy.specs.Record.{Request, andThen, given, done, aid, byte, number, fields, change, whole, parse}
 use Rattle.policy.specs.Tables.{decode, emptyImage}
 use Rattle.policy.specs.Lookup.{contractAt}
 use Rattle.policy.specs.Sound.{sound}
@@ -22,7 +22,7 @@ use Rattle.policy.proofs.Sets.{and-l, and-r}
 use Rattle.policy.proofs.ParseFacts.{first-aid-part}
 use Rattle.policy.proofs.Entries.{answers-always}
 use Rattle.policy.proofs.Theorems.{history, read-out-again, small-ok}
-use Rattle.card.specs.Packed.{joined, packed, aidPlace}
+use Rattle.card.specs.Packed.{aidPlace}
 use Rattle.card.proofs.Packs.{placed}
 use Rattle.card.specs.Results.{answerOf, Tells, ResultsTell, AidTold, Calls, CallsHistory}
 

@@ -1,6 +1,6 @@
 -- An answer and its second number in the one number that a C function returns.
 use Prim.Native.Nat.{ℕ, _+_, _*_}
-use mathlib.Core.List.{List, [], _∷_}
+use mathlib.Core.List.{[], _∷_}
 use lib.ListN.{length}
 use Rattle.policy.specs.Contract.{Aid}
 use Rattle.policy.specs.Judge.{Out}
