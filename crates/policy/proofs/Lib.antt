@@ -14,6 +14,7 @@ pub mod ParseFacts
 pub mod RoundTrip
 pub mod SoundFacts
 pub mod Written
+pub mod RecordsLength
 pub mod ReadOut
 pub mod Tests
 pub mod Verdict

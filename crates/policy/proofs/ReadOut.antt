@@ -17,12 +17,14 @@ use Rattle.policy.specs.Record.{notOwn, parse, proper}
 use Rattle.policy.specs.Tables.{Tables}
 use Rattle.policy.specs.Lookup.{numbers, places, serviceAt, wanted, grantAt, contractAt}
 use Rattle.policy.specs.Judge.{loadRecord}
+use Rattle.policy.specs.Records.{loadOf, requestOf}
 use Rattle.policy.proofs.Sets.{and-i, not-i, cond-false, in-every, length-keep, length-flat-le, once→distinct, pairs, length-from, in-upto}
 use Rattle.policy.proofs.Equal.{eqAid→, eqTok→, eqTok-refl, eqRow→, eqRow-refl, tok-has, row-has}
 use Rattle.policy.proofs.Formed.{Formed, Fitting, RowAt, GrantAt}
 use Rattle.policy.proofs.Facts.{need-bits, granted-provided}
 use Rattle.policy.proofs.ContractAt.{provides-at, calls-at, needs-at, grants-at, four-sets-at}
-use Rattle.policy.proofs.Written.{loadOf, requestOf, load-parses}
+use Rattle.policy.proofs.Written.{written-read}
+use Rattle.policy.proofs.RecordsLength.{load-writable}
 
 -- ---- lengths
 module _ {A : Type 0} (f : ℕ → List A) (most : ℕ) (each : (x : ℕ) → length (f x) ≤ most) where
@@ -147,9 +149,17 @@ module _ (L : Layout) (lo : LayoutOk L) (t : Tables) (g : Formed L t) (fit : Fit
   valid-aid = g .names .aid-valid n un
 
   pub read-out-parses : parse L (loadRecord L c) ≡ some (requestOf c)
+  unfolding loadRecord
   read-out-parses =
-      load-parses L lo c valid-aid provides-length calls-length grants-length needs-length
-      (λ r m. call-other r m .0) (λ r m. grant-other r m .0) (λ r m. call-other r (need-called r m) .0)
+      written-read L lo (requestOf c) (load-writable L lo c (
+        valid-aid,
+        (
+          provides-length,
+          (calls-length, λ r m. call-other r m .0),
+          (grants-length, λ r m. grant-other r m .0),
+          (needs-length, λ r m. call-other r (need-called r m) .0),
+        ),
+      ))
 
   -- ---- no cause 3
   not-own : (l : List Row) → ((r : Row) → In r l → Other r) → T (notOwn (t .aid n) l)

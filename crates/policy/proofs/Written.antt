@@ -1,24 +1,24 @@
--- A contract written as a load record is read as that contract again.
+-- A request written as a record is read as that request again, for all ten kinds.
 use Prim.Native.Nat.{ℕ, zero, suc, _+_, _*_, _/_, _%_, _^_, _≤_, _<_}
 use native.Mathlib.Omega.{arith}
-use native.Mathlib.Nat.{div-add-mod', div-lt-iff-lt-mul, pow-suc, zero-lt-suc, mul-le-mul-right}
+use native.Mathlib.Nat.{div-add-mod', div-lt-iff-lt-mul, pow-suc, zero-lt-suc}
 use mathlib.Core.Path.{_≡_, refl, sym, ap, _∙_, subst}
 use mathlib.Core.List.{List, [], _∷_, _++_, append-assoc, append-nil}
 use mathlib.Core.List.{List·Memᴰ as In, List·Memᴰ·head as here, List·Memᴰ·tail as there}
-use mathlib.Core.Option.{none, some}
+use mathlib.Core.Option.{some}
 use lib.Dec.{T, eqb, eqb-refl, leb, le→leb}
 use lib.ListN.{length, length-append}
 use lib.Seq.{take-append-seam, drop-append-seam}
 use Rattle.policy.specs.Lists.{flat}
-use Rattle.policy.specs.Contract.{Aid, Tok, Row, Contract, validAid}
+use Rattle.policy.specs.Contract.{Aid, Tok, Row, validAid}
 use Rattle.policy.specs.Layout.{Layout, LayoutOk}
-use Rattle.policy.specs.Record.{Request, Change, load, Got, got, Reader, andThen, byte, bytes, numberFrom, number, aid, tokens, aRow, many, counted, aLoad, change, fields, parse}
+use Rattle.policy.specs.Record.{Request, Change, load, remove, addService, removeService, addCall, removeCall, addGrant, removeGrant, addNeed, removeNeed, Got, got, Reader, andThen, byte, bytes}
+use Rattle.policy.specs.Record.{numberFrom, number, aid, tokens, aRow, many, counted, rowList, aLoad, aService, change, fields, parse}
 use Rattle.policy.specs.Tables.{writeNumber, writeTok}
-use Rattle.policy.specs.Judge.{aidBytes, rowBytes, rowsBytes, loadBody, loadRecord}
-use Rattle.policy.proofs.Sets.{T-true, length-flat-le}
-use Rattle.policy.proofs.Pieces.{length-flat, valid-short}
+use Rattle.policy.specs.Judge.{aidBytes, rowBytes, rowsBytes}
+use Rattle.policy.specs.Records.{kindOf, ValidRow, AtMost, changeBytes, bodyBytes, recordBytes, WithinChange, WrittenRead}
+use Rattle.policy.proofs.Sets.{T-true}
 use Rattle.policy.proofs.Bits.{length-number}
-use Rattle.policy.proofs.Formed.{ValidRows}
 
 -- ---- numbers
 -- the last byte of a number apart
@@ -54,6 +54,10 @@ pub number-append : (w n : ℕ) (a b : List ℕ) → writeNumber w n a ++ b ≡ 
 number-append zero n a b = refl
 number-append (suc w) n a b = number-append w (n / 256) (n % 256 ∷ a) b
 
+number-byte : (n : ℕ) (rest : List ℕ) → number 1 (n ∷ rest) ≡ got n rest
+unfolding number byte
+number-byte n rest = let e : 0 * 256 + n ≡ n = omega arith in ap (λ (z : ℕ). got z rest) e
+
 -- ---- rows and lists
 aid-written : (a rest : List ℕ) → T (validAid a) → aid (aidBytes a ++ rest) ≡ got a rest
 unfolding aid byte bytes
@@ -77,71 +81,62 @@ module _ {A : Type 0} (p : Reader A) (f : A → List ℕ) where
   many-written (x ∷ l) rest h =
       rw (append-assoc (f x) (flat f l) rest, h x (here refl) (flat f l ++ rest), many-written l rest (λ y m. h y (there m)))
 
-  counted-written : (w most : ℕ) (l : List A) (rest : List ℕ) → length l < 256 ^ w → length l ≤ most → ((x : A) → In x l → (u : List ℕ) → p (f x ++ u) ≡ got x u)
-      → counted w most p (writeNumber w (length l) (flat f l) ++ rest) ≡ got l rest
+  -- after a count of any width, once that is read
+  counted-written : (w most : ℕ) (s : List ℕ) (l : List A) (rest : List ℕ) → number w s ≡ got (length l) (flat f l ++ rest) → length l ≤ most → ((x : A) → In x l → (u : List ℕ) → p (f x ++ u) ≡ got x u)
+      → counted w most p s ≡ got l rest
   unfolding counted
-  counted-written w most l rest b m h =
-      rw (number-append w (length l) (flat f l) rest, number-written w (length l) (flat f l ++ rest) b, T-true (leb (length l) most) (le→leb (length l) most m), many-written l rest h)
+  counted-written w most s l rest e m h = rw (e, T-true (leb (length l) most) (le→leb (length l) most m), many-written l rest h)
 
--- ---- the whole record
--- the request that a contract's record asks
-abbrev pub loadOf : Contract → Change
-loadOf c = load (c .provides) (c .calls) (c .grants) (c .needs)
+-- ---- what follows the first AID, by kind
+module _ (L : Layout) (lo : LayoutOk L) where
+  rows-written : (l : List Row) (rest : List ℕ) → AtMost (L .mostRows) ValidRow l → rowList L (rowsBytes L l ++ rest) ≡ got l rest
+  rows-written l rest v =
+      let fits : length l < 256 ^ L .countWidth = let h = lo .counts-fit in let n = v .0 in omega arith in
+      counted-written aRow rowBytes (L .countWidth) (L .mostRows) (rowsBytes L l ++ rest) l rest
+      (ap (number (L .countWidth)) (number-append (L .countWidth) (length l) (flat rowBytes l) rest) ∙ number-written (L .countWidth) (length l) (flat rowBytes l ++ rest) fits)
+      (v .0) (λ r m u. row-written r u (v .1 r m))
 
-abbrev pub requestOf : Contract → Request
-requestOf c = record { aid = c .aid; change = loadOf c }
+  -- kinds 5 to 10
+  one-written : (f : Row → Change) (r : Row) (rest : List ℕ) → ValidRow r → andThen (aRow (rowBytes r ++ rest)) (λ x. got (f x)) ≡ got (f r) rest
+  one-written f r rest v = ap (λ (z : Got Row). andThen z (λ x. got (f x))) (row-written r rest v)
 
-module _ (L : Layout) (lo : LayoutOk L) (c : Contract) (va : T (validAid (c .aid))) (np : length (c .provides) ≤ L .services)
-    (nc : length (c .calls) ≤ L .mostRows) (ng : length (c .grants) ≤ L .mostRows) (nn : length (c .needs) ≤ L .mostRows)
-    (vc : ValidRows (c .calls)) (vg : ValidRows (c .grants)) (vn : ValidRows (c .needs)) where
-  rows-written : (l : List Row) (rest : List ℕ) → length l ≤ L .mostRows → ValidRows l → counted (L .countWidth) (L .mostRows) aRow (rowsBytes L l ++ rest) ≡ got l rest
-  rows-written l rest n v = counted-written aRow rowBytes (L .countWidth) (L .mostRows) l rest (let h = lo .counts-fit in omega arith) n (λ r m u. row-written r u (v r m))
+  change-written : (c : Change) (rest : List ℕ) → WithinChange L c → change L (kindOf c) (changeBytes L c ++ rest) ≡ got c rest
+  unfolding change aLoad aService tokens byte
+  change-written (load p c g n) rest v =
+      let toks : List ℕ = length p ∷ flat writeTok p in
+      let r1 = rowsBytes L c in
+      let r2 = rowsBytes L g in
+      let r3 = rowsBytes L n in
+      rw (
+        append-assoc (flat writeTok p) (r1 ++ (r2 ++ r3)) rest,
+        append-assoc r1 (r2 ++ r3) rest,
+        append-assoc r2 r3 rest,
+        counted-written tokens writeTok 1 (L .services) (toks ++ (r1 ++ (r2 ++ (r3 ++ rest)))) p (r1 ++ (r2 ++ (r3 ++ rest))) (number-byte (length p) _) (v .0) (λ s m u. refl),
+        rows-written c (r2 ++ (r3 ++ rest)) (v .1),
+        rows-written g (r3 ++ rest) (v .2),
+        rows-written n rest (v .3),
+      )
+  change-written remove rest v = refl
+  change-written (addService s l) rest v =
+      ap (λ (z : Got (List Aid)). andThen z (λ m. got (addService s m)))
+      (counted-written aid aidBytes 1 (L .mostCallers) (length l ∷ flat aidBytes l ++ rest) l rest (number-byte (length l) _) (v .0) (λ a m u. aid-written a u (v .1 a m)))
+  change-written (removeService s) rest v = refl
+  change-written (addCall r) rest v = one-written addCall r rest v
+  change-written (removeCall r) rest v = one-written removeCall r rest v
+  change-written (addGrant r) rest v = one-written addGrant r rest v
+  change-written (removeGrant r) rest v = one-written removeGrant r rest v
+  change-written (addNeed r) rest v = one-written addNeed r rest v
+  change-written (removeNeed r) rest v = one-written removeNeed r rest v
 
-  toks-written : (rest : List ℕ) → counted 1 (L .services) tokens ((length (c .provides) ∷ flat writeTok (c .provides)) ++ rest) ≡ got (c .provides) rest
-  unfolding counted number byte
-  toks-written rest =
-      let e : 0 * 256 + length (c .provides) ≡ length (c .provides) = omega arith in
-      rw (e, T-true (leb (length (c .provides)) (L .services)) (le→leb (length (c .provides)) (L .services) np)) (many-written tokens writeTok (c .provides) rest (λ s m u. tokens-written s u))
-
-  last-written : counted (L .countWidth) (L .mostRows) aRow (rowsBytes L (c .needs)) ≡ got (c .needs) []
-  last-written = ap (λ (z : List ℕ). counted (L .countWidth) (L .mostRows) aRow z) (sym (append-nil (rowsBytes L (c .needs)))) ∙ rows-written (c .needs) [] nn vn
-
-  load-written : aLoad L ((length (c .provides) ∷ flat writeTok (c .provides)) ++ (rowsBytes L (c .calls) ++ (rowsBytes L (c .grants) ++ rowsBytes L (c .needs))))
-      ≡ got (loadOf c) []
-  unfolding aLoad
-  load-written = rw (toks-written _, rows-written (c .calls) _ nc vc, rows-written (c .grants) _ ng vg, last-written)
-
-  -- ---- its length fits two bytes
-  row-length : (r : Row) → T (validAid (r .aid)) → length (rowBytes r) ≤ 19
-  row-length r v = let h = valid-short (r .aid) v in let e = length-append (r .aid) (writeTok (r .tok)) in omega arith
-
-  rows-length : (l : List Row) → length l ≤ L .mostRows → ValidRows l → length (rowsBytes L l) ≤ L .countWidth + L .mostRows * 19
-  rows-length l n v =
-      let e = length-number (L .countWidth) (length l) (flat rowBytes l) in
-      let a = length-flat-le rowBytes 19 l (λ r m. row-length r (v r m)) in
-      let b : length l * 19 ≤ L .mostRows * 19 = mul-le-mul-right 19 n in
-      omega arith
-
-  body-length : 4 + length (loadBody L c) < 256 ^ 2
-  body-length =
-      let a = valid-short (c .aid) va in
-      let e1 = length-append (aidBytes (c .aid)) ((length (c .provides) ∷ flat writeTok (c .provides)) ++ (rowsBytes L (c .calls) ++ (rowsBytes L (c .grants) ++ rowsBytes L (c .needs)))) in
-      let e2 = length-append (length (c .provides) ∷ flat writeTok (c .provides)) (rowsBytes L (c .calls) ++ (rowsBytes L (c .grants) ++ rowsBytes L (c .needs))) in
-      let e3 = length-append (rowsBytes L (c .calls)) (rowsBytes L (c .grants) ++ rowsBytes L (c .needs)) in
-      let e4 = length-append (rowsBytes L (c .grants)) (rowsBytes L (c .needs)) in
-      let p = length-flat writeTok 2 (c .provides) (λ s m. refl) in
-      let x = rows-length (c .calls) nc vc in
-      let y = rows-length (c .grants) ng vg in
-      let z = rows-length (c .needs) nn vn in
-      let f = lo .records-fit in
-      omega arith
-
-  pub load-parses : parse L (loadRecord L c) ≡ some (requestOf c)
-  unfolding parse fields byte change loadRecord
-  load-parses =
-      let rest : List ℕ = L .version ∷ 1 ∷ loadBody L c in
-      let n : ℕ = 4 + length (loadBody L c) in
-      let e : length (writeNumber 2 n rest) ≡ n = length-number 2 n rest ∙ omega arith in
-      let h = body-length in
+  -- ---- the whole record
+  pub written-read : WrittenRead L
+  unfolding parse fields byte
+  written-read q v =
+      let n : ℕ = 4 + length (bodyBytes L q) in
+      let rest : List ℕ = L .version ∷ kindOf (q .change) ∷ bodyBytes L q in
+      let e : length (recordBytes L q) ≡ n = length-number 2 n rest ∙ omega arith in
+      let h = v .1 in
       let two : (0 * 256 + n / 256 % 256) * 256 + n % 256 ≡ n = omega arith in
-      rw (e, two, T-true (eqb n n) (eqb-refl n), T-true (eqb (L .version) (L .version)) (eqb-refl (L .version)), aid-written (c .aid) _ va, load-written)
+      let last : change L (kindOf (q .change)) (changeBytes L (q .change)) ≡ got (q .change) [] =
+      ap (change L (kindOf (q .change))) (sym (append-nil (changeBytes L (q .change)))) ∙ change-written (q .change) [] (v .0 .1) in
+      rw (e, two, T-true (eqb n n) (eqb-refl n), T-true (eqb (L .version) (L .version)) (eqb-refl (L .version)), aid-written (q .aid) (changeBytes L (q .change)) (v .0 .0), last)

@@ -9,6 +9,7 @@ pub mod Lookup
 pub mod Sound
 pub mod Draft
 pub mod Judge
+pub mod Records
 pub mod History
 pub mod Marked
 pub mod ShortCheck
