@@ -1,5 +1,5 @@
 -- Document 01's session, computed: its four records print its four lines; and the frames at the edges. Assumes nothing.
-use Prim.Native.Nat.{ℕ, _+_, _*_}
+use Prim.Native.Nat.{ℕ}
 use mathlib.Core.Path.{_≡_, refl}
 use mathlib.Core.List.{List, [], _∷_, _++_}
 use Rattle.policy.specs.Layout.{small}
@@ -10,6 +10,7 @@ use Rattle.policy.specs.Sound.{sound}
 use Rattle.policy.specs.Lookup.{numberOf, freeNumber, freeService, contractAt}
 use Rattle.policy.specs.Draft.{look, draft, numberFor}
 use Rattle.policy.specs.Judge.{judge}
+use Rattle.policy.specs.Records.{longestRecord}
 use Rattle.lines.specs.declared.Frame.the-variants.{Record, Bad}
 use Rattle.lines.specs.Lines.{digits}
 use Rattle.lines.specs.Frames.{longest, announced, session}
@@ -46,6 +47,6 @@ edges = (refl, refl, refl, refl, refl)
 pub lengths : (announced 0 3 ≡ Bad) × (announced 0 4 ≡ Record 4) × (announced 16 49 ≡ Record 4145) × (announced 16 50 ≡ Bad)
 lengths = (refl, refl, refl, refl)
 
--- the longest record is a load with every count at its limit and every AID of 16 bytes
-pub longest-record : longest ≡ 4 + (17 + ((1 + small .services * 2) + 3 * (small .countWidth + small .mostRows * 19)))
+-- the longest record that is read
+pub longest-record : longest ≡ longestRecord small
 longest-record = refl

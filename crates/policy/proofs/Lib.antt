@@ -10,10 +10,10 @@ pub mod Found
 pub mod Facts
 pub mod ContractAt
 pub mod LawfulCard
-pub mod ParseFacts
 pub mod RoundTrip
 pub mod SoundFacts
 pub mod Written
+pub mod ParseFacts
 pub mod RecordsLength
 pub mod ReadOut
 pub mod Tests
@@ -40,5 +40,6 @@ pub mod AllKinds
 pub mod Step
 pub mod Theorems
 pub mod Entries
+pub mod Records
 pub mod HasRow
 pub mod Settled

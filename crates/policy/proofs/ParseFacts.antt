@@ -1,145 +1,213 @@
--- What reading a record gives: valid AIDs, at most as many services as a package has numbers for, and where the first AID stands.
-use Prim.Native.Nat.{ℕ, zero, suc, _+_, _*_, _≤_}
-use mathlib.Core.Path.{_≡_, refl, sym, ap, subst}
+-- What reading a record gives: bytes that are read are those that are written, of a request within the limits, and where the first AID stands.
+use Prim.Native.Nat.{ℕ, zero, suc, _+_, _*_, _/_, _%_, _^_, _≤_, _<_}
+use native.Mathlib.Omega.{arith}
+use mathlib.Core.Path.{_≡_, refl, sym, ap, _∙_, subst}
 use mathlib.Core.Bool.{Bool, true, false, _&&_}
-use mathlib.Core.List.{List, [], _∷_}
-use mathlib.Core.List.{List·Memᴰ as In, List·Memᴰ·not-nil as in-nil}
+use mathlib.Core.List.{List, [], _∷_, _++_, append-assoc, append-nil}
+use mathlib.Core.List.{List·Memᴰ as In, List·Memᴰ·head as here, List·Memᴰ·tail as there, List·Memᴰ·not-nil as in-nil, Memᴰ·append-right as in-right}
 use mathlib.Core.Option.{Option, none, some}
-use lib.Dec.{T, eqb, leb, leb→le}
-use lib.ListN.{length, getD, take, drop}
-use lib.Seq.{length-take-le}
-use Rattle.policy.specs.Lists.{orElse}
+use lib.Dec.{T, eqb, eqb→eq, leb, leb→le}
+use lib.ListN.{length, getD, take, drop, length-append, take-append-drop}
+use lib.Seq.{length-take-le, take-append-seam}
+use Rattle.policy.specs.Lists.{flat, orElse}
 use Rattle.policy.specs.Contract.{Aid, Row, validAid}
 use Rattle.policy.specs.Layout.{Layout}
-use Rattle.policy.specs.Record.{Change, addCall, removeCall, addGrant, removeGrant, addNeed, removeNeed, Request, Got, got, bad, Reader, andThen, _>>=_, done, given, byte, bytes, number, aid}
-use Rattle.policy.specs.Record.{tokens, aRow, many, counted, aLoad, aService, kinds, change, fields, whole, parse, firstAid}
+use Rattle.policy.specs.Record.{Change, load, remove, addService, removeService, addCall, removeCall, addGrant, removeGrant, addNeed, removeNeed, Request, Got, got, bad, Reader, andThen, _>>=_, done, given}
+use Rattle.policy.specs.Record.{byte, bytes, numberFrom, number, aid, tokens, aRow, many, counted, rowList, aLoad, aService, kinds, change, fields, whole, parse, firstAid}
+use Rattle.policy.specs.Tables.{writeNumber, writeTok}
+use Rattle.policy.specs.Judge.{aidBytes, rowBytes, rowsBytes}
+use Rattle.policy.specs.Records.{kindOf, ValidAid, ValidRow, AtMost, Bytes, changeBytes, bodyBytes, recordBytes, WithinChange, Within, ReadWritten}
 use Rattle.policy.specs.Claims.{FirstAidPart}
-use Rattle.policy.proofs.Sets.{each-cons}
-use Rattle.policy.proofs.Formed.{ValidRows, Valid}
+use Rattle.policy.proofs.Sets.{and-l, and-r, each-cons}
+use Rattle.policy.proofs.Bits.{length-number}
+use Rattle.policy.proofs.Written.{number-last, number-append}
+use Rattle.policy.proofs.Formed.{Valid}
 
--- ---- what was read satisfies P, if anything was
-module _ {A : Type 0} (P : A → Type 0) where
+-- ---- s is d and then u: its length always, and itself where it is of bytes
+record Starts (s d u : List ℕ) : Type 0 where
+  size : length s ≡ length d + length u
+  same : Bytes s → s ≡ d ++ u
+
+starts : {s : List ℕ} (d u : List ℕ) → s ≡ d ++ u → Starts s d u
+starts d u e = record { size = ap length e ∙ length-append d u; same = λ _. e }
+
+-- what follows is of bytes too
+starts-bytes : {s d u : List ℕ} → Starts s d u → Bytes s → Bytes u
+starts-bytes {d = d} h l b m = subst Bytes (h .same l) l b (in-right d m)
+
+starts-then : {s d u e v : List ℕ} → Starts s d u → Starts u e v → Starts s (d ++ e) v
+starts-then {d = d} {e = e} {v = v} h k = record {
+  size = let a = h .size in let b = k .size in let c = length-append d e in omega arith;
+  same = λ l. h .same l ∙ ap (λ (z : List ℕ). d ++ z) (k .same (starts-bytes h l)) ∙ sym (append-assoc d e v);
+}
+
+-- ---- what was read, and what follows it, satisfies P, if anything was
+abbrev Parses : {A : Type 0} → (A → Type 0) → Option A → Type 0
+Parses P (some a) = P a
+Parses P none = Unit {0}
+
+module _ {A : Type 0} (P : A → List ℕ → Type 0) where
   abbrev Reads : Got A → Type 0
-  Reads (got a s) = P a
+  Reads (got a u) = P a u
   Reads bad = Unit {0}
-
-  abbrev Parses : Option A → Type 0
-  Parses (some a) = P a
-  Parses none = Unit {0}
-
-  abbrev Each : List A → Type 0
-  Each l = (x : A) → In x l → P x
 
   reads-given : (b : Bool) (p : Reader A) (s : List ℕ) → (T b → Reads (p s)) → Reads (given b p s)
   reads-given true p s h = h tt
   reads-given false p s h = tt
 
-  reads-whole : (L : Layout) (x : Got A) → Reads x → Parses (whole x)
-  reads-whole L (got a []) h = h
-  reads-whole L (got a (b ∷ s)) h = tt
-  reads-whole L bad h = tt
+  reads-whole : (x : Got A) → Reads x → Parses (λ a. P a []) (whole x)
+  reads-whole (got a []) h = h
+  reads-whole (got a (b ∷ s)) h = tt
+  reads-whole bad h = tt
 
 -- one reader after another
-reads-then : {A B : Type 0} (P : A → Type 0) (Q : B → Type 0) (x : Got A) (f : A → Reader B)
-    → Reads P x → ((a : A) (s : List ℕ) → P a → Reads Q (f a s)) → Reads Q (andThen x f)
+reads-then : {A B : Type 0} (P : A → List ℕ → Type 0) (Q : B → List ℕ → Type 0) (x : Got A) (f : A → Reader B)
+    → Reads P x → ((a : A) (s : List ℕ) → P a s → Reads Q (f a s)) → Reads Q (andThen x f)
 reads-then P Q (got a s) f h k = k a s h
 reads-then P Q bad f h k = tt
 
--- nothing is asked
-abbrev Any : {A : Type 0} → A → Type 0
-Any a = Unit {0}
+reads-as : {A : Type 0} (P Q : A → List ℕ → Type 0) (x : Got A) → ((a : A) (u : List ℕ) → P a u → Q a u) → Reads P x → Reads Q x
+reads-as P Q (got a u) f h = f a u h
+reads-as P Q bad f h = tt
 
-reads-any : {A : Type 0} (x : Got A) → Reads Any x
-reads-any (got a s) = tt
-reads-any bad = tt
+-- a value as it must be, as f writes it
+abbrev Took : {A : Type 0} → (A → Type 0) → (A → List ℕ) → List ℕ → A → List ℕ → Type 0
+Took P f s a u = P a × Starts s (f a) u
 
-module _ {A : Type 0} (P : A → Type 0) (p : Reader A) (ok : (s : List ℕ) → Reads P (p s)) where
-  abbrev Several : ℕ → List A → Type 0
-  Several n l = (length l ≡ n) × Each P l
+-- ---- numbers
+-- m of w bytes, read from s
+abbrev Counts : (ℕ → List ℕ) → List ℕ → ℕ → List ℕ → Type 0
+Counts f s n u = Starts s (f n) u
 
-  reads-many : (n : ℕ) (s : List ℕ) → Reads (Several n) (many p n s)
-  reads-many zero s = (refl, λ x m. absurd (in-nil m))
+reads-from : (w n : ℕ) (s : List ℕ) → Reads (Counts (λ m. writeNumber w m []) s) (numberFrom w n s)
+unfolding byte
+reads-from zero n s = starts [] s refl
+reads-from (suc w) n s =
+    subst (Reads (Counts (λ m. writeNumber (suc w) m []) s)) (sym (number-last w n s))
+    (reads-then (Counts (λ m. writeNumber w m []) s) (Counts (λ m. writeNumber (suc w) m []) s) (numberFrom w n s) _ (reads-from w n s) last)
+  where
+    last : (m : ℕ) (u : List ℕ) → Counts (λ m. writeNumber w m []) s m u → Reads (Counts (λ m. writeNumber (suc w) m []) s) (andThen (byte u) (λ b. got (m * 256 + b)))
+    last m [] h = tt
+    last m (b ∷ u) h = record {
+      size = let a = h .size in let e = length-number w m [] in let f = length-number (suc w) (m * 256 + b) [] in omega arith;
+      same = λ l.
+          let low : b < 256 = starts-bytes h l b (here refl) in
+          let q : m ≡ (m * 256 + b) / 256 = omega arith in
+          let r : b ≡ (m * 256 + b) % 256 = omega arith in
+          h .same l ∙ number-append w m [] (b ∷ u) ∙ (λ i. writeNumber w (q i) (r i ∷ u)) ∙ sym (number-append (suc w) (m * 256 + b) [] u);
+    }
+
+reads-number : (w : ℕ) (s : List ℕ) → Reads (Counts (λ n. writeNumber w n []) s) (number w s)
+unfolding number
+reads-number w s = reads-from w 0 s
+
+reads-byte : (s : List ℕ) → Reads (Counts (λ n. n ∷ []) s) (number 1 s)
+unfolding number byte
+reads-byte [] = tt
+reads-byte (b ∷ s) = let e : b ≡ 0 * 256 + b = omega arith in starts ((0 * 256 + b) ∷ []) s (ap (λ (z : ℕ). z ∷ s) e)
+
+-- ---- lists
+module _ {A : Type 0} (P : A → Type 0) (f : A → List ℕ) (p : Reader A) (ok : (s : List ℕ) → Reads (Took P f s) (p s)) where
+  abbrev Several : ℕ → List ℕ → List A → List ℕ → Type 0
+  Several n s l u = (length l ≡ n) × ((x : A) → In x l → P x) × Starts s (flat f l) u
+
+  reads-many : (n : ℕ) (s : List ℕ) → Reads (Several n s) (many p n s)
+  reads-many zero s = (refl, (λ x m. absurd (in-nil m)), starts [] s refl)
   reads-many (suc n) s =
-      reads-then P (Several (suc n)) (p s) _ (ok s) (λ a t h.
-      reads-then (Several n) (Several (suc n)) (many p n t) _ (reads-many n t) (λ l u e. (ap suc (e .0), each-cons P a l h (e .1))))
+      reads-then (Took P f s) (Several (suc n) s) (p s) _ (ok s) (λ a t h.
+      reads-then (Several n t) (Several (suc n) s) (many p n t) _ (reads-many n t) (λ l u e.
+      (ap suc (e .0), each-cons P a l (h .0) (e .1), starts-then (h .1) (e .2))))
 
-  abbrev AtMost : ℕ → List A → Type 0
-  AtMost most l = (length l ≤ most) × Each P l
-
-  reads-counted : (w most : ℕ) (s : List ℕ) → Reads (AtMost most) (counted w most p s)
+  -- after a count of w bytes
+  reads-counted : (w most : ℕ) (count : ℕ → List ℕ) → ((s : List ℕ) → Reads (Counts count s) (number w s))
+      → (s : List ℕ) → Reads (Took (AtMost most P) (λ l. count (length l) ++ flat f l) s) (counted w most p s)
   unfolding counted
-  reads-counted w most s =
-      reads-then Any (AtMost most) (number w s) _ (reads-any (number w s)) (λ n t _.
-      reads-given (AtMost most) (leb n most) (many p n) t (λ h. weaken n most h (many p n t) (reads-many n t)))
+  reads-counted w most count num s =
+      reads-then (Counts count s) Q (number w s) _ (num s) (λ n t h.
+      reads-given Q (leb n most) (many p n) t (λ le. reads-as (Several n t) Q (many p n t) (λ l u e.
+      ((subst (λ (z : ℕ). z ≤ most) (sym (e .0)) (leb→le n most le), e .1), starts-then (subst (λ (z : ℕ). Counts count s z t) (sym (e .0)) h) (e .2)))
+      (reads-many n t)))
     where
-      weaken : (n most : ℕ) → T (leb n most) → (x : Got (List A)) → Reads (Several n) x → Reads (AtMost most) x
-      weaken n most h (got l t) e = (subst (λ (z : ℕ). z ≤ most) (sym (e .0)) (leb→le n most h), e .1)
-      weaken n most h bad e = tt
+      Q : List A → List ℕ → Type 0
+      Q = Took (AtMost most P) (λ l. count (length l) ++ flat f l) s
 
--- ---- an AID, after its length byte, and a row
-abbrev AidAt : List ℕ → Aid → Type 0
-AidAt s a = (a ≡ take (length a) (drop 1 s)) × T (validAid a)
+-- ---- an AID, exactly; tokens and a row
+abbrev AidAt : List ℕ → Aid → List ℕ → Type 0
+AidAt s a u = ValidAid a × (s ≡ aidBytes a ++ u)
 
 reads-aid-at : (s : List ℕ) → Reads (AidAt s) (aid s)
 unfolding aid byte bytes
 reads-aid-at [] = tt
 reads-aid-at (n ∷ s) =
-    reads-then (λ a. a ≡ take (length a) s) (AidAt (n ∷ s)) (bytes n s) _
-    (reads-given (λ a. a ≡ take (length a) s) (leb n (length s)) (λ t. got (take n t) (drop n t)) s
-    (λ h. ap (λ (m : ℕ). take m s) (sym (length-take-le n s (leb→le n (length s) h)))))
-    (λ a t e. reads-given (AidAt (n ∷ s)) (validAid a) (done a) t (λ v. (e, v)))
+    reads-then (λ a u. n ∷ s ≡ aidBytes a ++ u) (AidAt (n ∷ s)) (bytes n s) _
+    (reads-given (λ a u. n ∷ s ≡ aidBytes a ++ u) (leb n (length s)) (λ t. got (take n t) (drop n t)) s
+    (λ h i. sym (length-take-le n s (leb→le n (length s) h)) i ∷ sym (take-append-drop n s) i))
+    (λ a t e. reads-given (AidAt (n ∷ s)) (validAid a) (done a) t (λ v. (v, e)))
 
-reads-aid : (s : List ℕ) → Reads (λ a. T (validAid a)) (aid s)
-reads-aid s = go (aid s) (reads-aid-at s)
-  where
-    go : (x : Got Aid) → Reads (AidAt s) x → Reads (λ a. T (validAid a)) x
-    go (got a t) h = h .1
-    go bad h = tt
+reads-aid : (s : List ℕ) → Reads (Took ValidAid aidBytes s) (aid s)
+reads-aid s = reads-as (AidAt s) (Took ValidAid aidBytes s) (aid s) (λ a u h. (h .0, starts (aidBytes a) u (h .1))) (reads-aid-at s)
 
-abbrev ValidRow : Row → Type 0
-ValidRow r = T (validAid (r .aid))
+abbrev Any : {A : Type 0} → A → Type 0
+Any a = Unit {0}
 
-reads-row : (s : List ℕ) → Reads ValidRow (aRow s)
+reads-tokens : (s : List ℕ) → Reads (Took Any writeTok s) (tokens s)
+unfolding tokens byte
+reads-tokens [] = tt
+reads-tokens (i ∷ []) = tt
+reads-tokens (i ∷ m ∷ s) = (tt, starts (i ∷ m ∷ []) s refl)
+
+reads-row : (s : List ℕ) → Reads (Took ValidRow rowBytes s) (aRow s)
 unfolding aRow
-reads-row s = reads-then (λ a. T (validAid a)) ValidRow (aid s) _ (reads-aid s) (λ a t h. reads-then Any ValidRow (tokens t) _ (reads-any (tokens t)) (λ k u _. h))
+reads-row s =
+    reads-then (Took ValidAid aidBytes s) (Took ValidRow rowBytes s) (aid s) _ (reads-aid s) (λ a t h.
+    reads-then (Took Any writeTok t) (Took ValidRow rowBytes s) (tokens t) _ (reads-tokens t) (λ k u e. (h .0, starts-then (h .1) (e .1))))
 
 -- ---- what follows the first AID, by kind
-abbrev All : {A : Type 0} → (A → Type 0) → List A → Type 0
+abbrev All : {A : Type 0} → (ℕ → A → Type 0) → List A → Type 0
 All P [] = Unit {0}
-All P (x ∷ l) = P x × All P l
+All P (x ∷ l) = P 0 x × All (λ k. P (suc k)) l
 
-all-getD : {A : Type 0} (P : A → Type 0) (l : List A) (d : A) → All P l → P d → (k : ℕ) → P (getD l k d)
-all-getD P [] d h e k = e
+all-getD : {A : Type 0} (P : ℕ → A → Type 0) (l : List A) (d : A) → All P l → ((k : ℕ) → P k d) → (k : ℕ) → P k (getD l k d)
+all-getD P [] d h e k = e k
 all-getD P (x ∷ l) d h e zero = h .0
-all-getD P (x ∷ l) d h e (suc k) = all-getD P l d (h .1) e k
+all-getD P (x ∷ l) d h e (suc k) = all-getD (λ k. P (suc k)) l d (h .1) (λ k. e (suc k)) k
 
 module _ (L : Layout) where
-  abbrev ReadsChange : Reader Change → Type 0
-  ReadsChange p = (s : List ℕ) → Reads (Valid L) (p s)
+  -- a change of kind k, read from s
+  abbrev Changes : ℕ → List ℕ → Change → List ℕ → Type 0
+  Changes k s c u = (kindOf c ≡ k) × Took (WithinChange L) (changeBytes L) s c u
 
-  -- a list of rows, and what reads on after it
-  reads-rows : (f : List Row → Reader Change) → ((l : List Row) → ValidRows l → ReadsChange (f l)) → ReadsChange (counted (L .countWidth) (L .mostRows) aRow >>= f)
-  reads-rows f k s =
-      reads-then (AtMost ValidRow aRow reads-row (L .mostRows)) (Valid L) (counted (L .countWidth) (L .mostRows) aRow s) f
-      (reads-counted ValidRow aRow reads-row (L .countWidth) (L .mostRows) s) (λ l t h. k l (h .1) t)
+  abbrev ReadsChange : ℕ → Reader Change → Type 0
+  ReadsChange k p = (s : List ℕ) → Reads (Changes k s) (p s)
 
-  reads-load : ReadsChange (aLoad L)
+  reads-rows : (s : List ℕ) → Reads (Took (AtMost (L .mostRows) ValidRow) (rowsBytes L) s) (rowList L s)
+  reads-rows s =
+      subst (λ (f : List Row → List ℕ). Reads (Took (AtMost (L .mostRows) ValidRow) f s) (rowList L s)) (λ i l. number-append (L .countWidth) (length l) [] (flat rowBytes l) i)
+      (reads-counted ValidRow rowBytes aRow reads-row (L .countWidth) (L .mostRows) (λ n. writeNumber (L .countWidth) n []) (reads-number (L .countWidth)) s)
+
+  abbrev Rows : List ℕ → List Row → List ℕ → Type 0
+  Rows = Took (AtMost (L .mostRows) ValidRow) (rowsBytes L)
+
+  reads-load : ReadsChange 1 (aLoad L)
   unfolding aLoad
   reads-load s =
-      reads-then (AtMost Any tokens (λ u. reads-any (tokens u)) (L .services)) (Valid L) (counted 1 (L .services) tokens s) _
-      (reads-counted Any tokens (λ u. reads-any (tokens u)) 1 (L .services) s)
-      (λ p t hp. reads-rows _ (λ c hc. reads-rows _ (λ g hg. reads-rows _ (λ n hn u. (hp .0, hc, hg, hn)))) t)
+      reads-then (Took (AtMost (L .services) Any) (λ l. length l ∷ flat writeTok l) s) (Changes 1 s) (counted 1 (L .services) tokens s) _
+      (reads-counted Any writeTok tokens reads-tokens 1 (L .services) (λ n. n ∷ []) reads-byte s) (λ p t hp.
+      reads-then (Rows t) (Changes 1 s) (rowList L t) _ (reads-rows t) (λ c u hc.
+      reads-then (Rows u) (Changes 1 s) (rowList L u) _ (reads-rows u) (λ g v hg.
+      reads-then (Rows v) (Changes 1 s) (rowList L v) _ (reads-rows v) (λ n w hn.
+      (refl, ((hp .0 .0, hc .0, hg .0, hn .0), starts-then (hp .1) (starts-then (hc .1) (starts-then (hg .1) (hn .1)))))))))
 
-  reads-service : ReadsChange (aService L)
+  reads-service : ReadsChange 3 (aService L)
   unfolding aService
   reads-service s =
-      reads-then Any (Valid L) (tokens s) _ (reads-any (tokens s)) (λ k t _.
-      reads-then (AtMost (λ a. T (validAid a)) aid reads-aid (L .mostCallers)) (Valid L) (counted 1 (L .mostCallers) aid t) _
-      (reads-counted (λ a. T (validAid a)) aid reads-aid 1 (L .mostCallers) t) (λ l u h. h .1))
+      reads-then (Took Any writeTok s) (Changes 3 s) (tokens s) _ (reads-tokens s) (λ k t h.
+      reads-then (Took (AtMost (L .mostCallers) ValidAid) (λ l. length l ∷ flat aidBytes l) t) (Changes 3 s) (counted 1 (L .mostCallers) aid t) _
+      (reads-counted ValidAid aidBytes aid reads-aid 1 (L .mostCallers) (λ n. n ∷ []) reads-byte t) (λ l u e. (refl, (e .0, starts-then (h .1) (e .1)))))
 
   -- kinds 5 to 10
-  reads-one : (f : Row → Change) → ((r : Row) → ValidRow r → Valid L (f r)) → ReadsChange (aRow >>= λ r. done (f r))
-  reads-one f h s = reads-then ValidRow (Valid L) (aRow s) _ (reads-row s) (λ r t v. h r v)
+  reads-one : (k : ℕ) (f : Row → Change) → ((r : Row) (s u : List ℕ) → Took ValidRow rowBytes s r u → Changes k s (f r) u) → ReadsChange k (aRow >>= λ r. done (f r))
+  reads-one k f h s = reads-then (Took ValidRow rowBytes s) (Changes k s) (aRow s) _ (reads-row s) (λ r u. h r s u)
 
   reads-kinds : All ReadsChange (kinds L)
   reads-kinds = (
@@ -147,20 +215,20 @@ module _ (L : Layout) where
     (
       reads-load,
       (
-        (λ s. tt),
+        (λ s. (refl, (tt, starts [] s refl))),
         (
           reads-service,
           (
-            (λ s. reads-then Any (Valid L) (tokens s) _ (reads-any (tokens s)) (λ k t _. tt)),
+            (λ s. reads-then (Took Any writeTok s) (Changes 4 s) (tokens s) _ (reads-tokens s) (λ k t h. (refl, h))),
             (
-              reads-one addCall (λ r v. v),
+              reads-one 5 addCall (λ r s u h. (refl, h)),
               (
-                reads-one removeCall (λ r v. v),
+                reads-one 6 removeCall (λ r s u h. (refl, h)),
                 (
-                  reads-one addGrant (λ r v. v),
+                  reads-one 7 addGrant (λ r s u h. (refl, h)),
                   (
-                    reads-one removeGrant (λ r v. v),
-                    (reads-one addNeed (λ r v. v), (reads-one removeNeed (λ r v. v), tt)),
+                    reads-one 8 removeGrant (λ r s u h. (refl, h)),
+                    (reads-one 9 addNeed (λ r s u h. (refl, h)), (reads-one 10 removeNeed (λ r s u h. (refl, h)), tt)),
                   ),
                 ),
               ),
@@ -171,35 +239,90 @@ module _ (L : Layout) where
     ),
   )
 
-  reads-change : (k : ℕ) → ReadsChange (change L k)
+  reads-change : (k : ℕ) → ReadsChange k (change L k)
   unfolding change
-  reads-change k = all-getD ReadsChange (kinds L) (λ s. bad) reads-kinds (λ s. tt) k
+  reads-change k = all-getD ReadsChange (kinds L) (λ s. bad) reads-kinds (λ k s. tt) k
 
-  -- ---- the whole record
-  abbrev Facts : List ℕ → Request → Type 0
-  Facts s q = (q .aid ≡ take (length (q .aid)) (drop 5 s)) × T (validAid (q .aid)) × Valid L (q .change)
+  -- ---- the whole record: q was read from s, of l bytes by its head, and u follows
+  record Facts (l : ℕ) (s : List ℕ) (q : Request) (u : List ℕ) : Type 0 where
+    first : q .aid ≡ take (length (q .aid)) (drop 5 s)
+    within : Within L q
+    written : Starts s (writeNumber 2 l (L .version ∷ kindOf (q .change) ∷ bodyBytes L q)) u
+    two-bytes : Bytes s → l < 256 ^ 2
 
-  reads-fields : (l : ℕ) (s : List ℕ) → Reads (Facts s) (fields L l s)
+  reads-fields : (l : ℕ) (s : List ℕ) → Reads (Facts l s) (fields L l s)
   unfolding fields number byte
   reads-fields l [] = tt
   reads-fields l (h ∷ []) = tt
   reads-fields l (h ∷ x ∷ []) = tt
   reads-fields l (h ∷ x ∷ v ∷ []) = tt
   reads-fields l (h ∷ x ∷ v ∷ k ∷ s) =
-      reads-then (AidAt s) (Facts (h ∷ x ∷ v ∷ k ∷ s)) (given (eqb ((0 * 256 + h) * 256 + x) l && eqb v (L .version)) aid s) _
-      (reads-given (AidAt s) (eqb ((0 * 256 + h) * 256 + x) l && eqb v (L .version)) aid s (λ _. reads-aid-at s))
-      (λ a t ha. reads-then (Valid L) (Facts (h ∷ x ∷ v ∷ k ∷ s)) (change L k t) _ (reads-change k t) (λ c u hc. (ha .0, ha .1, hc)))
+      reads-then (λ a t. AidAt s a t × T test) (Facts l all) (given test aid s) _
+      (reads-given (λ a t. AidAt s a t × T test) test aid s (λ e. reads-as (AidAt s) (λ a t. AidAt s a t × T test) (aid s) (λ a t ha. (ha, e)) (reads-aid-at s)))
+      (λ a t ha. reads-then (Changes k t) (Facts l all) (change L k t) _ (reads-change k t) (λ c u hc.
+      let eq : n ≡ l = eqb→eq n l (and-l (eqb n l) (eqb v (L .version)) (ha .1)) in
+      let ver : v ≡ L .version = eqb→eq v (L .version) (and-r (eqb n l) (eqb v (L .version)) (ha .1)) in
+      let head : Starts (v ∷ k ∷ s) (L .version ∷ kindOf c ∷ aidBytes a) t = starts (L .version ∷ kindOf c ∷ aidBytes a) t (λ i. ver i ∷ sym (hc .0) i ∷ ha .0 .1 i) in
+      record {
+        first = sym (take-append-seam a t) ∙ ap (λ (z : List ℕ). take (length a) (drop 1 z)) (sym (ha .0 .1));
+        within = (ha .0 .0, hc .1 .0);
+        written = starts-then (subst (λ (z : ℕ). Starts all (writeNumber 2 z []) (v ∷ k ∷ s)) eq (reads-number 2 all)) (starts-then head (hc .1 .1));
+        two-bytes = λ b. let p = b h (here refl) in let q = b x (there (here refl)) in omega arith;
+      }))
+    where
+      n : ℕ
+      n = (0 * 256 + h) * 256 + x
 
-  parsed : (s : List ℕ) (q : Request) → parse L s ≡ some q → Facts s q
+      test : Bool
+      test = eqb n l && eqb v (L .version)
+
+      all : List ℕ
+      all = h ∷ x ∷ v ∷ k ∷ s
+
+  -- nothing follows
+  parsed : (s : List ℕ) (q : Request) → parse L s ≡ some q → Facts (length s) s q []
   unfolding parse
-  parsed s q e = subst (Parses (Facts s)) e (reads-whole (Facts s) L (fields L (length s) s) (reads-fields (length s) s))
+  parsed s q e = subst (Parses (λ q. Facts (length s) s q [])) e (reads-whole (Facts (length s) s) (fields L (length s) s) (reads-fields (length s) s))
+
+  module _ (s : List ℕ) (q : Request) (e : parse L s ≡ some q) where
+    pub parsed-within : Within L q
+    parsed-within = parsed s q e .within
+
+    abbrev after : List ℕ
+    after = L .version ∷ kindOf (q .change) ∷ bodyBytes L q
+
+    parsed-size : length s ≡ 4 + length (bodyBytes L q)
+    parsed-size = let h = parsed s q e .written .size in let n = length-number 2 (length s) after in omega arith
+
+    pub parsed-length : length s ≡ length (recordBytes L q)
+    parsed-length = let h = parsed-size in let n = length-number 2 (4 + length (bodyBytes L q)) after in omega arith
+
+  pub read-written : ReadWritten L
+  read-written s q b e =
+      let h = parsed s q e in (
+        h .written .same b ∙ append-nil _ ∙ ap (λ (z : ℕ). writeNumber 2 z (after s q e)) (parsed-size s q e),
+        (h .within, subst (λ (z : ℕ). z < 256 ^ 2) (parsed-length s q e) (h .two-bytes b)),
+      )
+
+-- ---- what the kinds ask of a change that was read
+within-valid : (L : Layout) (c : Change) → WithinChange L c → Valid L c
+within-valid L (load p c g n) v = (v .0, v .1 .1, v .2 .1, v .3 .1)
+within-valid L remove v = tt
+within-valid L (addService s l) v = v .1
+within-valid L (removeService s) v = tt
+within-valid L (addCall r) v = v
+within-valid L (removeCall r) v = v
+within-valid L (addGrant r) v = v
+within-valid L (removeGrant r) v = v
+within-valid L (addNeed r) v = v
+within-valid L (removeNeed r) v = v
 
 pub parse-valid : (L : Layout) (s : List ℕ) (q : Request) → parse L s ≡ some q → T (validAid (q .aid)) × Valid L (q .change)
-parse-valid L s q e = let h = parsed L s q e in (h .1, h .2)
+parse-valid L s q e = let h = parsed-within L s q e in (h .0, within-valid L (q .change) (h .1))
 
 pub first-aid-part : (L : Layout) → FirstAidPart L
 unfolding firstAid
-first-aid-part L s = (λ e. part e, λ q e. let h = parsed L s q e in (part e, h .0, h .1))
+first-aid-part L s = (λ e. part e, λ q e. let h = parsed L s q e in (part e, h .first, h .within .0))
   where
     part : {o : Option Request} → parse L s ≡ o → firstAid L s ≡ orElse o [] (λ q. q .aid)
     part e = ap (λ (z : Option Request). orElse z [] (λ q. q .aid)) e

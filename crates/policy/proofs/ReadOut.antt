@@ -23,7 +23,7 @@ use Rattle.policy.proofs.Equal.{eqAid→, eqTok→, eqTok-refl, eqRow�
 use Rattle.policy.proofs.Formed.{Formed, Fitting, RowAt, GrantAt}
 use Rattle.policy.proofs.Facts.{need-bits, granted-provided}
 use Rattle.policy.proofs.ContractAt.{provides-at, calls-at, needs-at, grants-at, four-sets-at}
-use Rattle.policy.proofs.Written.{written-read}
+use Rattle.policy.proofs.Written.{written-read, load-record}
 use Rattle.policy.proofs.RecordsLength.{load-writable}
 
 -- ---- lengths
@@ -149,9 +149,8 @@ module _ (L : Layout) (lo : LayoutOk L) (t : Tables) (g : Formed L t) (fit : Fit
   valid-aid = g .names .aid-valid n un
 
   pub read-out-parses : parse L (loadRecord L c) ≡ some (requestOf c)
-  unfolding loadRecord
   read-out-parses =
-      written-read L lo (requestOf c) (load-writable L lo c (
+      ap (parse L) (load-record L c) ∙ written-read L lo (requestOf c) (load-writable L lo c (
         valid-aid,
         (
           provides-length,

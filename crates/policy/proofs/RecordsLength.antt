@@ -2,7 +2,6 @@
 use Prim.Native.Nat.{ℕ, _+_, _*_, _^_, _≤_, _<_}
 use native.Mathlib.Omega.{arith}
 use native.Mathlib.Nat.{mul-le-mul-right}
-use mathlib.Core.Path.{_≡_, refl}
 use mathlib.Core.List.{List, _∷_, _++_}
 use lib.ListN.{length, length-append}
 use Rattle.policy.specs.Lists.{flat}
@@ -11,7 +10,7 @@ use Rattle.policy.specs.Layout.{Layout, LayoutOk}
 use Rattle.policy.specs.Record.{Request, Change, load, remove, addService, removeService, addCall, removeCall, addGrant, removeGrant, addNeed, removeNeed}
 use Rattle.policy.specs.Tables.{writeTok}
 use Rattle.policy.specs.Judge.{aidBytes, rowBytes, rowsBytes}
-use Rattle.policy.specs.Records.{kindOf, loadOf, requestOf, ValidAid, ValidRow, AtMost, changeBytes, bodyBytes, recordBytes, WithinChange, Within, Writable, longestLoad, longestService, longestRecord}
+use Rattle.policy.specs.Records.{kindOf, requestOf, ValidAid, ValidRow, AtMost, changeBytes, bodyBytes, recordBytes, WithinChange, Within, Writable, longestLoad, longestRecord}
 use Rattle.policy.proofs.Sets.{length-flat-le}
 use Rattle.policy.proofs.Pieces.{valid-short}
 use Rattle.policy.proofs.Bits.{length-number}

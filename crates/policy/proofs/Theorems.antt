@@ -22,7 +22,7 @@ use Rattle.policy.specs.Sound.{sound}
 use Rattle.policy.specs.Judge.{Out, refusal, judgeTables, judge, loadRecord}
 use Rattle.policy.specs.Records.{loadOf, requestOf}
 use Rattle.policy.specs.History.{SameContract, StandsFor, answers, imageAfter, machineAnswers, contractsAfter}
-use Rattle.policy.specs.Marked.{Case, cases}
+use Rattle.policy.specs.Marked.{Line, lineOf, linesFrom, cases}
 use Rattle.policy.specs.Claims.{MarkedCases, Agreement, History, FitsLimits, AcceptedExactly, IsFirst, FirstCause, SoundStands, ShortIsFull, ReadOutAgain}
 use Rattle.policy.proofs.Sets.{and-l, and-r, and-i, test, not-e, cond-true, cond-false, every-in, exists-in, in-map, each-one}
 use Rattle.policy.proofs.Answers.{ascends, answer-append-zero, first-is, ascends-front, none-of-four, four-none}
@@ -275,14 +275,22 @@ pub small-parts : aidsAt small ∷ tokensAt small ∷ providesAt small ∷ calls
     ≡ 4 ∷ 140 ∷ 268 ∷ 276 ∷ 340 ∷ 404 ∷ 468 ∷ 789 ∷ 1094 ∷ []
 small-parts = refl
 
--- ---- 1. the marked cases: computed on the machine, and carried to the engine's definition by the history theorem
-machine-marked : map (λ c. machineAnswers small [] (c .records)) cases ≡ map (λ c. c .answers) cases
-unfolding machineAnswers
-machine-marked = refl
+-- ---- 1. the marked cases: computed, but for soundness, which every image of a history has
+unfoldable linesOn : Layout → List ℕ → List (List ℕ) → List Line
+unfolding judge
+linesOn L img [] = []
+linesOn L img (s ∷ ss) = let o = judgeTables L img (decode L img) (parse L s) in lineOf s o ∷ linesOn L (o .bytes) ss
 
-same-answers : (l : List Case) → map (λ c. answers small (emptyImage small) (c .records)) l ≡ map (λ c. machineAnswers small [] (c .records)) l
-same-answers [] = refl
-same-answers (c ∷ l) = λ i. history small small-ok (c .records) .equal-answers i ∷ same-answers l i
+sound-lines : (L : Layout) → LayoutOk L → (ss : List (List ℕ)) (img : List ℕ) (cs : List Contract) → StandsFor L img cs → linesFrom L img ss ≡ linesOn L img ss
+unfolding linesFrom linesOn judge
+sound-lines L lo [] img cs f = refl
+sound-lines L lo (s ∷ ss) img cs f =
+    (λ i. lineOf s (judge L img s) ∷ sound-lines L lo ss (judge L img s .bytes) (machine L cs s .contracts) (step L lo img s cs f .1) i)
+    ∙ ap (λ (o : Out). lineOf s o ∷ linesOn L (o .bytes) ss) (cond-true (sound L img) (judgeTables L img (decode L img) (parse L s)) (refusal 1 255 img) (f .is-sound))
 
 pub marked : MarkedCases
-marked = (same-answers cases ∙ machine-marked, machine-marked)
+unfolding linesOn emptyImage machineAnswers
+marked = (
+  ap (λ (f : List (List ℕ) → List Line). map (λ c. f (c .records)) cases) (λ i ss. sound-lines small small-ok ss (emptyImage small) [] (empty-stands small small-ok) i),
+  refl,
+)

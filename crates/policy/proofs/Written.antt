@@ -5,24 +5,23 @@ use native.Mathlib.Nat.{div-add-mod', div-lt-iff-lt-mul, pow-suc, zero-lt-suc}
 use mathlib.Core.Path.{_≡_, refl, sym, ap, _∙_, subst}
 use mathlib.Core.List.{List, [], _∷_, _++_, append-assoc, append-nil}
 use mathlib.Core.List.{List·Memᴰ as In, List·Memᴰ·head as here, List·Memᴰ·tail as there}
-use mathlib.Core.Option.{some}
 use lib.Dec.{T, eqb, eqb-refl, leb, le→leb}
 use lib.ListN.{length, length-append}
 use lib.Seq.{take-append-seam, drop-append-seam}
 use Rattle.policy.specs.Lists.{flat}
-use Rattle.policy.specs.Contract.{Aid, Tok, Row, validAid}
+use Rattle.policy.specs.Contract.{Aid, Tok, Row, Contract, validAid}
 use Rattle.policy.specs.Layout.{Layout, LayoutOk}
-use Rattle.policy.specs.Record.{Request, Change, load, remove, addService, removeService, addCall, removeCall, addGrant, removeGrant, addNeed, removeNeed, Got, got, Reader, andThen, byte, bytes}
+use Rattle.policy.specs.Record.{Change, load, remove, addService, removeService, addCall, removeCall, addGrant, removeGrant, addNeed, removeNeed, Got, got, Reader, andThen, byte, bytes}
 use Rattle.policy.specs.Record.{numberFrom, number, aid, tokens, aRow, many, counted, rowList, aLoad, aService, change, fields, parse}
 use Rattle.policy.specs.Tables.{writeNumber, writeTok}
-use Rattle.policy.specs.Judge.{aidBytes, rowBytes, rowsBytes}
-use Rattle.policy.specs.Records.{kindOf, ValidRow, AtMost, changeBytes, bodyBytes, recordBytes, WithinChange, WrittenRead}
+use Rattle.policy.specs.Judge.{aidBytes, rowBytes, rowsBytes, loadRecord}
+use Rattle.policy.specs.Records.{kindOf, requestOf, ValidRow, AtMost, changeBytes, bodyBytes, recordBytes, WithinChange, WrittenRead}
 use Rattle.policy.proofs.Sets.{T-true}
 use Rattle.policy.proofs.Bits.{length-number}
 
 -- ---- numbers
 -- the last byte of a number apart
-number-last : (w n : ℕ) (s : List ℕ) → numberFrom (suc w) n s ≡ andThen (numberFrom w n s) (λ m u. andThen (byte u) (λ b. got (m * 256 + b)))
+pub number-last : (w n : ℕ) (s : List ℕ) → numberFrom (suc w) n s ≡ andThen (numberFrom w n s) (λ m u. andThen (byte u) (λ b. got (m * 256 + b)))
 unfolding byte
 number-last zero n s = refl
 number-last (suc w) n [] = refl
@@ -103,17 +102,17 @@ module _ (L : Layout) (lo : LayoutOk L) where
   change-written : (c : Change) (rest : List ℕ) → WithinChange L c → change L (kindOf c) (changeBytes L c ++ rest) ≡ got c rest
   unfolding change aLoad aService tokens byte
   change-written (load p c g n) rest v =
-      let toks : List ℕ = length p ∷ flat writeTok p in
-      let r1 = rowsBytes L c in
-      let r2 = rowsBytes L g in
-      let r3 = rowsBytes L n in
+      let cs = rowsBytes L c in
+      let gs = rowsBytes L g in
+      let ns = rowsBytes L n in
+      let after : List ℕ = cs ++ (gs ++ (ns ++ rest)) in
       rw (
-        append-assoc (flat writeTok p) (r1 ++ (r2 ++ r3)) rest,
-        append-assoc r1 (r2 ++ r3) rest,
-        append-assoc r2 r3 rest,
-        counted-written tokens writeTok 1 (L .services) (toks ++ (r1 ++ (r2 ++ (r3 ++ rest)))) p (r1 ++ (r2 ++ (r3 ++ rest))) (number-byte (length p) _) (v .0) (λ s m u. refl),
-        rows-written c (r2 ++ (r3 ++ rest)) (v .1),
-        rows-written g (r3 ++ rest) (v .2),
+        append-assoc (flat writeTok p) (cs ++ (gs ++ ns)) rest,
+        append-assoc cs (gs ++ ns) rest,
+        append-assoc gs ns rest,
+        counted-written tokens writeTok 1 (L .services) (length p ∷ flat writeTok p ++ after) p after (number-byte (length p) _) (v .0) (λ s m u. refl),
+        rows-written c (gs ++ (ns ++ rest)) (v .1),
+        rows-written g (ns ++ rest) (v .2),
         rows-written n rest (v .3),
       )
   change-written remove rest v = refl
@@ -140,3 +139,8 @@ module _ (L : Layout) (lo : LayoutOk L) where
       let last : change L (kindOf (q .change)) (changeBytes L (q .change)) ≡ got (q .change) [] =
       ap (change L (kindOf (q .change))) (sym (append-nil (changeBytes L (q .change)))) ∙ change-written (q .change) [] (v .0 .1) in
       rw (e, two, T-true (eqb n n) (eqb-refl n), T-true (eqb (L .version) (L .version)) (eqb-refl (L .version)), aid-written (q .aid) (changeBytes L (q .change)) (v .0 .0), last)
+
+-- reading out writes a load so
+pub load-record : (L : Layout) (c : Contract) → loadRecord L c ≡ recordBytes L (requestOf c)
+unfolding loadRecord
+load-record L c = refl

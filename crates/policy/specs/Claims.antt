@@ -21,13 +21,13 @@ use Rattle.policy.specs.Draft.{look, draft}
 use Rattle.policy.specs.ShortCheck.{shortLook}
 use Rattle.policy.specs.Judge.{Out, refusal, tableCauses, judge, check, writeEmpty, loadRecord, readOut}
 use Rattle.policy.specs.History.{SameContract, StandsFor, answers, imageAfter, machineAnswers, contractsAfter}
-use Rattle.policy.specs.Marked.{cases}
+use Rattle.policy.specs.Marked.{linesFrom, cases}
 
--- ---- 1. the marked cases, on the engine's definition and on the machine
+-- ---- 1. the marked cases: whole lines on the engine's definition, and answers on the machine
 abbrev pub MarkedCases : Type 0
 MarkedCases =
-    (map (λ c. answers small (emptyImage small) (c .records)) cases ≡ map (λ c. c .answers) cases)
-    × (map (λ c. machineAnswers small [] (c .records)) cases ≡ map (λ c. c .answers) cases)
+    (map (λ c. linesFrom small (emptyImage small) (c .records)) cases ≡ map (λ c. c .lines) cases)
+    × (map (λ c. machineAnswers small [] (c .records)) cases ≡ map (λ c. map (λ l. l .answer) (c .lines)) cases)
 
 -- ---- 2. one record: equal answers, and the image after it stands for the machine's contracts after it
 abbrev pub Agreement : Layout → Type 0

@@ -1,13 +1,49 @@
 -- The marked cases of document 01, 'At the edges', in one table.
 use Prim.Native.Nat.{ℕ, _+_, _/_, _%_}
+use mathlib.Core.Bool.{true, cond}
 use mathlib.Core.List.{List, [], _∷_, _++_, map}
-use lib.ListN.{length, replicate}
-use Rattle.policy.specs.Lists.{flat, from}
+use mathlib.Core.Option.{Option, none, some}
+use lib.Dec.{eqb}
+use lib.ListN.{length, drop}
+use Rattle.policy.specs.Lists.{first, flat, from, upto}
+use Rattle.policy.specs.Layout.{Layout}
+use Rattle.policy.specs.Judge.{Out, judge}
 
--- a history from the empty card, and its answers
+-- ---- lines, as the session prints them after the ordinal: 'kind (the fourth byte, known or not), answer, package number or `-` on a refusal'
+pub record Line : Type 0 where
+  pub kind : Option ℕ
+  pub answer : ℕ
+  pub number : Option ℕ
+
+-- the line of a record and of its verdict
+abbrev pub lineOf : List ℕ → Out → Line
+lineOf s o = record {
+  kind = first (λ b. true) (drop 3 s);
+  answer = o .answered;
+  number = cond (eqb (o .answered) 0) (some (o .second)) none;
+}
+
+-- those of a list of records, each of which finds the image as the last one left it
+unfoldable pub linesFrom : Layout → List ℕ → List (List ℕ) → List Line
+unfolding judge
+linesFrom L img [] = []
+linesFrom L img (s ∷ ss) = let o = judge L img s in lineOf s o ∷ linesFrom L (o .bytes) ss
+
+-- a record of kind k accepted for package number n, or refused with answer a; and one too short to have a kind
+abbrev pub taken : ℕ → ℕ → Line
+taken k n = record { kind = some k; answer = 0; number = some n }
+
+abbrev pub refused : ℕ → ℕ → Line
+refused k a = record { kind = some k; answer = a; number = none }
+
+abbrev pub refusedShort : ℕ → Line
+refusedShort a = record { kind = none; answer = a; number = none }
+
+-- ---- cases
+-- a history from the empty card, and its lines
 pub record Case : Type 0 where
   pub records : List (List ℕ)
-  pub answers : List ℕ
+  pub lines : List Line
 
 -- the AID F0 00 00 00 n, as a record writes it; H is 1, C is 2, B is 3
 abbrev pub aidOf : ℕ → List ℕ
@@ -54,28 +90,28 @@ removeH = 0x00 ∷ 0x0A ∷ 0x01 ∷ 0x02 ∷ 0x05 ∷ 0xF0 ∷ 0x00 ∷ 0x00 �
 
 abbrev pub cases : List Case
 cases =
-    -- the four lines of the session
-    record { records = loadH ∷ loadB ∷ loadC ∷ removeH ∷ []; answers = 0 ∷ 8 ∷ 0 ∷ 9 ∷ [] }
+    -- the four lines of the session: '1 1 0 0', '2 1 8 -', '3 1 0 1', '4 2 9 -'
+    record { records = loadH ∷ loadB ∷ loadC ∷ removeH ∷ []; lines = taken 1 0 ∷ refused 1 8 ∷ taken 1 1 ∷ refused 2 9 ∷ [] }
     -- a record of no bytes
-    ∷ record { records = [] ∷ []; answers = 2 ∷ [] }
+    ∷ record { records = [] ∷ []; lines = refusedShort 2 ∷ [] }
     -- removal on the empty image
-    ∷ record { records = removalOf 1 ∷ []; answers = 5 ∷ [] }
+    ∷ record { records = removalOf 1 ∷ []; lines = refused 2 5 ∷ [] }
     -- an AID of 4 or 17 bytes is malformed; of 5 or 16 it is read, and not installed
     ∷ record {
       records = recordOf 2 (4 ∷ from 1 4) ∷ recordOf 2 (17 ∷ from 1 17) ∷ recordOf 2 (5 ∷ from 1 5) ∷ recordOf 2 (16 ∷ from 1 16) ∷ [];
-      answers = 2 ∷ 2 ∷ 5 ∷ 5 ∷ [];
+      lines = refused 2 2 ∷ refused 2 2 ∷ refused 2 5 ∷ refused 2 5 ∷ [];
     }
     -- the ninth package
-    ∷ record { records = map (λ n. loadOf n [] [] [] []) (from 1 9); answers = replicate 8 0 ++ (7 ∷ []) }
+    ∷ record { records = map (λ n. loadOf n [] [] [] []) (from 1 9); lines = map (taken 1) (upto 8) ++ (refused 1 7 ∷ []) }
     -- a 17th unmet call
-    ∷ record { records = loadOf 1 [] (callsOn9 16) [] [] ∷ callOf 1 9 17 ∷ []; answers = 0 ∷ 10 ∷ [] }
+    ∷ record { records = loadOf 1 [] (callsOn9 16) [] [] ∷ callOf 1 9 17 ∷ []; lines = taken 1 0 ∷ refused 5 10 ∷ [] }
     -- with 16 standing, a granted load that meets one and adds one
-    ∷ record { records = loadOf 1 [] (callsOn9 16) [] [] ∷ loadOf 9 (1 ∷ []) (rowOf 10 20 ∷ []) (rowOf 1 1 ∷ []) [] ∷ []; answers = 0 ∷ 0 ∷ [] }
+    ∷ record { records = loadOf 1 [] (callsOn9 16) [] [] ∷ loadOf 9 (1 ∷ []) (rowOf 10 20 ∷ []) (rowOf 1 1 ∷ []) [] ∷ []; lines = taken 1 0 ∷ taken 1 1 ∷ [] }
     -- removing a server whose callers' calls would make 17 unmet
     ∷ record {
       records = loadH ∷ loadOf 2 [] (rowOf 1 0 ∷ []) [] [] ∷ loadOf 3 [] (callsOn9 16) [] [] ∷ removalOf 1 ∷ [];
-      answers = 0 ∷ 0 ∷ 0 ∷ 10 ∷ [];
+      lines = taken 1 0 ∷ taken 1 1 ∷ taken 1 2 ∷ refused 2 10 ∷ [];
     }
     -- a load failing on grant and on need
-    ∷ record { records = loadH ∷ loadOf 4 [] (rowOf 1 0 ∷ rowOf 9 0 ∷ []) [] (rowOf 9 0 ∷ []) ∷ []; answers = 0 ∷ 8 ∷ [] }
+    ∷ record { records = loadH ∷ loadOf 4 [] (rowOf 1 0 ∷ rowOf 9 0 ∷ []) [] (rowOf 9 0 ∷ []) ∷ []; lines = taken 1 0 ∷ refused 1 8 ∷ [] }
     ∷ []

@@ -1,0 +1,67 @@
+-- The longest record, for every layout that is ok; and records of the card of 1,094 bytes.
+use Prim.Native.Nat.{ℕ, _≤_, _<_}
+use native.Mathlib.Omega.{arith}
+use mathlib.Core.Path.{_≡_, refl}
+use mathlib.Core.Bool.{_&&_}
+use mathlib.Core.List.{List}
+use mathlib.Core.Option.{Option, none, some}
+use lib.Dec.{leb, ltb, lit≤}
+use lib.ListN.{length}
+use Rattle.policy.specs.Contract.{Contract}
+use Rattle.policy.specs.Layout.{Layout, LayoutOk, small}
+use Rattle.policy.specs.Record.{Request, parse}
+use Rattle.policy.specs.Tables.{decode}
+use Rattle.policy.specs.Lookup.{contractAt}
+use Rattle.policy.specs.Sound.{sound}
+use Rattle.policy.specs.Judge.{Out, loadRecord, readOut}
+use Rattle.policy.specs.Records.{requestOf, recordBytes, Within, longestRecord, LongestRecord}
+use Rattle.policy.proofs.Sets.{and-r}
+use Rattle.policy.proofs.ParseFacts.{parsed-within, parsed-length}
+use Rattle.policy.proofs.Written.{written-read}
+use Rattle.policy.proofs.RecordsLength.{record-length, within-writable}
+use Rattle.policy.proofs.Theorems.{read-out-again, small-ok}
+use Rattle.policy.proofs.Entries.{by-test}
+
+module _ (L : Layout) (lo : LayoutOk L) where
+  parsed-short : (s : List ℕ) (q : Request) → parse L s ≡ some q → length s ≤ longestRecord L
+  parsed-short s q e = let a = parsed-length L s q e in let b = record-length L q (parsed-within L s q e) in omega arith
+
+  too-long : (s : List ℕ) → longestRecord L < length s → parse L s ≡ none
+  too-long s h = go (parse L s) refl
+    where
+      go : (o : Option Request) → parse L s ≡ o → o ≡ none
+      go none e = refl
+      go (some q) e = let a = parsed-short s q e in absurd (omega arith)
+
+  -- what is written is no longer; a refusal is no acceptance
+  abbrev Short : Out → Type 0
+  Short o = o .answered ≡ 0 → o .second ≤ longestRecord L
+
+  read-out-short : (img : List ℕ) (n : ℕ) (out : List ℕ) → Short (readOut L img n out)
+  unfolding readOut
+  read-out-short img n out =
+      by-test Short _ _ (sound L img)
+      (λ ok. by-test Short _ _ (ltb n (L .packages) && decode L img .used n)
+      (λ un. by-test Short _ _ (leb (length r) (length out))
+      (λ _ _. parsed-short r (requestOf c) (read-out-again L lo img n ok (and-r (ltb n (L .packages)) (decode L img .used n) un) .parses c refl))
+      (λ _ e. absurd (omega arith)))
+      (λ _ e. absurd (omega arith)))
+      (λ _ e. absurd (omega arith))
+    where
+      c : Contract
+      c = contractAt L (decode L img) n
+
+      r : List ℕ
+      r = loadRecord L c
+
+  pub longest-record : LongestRecord L
+  longest-record = (too-long, read-out-short)
+
+-- ---- the card of 1,094 bytes
+-- 'The longest record has 4,145 bytes.'
+pub small-longest : longestRecord small ≡ 4145
+small-longest = refl
+
+-- two bytes hold the length of every record within its limits
+pub small-written-read : (q : Request) → Within small q → parse small (recordBytes small q) ≡ some q
+small-written-read q v = written-read small small-ok q (within-writable small (lit≤ tt) q v)
