@@ -75,18 +75,21 @@ abbrev Took : {A : Type 0} → (A → Type 0) → (A → List ℕ) → List ℕ 
 Took P f s a u = P a × Starts s (f a) u
 
 -- ---- numbers
--- m of w bytes, read from s
 abbrev Counts : (ℕ → List ℕ) → List ℕ → ℕ → List ℕ → Type 0
 Counts f s n u = Starts s (f n) u
 
-reads-from : (w n : ℕ) (s : List ℕ) → Reads (Counts (λ m. writeNumber w m []) s) (numberFrom w n s)
+-- n in w bytes
+abbrev wide : ℕ → ℕ → List ℕ
+wide w n = writeNumber w n []
+
+reads-from : (w n : ℕ) (s : List ℕ) → Reads (Counts (wide w) s) (numberFrom w n s)
 unfolding byte
 reads-from zero n s = starts [] s refl
 reads-from (suc w) n s =
-    subst (Reads (Counts (λ m. writeNumber (suc w) m []) s)) (sym (number-last w n s))
-    (reads-then (Counts (λ m. writeNumber w m []) s) (Counts (λ m. writeNumber (suc w) m []) s) (numberFrom w n s) _ (reads-from w n s) last)
+    subst (Reads (Counts (wide (suc w)) s)) (sym (number-last w n s))
+    (reads-then (Counts (wide w) s) (Counts (wide (suc w)) s) (numberFrom w n s) _ (reads-from w n s) last)
   where
-    last : (m : ℕ) (u : List ℕ) → Counts (λ m. writeNumber w m []) s m u → Reads (Counts (λ m. writeNumber (suc w) m []) s) (andThen (byte u) (λ b. got (m * 256 + b)))
+    last : (m : ℕ) (u : List ℕ) → Counts (wide w) s m u → Reads (Counts (wide (suc w)) s) (andThen (byte u) (λ b. got (m * 256 + b)))
     last m [] h = tt
     last m (b ∷ u) h = record {
       size = let a = h .size in let e = length-number w m [] in let f = length-number (suc w) (m * 256 + b) [] in omega arith;
@@ -97,7 +100,7 @@ reads-from (suc w) n s =
           h .same l ∙ number-append w m [] (b ∷ u) ∙ (λ i. writeNumber w (q i) (r i ∷ u)) ∙ sym (number-append (suc w) (m * 256 + b) [] u);
     }
 
-reads-number : (w : ℕ) (s : List ℕ) → Reads (Counts (λ n. writeNumber w n []) s) (number w s)
+reads-number : (w : ℕ) (s : List ℕ) → Reads (Counts (wide w) s) (number w s)
 unfolding number
 reads-number w s = reads-from w 0 s
 
@@ -180,13 +183,13 @@ module _ (L : Layout) where
   abbrev ReadsChange : ℕ → Reader Change → Type 0
   ReadsChange k p = (s : List ℕ) → Reads (Changes k s) (p s)
 
-  reads-rows : (s : List ℕ) → Reads (Took (AtMost (L .mostRows) ValidRow) (rowsBytes L) s) (rowList L s)
-  reads-rows s =
-      subst (λ (f : List Row → List ℕ). Reads (Took (AtMost (L .mostRows) ValidRow) f s) (rowList L s)) (λ i l. number-append (L .countWidth) (length l) [] (flat rowBytes l) i)
-      (reads-counted ValidRow rowBytes aRow reads-row (L .countWidth) (L .mostRows) (λ n. writeNumber (L .countWidth) n []) (reads-number (L .countWidth)) s)
-
   abbrev Rows : List ℕ → List Row → List ℕ → Type 0
   Rows = Took (AtMost (L .mostRows) ValidRow) (rowsBytes L)
+
+  reads-rows : (s : List ℕ) → Reads (Rows s) (rowList L s)
+  reads-rows s =
+      subst (λ (f : List Row → List ℕ). Reads (Took (AtMost (L .mostRows) ValidRow) f s) (rowList L s)) (λ i l. number-append (L .countWidth) (length l) [] (flat rowBytes l) i)
+      (reads-counted ValidRow rowBytes aRow reads-row (L .countWidth) (L .mostRows) (wide (L .countWidth)) (reads-number (L .countWidth)) s)
 
   reads-load : ReadsChange 1 (aLoad L)
   unfolding aLoad
@@ -266,7 +269,7 @@ module _ (L : Layout) where
       record {
         first = sym (take-append-seam a t) ∙ ap (λ (z : List ℕ). take (length a) (drop 1 z)) (sym (ha .0 .1));
         within = (ha .0 .0, hc .1 .0);
-        written = starts-then (subst (λ (z : ℕ). Starts all (writeNumber 2 z []) (v ∷ k ∷ s)) eq (reads-number 2 all)) (starts-then head (hc .1 .1));
+        written = starts-then (subst (λ (z : ℕ). Starts all (wide 2 z) (v ∷ k ∷ s)) eq (reads-number 2 all)) (starts-then head (hc .1 .1));
         two-bytes = λ b. let p = b h (here refl) in let q = b x (there (here refl)) in omega arith;
       }))
     where

@@ -1,21 +1,22 @@
 -- The longest record, for every layout that is ok; and records of the card of 1,094 bytes.
-use Prim.Native.Nat.{ℕ, _≤_, _<_}
+use Prim.Native.Nat.{ℕ, zero, suc, _≤_, _<_}
 use native.Mathlib.Omega.{arith}
 use mathlib.Core.Path.{_≡_, refl}
 use mathlib.Core.Bool.{_&&_}
 use mathlib.Core.List.{List}
+use mathlib.Core.List.{List·Memᴰ as In, List·Memᴰ·not-nil as in-nil}
 use mathlib.Core.Option.{Option, none, some}
 use lib.Dec.{leb, ltb, lit≤}
-use lib.ListN.{length}
-use Rattle.policy.specs.Contract.{Contract}
+use lib.ListN.{length, replicate}
+use Rattle.policy.specs.Contract.{Aid, Row, Contract}
 use Rattle.policy.specs.Layout.{Layout, LayoutOk, small}
-use Rattle.policy.specs.Record.{Request, parse}
-use Rattle.policy.specs.Tables.{decode}
+use Rattle.policy.specs.Record.{Request, load, parse}
+use Rattle.policy.specs.Tables.{noTok, decode}
 use Rattle.policy.specs.Lookup.{contractAt}
 use Rattle.policy.specs.Sound.{sound}
 use Rattle.policy.specs.Judge.{Out, loadRecord, readOut}
-use Rattle.policy.specs.Records.{requestOf, recordBytes, Within, longestRecord, LongestRecord}
-use Rattle.policy.proofs.Sets.{and-r}
+use Rattle.policy.specs.Records.{requestOf, ValidRow, AtMost, recordBytes, Within, longestRecord, LongestRecord}
+use Rattle.policy.proofs.Sets.{and-r, each-cons}
 use Rattle.policy.proofs.ParseFacts.{parsed-within, parsed-length}
 use Rattle.policy.proofs.Written.{written-read}
 use Rattle.policy.proofs.RecordsLength.{record-length, within-writable}
@@ -65,3 +66,17 @@ small-longest = refl
 -- two bytes hold the length of every record within its limits
 pub small-written-read : (q : Request) → Within small q → parse small (recordBytes small q) ≡ some q
 small-written-read q v = written-read small small-ok q (within-writable small (lit≤ tt) q v)
+
+-- and a load of as many bytes is read: every list at its limit, every AID of 16 bytes
+each-same : {A : Type 0} (P : A → Type 0) (n : ℕ) (x : A) → P x → (y : A) → In y (replicate n x) → P y
+each-same P zero x h = λ y m. absurd (in-nil m)
+each-same P (suc n) x h = each-cons P x (replicate n x) h (each-same P n x h)
+
+pub small-longest-read : (q : Request) × (length (recordBytes small q) ≡ longestRecord small) × (parse small (recordBytes small q) ≡ some q)
+small-longest-read =
+    let a : Aid = replicate 16 0 in
+    let r : Row = record { aid = a; tok = noTok } in
+    let rows = replicate 72 r in
+    let within : AtMost 72 ValidRow rows = (lit≤ tt, each-same ValidRow 72 r tt) in
+    let q : Request = record { aid = a; change = load (replicate 8 noTok) rows rows rows } in
+    (q, refl, small-written-read q (tt, (lit≤ tt, within, within, within)))
