@@ -44,13 +44,13 @@ ValidRow r = ValidAid (r .aid)
 abbrev pub AtMost : {A : Type 0} → ℕ → (A → Type 0) → List A → Type 0
 AtMost {A} most P l = (length l ≤ most) × ((x : A) → In x l → P x)
 
--- bytes
+-- each is a byte
 abbrev pub Bytes : List ℕ → Type 0
 Bytes s = (b : ℕ) → In b s → b < 256
 
 module _ (L : Layout) where
   -- ---- writing
-  -- what follows the first AID. 'A list is a count byte and its rows'
+  -- what follows the first AID: document 01's table. 'An AID is written as a length byte and its bytes. A list is a count byte and its rows.'
   abbrev pub changeBytes : Change → List ℕ
   changeBytes (load p c g n) = (length p ∷ flat writeTok p) ++ (rowsBytes L c ++ (rowsBytes L g ++ rowsBytes L n))
   changeBytes remove = []
@@ -66,7 +66,7 @@ module _ (L : Layout) where
   abbrev pub bodyBytes : Request → List ℕ
   bodyBytes q = aidBytes (q .aid) ++ changeBytes (q .change)
 
-  -- 'A record starts with its whole length in two bytes, big-endian, then the version byte 01, then a kind byte'
+  -- 'A record starts with its whole length in two bytes, big-endian, then the version byte 01, then a kind byte.'
   abbrev pub recordBytes : Request → List ℕ
   recordBytes q = writeNumber 2 (4 + length (bodyBytes q)) (L .version ∷ kindOf (q .change) ∷ bodyBytes q)
 
