@@ -1,2 +1,3 @@
 pub mod Packs
-pub mod Results
+pub mod Tells
+pub mod Demands

@@ -13,10 +13,11 @@ use Rattle.policy.specs.Judge.{Out}
 use Rattle.policy.specs.Settled.{Gives}
 use Rattle.policy.proofs.Sets.{and-r}
 use Rattle.policy.proofs.ParseFacts.{first-aid-part}
-use Rattle.card.specs.Packed.{joined, packed, aidPlace}
+use Rattle.card.specs.Packed.{joined, aidPlace}
+use Rattle.card.specs.Calls.{Returned}
 
-pub packs : {o : Out} {number second r : ℕ} {bytes : List ℕ} → Gives o number second bytes → r ≡ joined number second → (r ≡ packed o) × (bytes ≡ o .bytes)
-packs g e = (e ∙ (λ i. joined (sym (g .answered) i) (sym (g .second-is) i)), sym (g .bytes-are))
+pub packs : {o : Out} {number second r : ℕ} {left : List ℕ} → Gives o number second left → r ≡ joined number second → Returned o r left
+packs g e = record { result = e ∙ (λ i. joined (sym (g .answered) i) (sym (g .second-is) i)); left-is = sym (g .bytes-are) }
 
 -- ---- the place of an AID
 pub placed : (a : Aid) → (length a ≡ 0 → ⊥) → aidPlace a ≡ joined 5 (length a)

@@ -1,2 +1,3 @@
 pub mod Packed
-pub mod Results
+pub mod Calls
+pub mod Demands

@@ -1,5 +1,5 @@
 -- An answer and its second number in the one number that a C function returns.
-use Prim.Native.Nat.{ℕ, _+_, _*_}
+use Prim.Native.Nat.{ℕ, _+_, _*_, _/_, _%_}
 use mathlib.Core.List.{[], _∷_}
 use lib.ListN.{length}
 use Rattle.policy.specs.Contract.{Aid}
@@ -15,3 +15,10 @@ packed o = joined (o .answered) (o .second)
 abbrev pub aidPlace : Aid → ℕ
 aidPlace [] = 0
 aidPlace (b ∷ l) = joined 5 (length (b ∷ l))
+
+-- the two numbers that a host reads from a result
+abbrev pub answerOf : ℕ → ℕ
+answerOf r = r / 65536
+
+abbrev pub secondOf : ℕ → ℕ
+secondOf r = r % 65536

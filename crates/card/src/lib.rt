@@ -1,9 +1,7 @@
 // The engine's C functions, on the card of 1,094 bytes. Each takes any bytes of any length: none asks anything of its caller.
 ghost use mathlib.Core.Path.{_≡_};
-ghost use Rattle.policy.specs.Layout.{small};
-ghost use Rattle.policy.specs.Record.{firstAid};
-ghost use Rattle.policy.specs.Judge.{judge, check, writeEmpty, readOut};
-ghost use Rattle.card.specs.Packed.{joined, packed, aidPlace};
+ghost use Rattle.card.specs.Packed.{joined};
+ghost use Rattle.card.specs.Calls.{Checked, Emptied, Judged, ReadInto, AidFound};
 use geometry::Card;
 
 // An answer and its second number in one number.
@@ -16,7 +14,7 @@ fn join(number: u8, second: u16) -> u32
 // Checks an image.
 #[no_mangle]
 pub extern "C" fn card_check(image: &[u8]) -> u32
-    ensures { λ r. ⌜ r ≡ packed (check small (now (image .entry))) ⌝ }
+    ensures { λ r. ⌜ Checked (now (image .entry)) r ⌝ }
 {
     let checked = engine::checking::check_image(image, Card::Small);
     join(checked.number, checked.second as u16)
@@ -25,8 +23,7 @@ pub extern "C" fn card_check(image: &[u8]) -> u32
 // Writes the empty image.
 #[no_mangle]
 pub extern "C" fn card_empty(image: &mut [u8]) -> u32
-    ensures { λ r. ⌜ r ≡ packed (writeEmpty small (now (image .entry))) ⌝ }
-    ensures { λ _. ⌜ now (image .exit) ≡ writeEmpty small (now (image .entry)) .bytes ⌝ }
+    ensures { λ r. ⌜ Emptied (now (image .entry)) r (now (image .exit)) ⌝ }
 {
     let emptied = engine::empty::write_empty(image, Card::Small);
     join(emptied.number, emptied.second as u16)
@@ -35,8 +32,7 @@ pub extern "C" fn card_empty(image: &mut [u8]) -> u32
 // Judges a record on an image, and changes the image where it is accepted.
 #[no_mangle]
 pub extern "C" fn card_judge(image: &mut [u8], rec: &[u8]) -> u32
-    ensures { λ r. ⌜ r ≡ packed (judge small (now (image .entry)) (now (rec .entry))) ⌝ }
-    ensures { λ _. ⌜ now (image .exit) ≡ judge small (now (image .entry)) (now (rec .entry)) .bytes ⌝ }
+    ensures { λ r. ⌜ Judged (now (image .entry)) (now (rec .entry)) r (now (image .exit)) ⌝ }
 {
     let judged = judging::judge(image, Card::Small, rec);
     join(judged.number, judged.second as u16)
@@ -45,8 +41,7 @@ pub extern "C" fn card_judge(image: &mut [u8], rec: &[u8]) -> u32
 // Reads out the contract of a package number as a load.
 #[no_mangle]
 pub extern "C" fn card_read_out(image: &[u8], number: u32, out: &mut [u8]) -> u32
-    ensures { λ r. ⌜ r ≡ packed (readOut small (now (image .entry)) number (now (out .entry))) ⌝ }
-    ensures { λ _. ⌜ now (out .exit) ≡ readOut small (now (image .entry)) number (now (out .entry)) .bytes ⌝ }
+    ensures { λ r. ⌜ ReadInto (now (image .entry)) number (now (out .entry)) r (now (out .exit)) ⌝ }
 {
     let read = readout::read_out(image, Card::Small, number as usize, out);
     join(read.number, read.second)
@@ -55,7 +50,7 @@ pub extern "C" fn card_read_out(image: &[u8], number: u32, out: &mut [u8]) -> u3
 // Where the first AID of a record stands, and its length; 0 for a malformed record.
 #[no_mangle]
 pub extern "C" fn card_aid(rec: &[u8]) -> u32
-    ensures { λ r. ⌜ r ≡ aidPlace (firstAid small (now (rec .entry))) ⌝ }
+    ensures { λ r. ⌜ AidFound (now (rec .entry)) r ⌝ }
 {
     let aid = record::aid_part(rec, Card::Small);
     let n = aid.len();

@@ -1,0 +1,136 @@
+-- The statements of specs/Demands.antt. Assumes nothing.
+use Prim.Native.Nat.{ℕ}
+use native.Mathlib.Omega.{arith}
+use mathlib.Core.Path.{_≡_, refl, sym, ap, _∙_, subst}
+use mathlib.Core.Logic.{_⊎_, inl, inr, ⊎-map}
+use mathlib.Core.Bool.{not}
+use mathlib.Core.List.{List, [], _∷_, map}
+use mathlib.Core.List.{List·Memᴰ as In}
+use lib.Dec.{T, eqb, leb, leb→le, ltb}
+use lib.ListN.{length, take, drop}
+use lib.Seq.{take-append-seam}
+use Rattle.policy.specs.Lists.{every}
+use Rattle.policy.specs.Contract.{Aid, Contract, validAid}
+use Rattle.policy.specs.Layout.{small}
+use Rattle.policy.specs.Tables.{decode, emptyImage}
+use Rattle.policy.specs.Judge.{Out, loadRecord}
+use Rattle.policy.specs.Lookup.{contractAt}
+use Rattle.policy.specs.Sound.{sound}
+use Rattle.policy.specs.History.{SameContract, answers, imageAfter, StandsFor, contractsAfter}
+use Rattle.policy.specs.Claims.{RefusesWith, IsFirst, allCauses}
+use Rattle.policy.proofs.Sets.{and-l, and-r, every-in}
+use Rattle.policy.proofs.ParseFacts.{first-aid-part}
+use Rattle.policy.proofs.Entries.{answers-always}
+use Rattle.policy.proofs.Theorems.{history, first-cause, accepted-exactly, sound-stands, read-out-again, small-ok}
+use Rattle.card.specs.Packed.{answerOf, secondOf, aidPlace}
+use Rattle.card.specs.Calls.{Returned, Calls}
+use Rattle.card.specs.Demands.{Refused, CallsAnswer, CallsVerdict, LoadOf, CallsReadOut, CallsHistory, CallsAid}
+use Rattle.card.proofs.Packs.{placed, aid-short}
+use Rattle.card.proofs.Tells.{Tells, checked-tells, emptied-tells, judged-tells, read-tells, wrote}
+
+-- ---- demand 1
+refused : {o : Out} {r : ℕ} {left : List ℕ} → Returned o r left → Tells o r → {ns : List ℕ} {second : ℕ} {lent : List ℕ} → RefusesWith ns second lent o → Refused ns second lent r left
+refused c t {ns} (n, m, e) =
+    record {
+      answer-is = subst (λ (k : ℕ). In k ns) (sym (t .answer ∙ ap (λ (z : Out). z .answered) e)) m;
+      second-is = t .second ∙ ap (λ (z : Out). z .second) e;
+      left-is = c .left-is ∙ ap (λ (z : Out). z .bytes) e;
+    }
+
+pub calls-answer : CallsAnswer
+calls-answer =
+    record {
+      checking = λ image r c. let t = checked-tells image c in ⊎-map (λ h. (t .answer ∙ h .0, rw (t .second) (h .1))) (refused c t) (answers-always small .checking image);
+      emptying = λ lent r left c. let t = emptied-tells lent c in
+          ⊎-map (λ h. (t .answer ∙ ap (λ (z : Out). z .answered) (h .0), t .second ∙ ap (λ (z : Out). z .second) (h .0), c .left-is ∙ ap (λ (z : Out). z .bytes) (h .0), h .1))
+          (refused c t) (answers-always small .emptying lent);
+      judging = λ image rec r left c. let t = judged-tells image rec c in ⊎-map (λ h. (t .answer ∙ h .0, rw (t .second) (h .1))) (refused c t) (answers-always small .judging image rec);
+      reading = λ image n lent r left c. let t = read-tells image n lent c in
+          ⊎-map (λ h. (t .answer ∙ h .0, rw (c .left-is) (h .1), rw (t .second, c .left-is) (h .2))) (refused c t) (answers-always small .reading image n lent);
+    }
+
+-- ---- demand 2
+pub calls-verdict : CallsVerdict
+calls-verdict image rec r left c =
+    let t = judged-tells image rec c in
+    let f = first-cause small small-ok image rec in
+    record {
+      unsound = λ h. t .answer ∙ ap (λ (z : Out). z .answered) (f .0 h);
+      first-cause = λ cs s. subst (λ (n : ℕ). IsFirst n (allCauses small cs rec)) (sym (t .answer)) (f .1 cs s);
+      accepted-exactly = λ cs q s e p free.
+          let a = accepted-exactly small small-ok image rec cs q s e p free in
+          (λ z. a .0 (sym (t .answer) ∙ z), λ h. t .answer ∙ a .1 h);
+      sound-stands = sound-stands small small-ok image;
+    }
+
+-- a call that is not refused
+accepted : {A : Type 0} (ns : List ℕ) {second : ℕ} {lent : List ℕ} {r : ℕ} {left : List ℕ} → T (every (λ k. not (eqb k 0)) ns) → answerOf r ≡ 0 → A ⊎ Refused ns second lent r left → A
+accepted ns t z (inl a) = a
+accepted ns t z (inr h) = absurd (every-in (λ k. not (eqb k 0)) ns t (subst (λ (k : ℕ). In k ns) z (h .answer-is)))
+
+-- reading out
+module _ (image : List ℕ) (n : ℕ) (ok : T (sound small image)) (un : T (decode small image .used n)) where
+  abbrev c : Contract
+  c = contractAt small (decode small image) n
+
+  load-of : LoadOf c (loadRecord small c)
+  load-of =
+      let h = read-out-again small small-ok image n ok un in
+      record {
+        parses = h .parses c refl;
+        is-proper = h .is-proper c refl;
+        loads-again = λ image₂ r left j z. subst (λ (b : List ℕ). (m : ℕ) × T (decode small b .used m) × SameContract c (contractAt small (decode small b) m)) (sym (j .left-is))
+            (h .loads-again c refl image₂ (sym (judged-tells image₂ (loadRecord small c) j .answer) ∙ z));
+      }
+
+pub calls-read-out : CallsReadOut
+calls-read-out image n lent r left c z =
+    let t = read-tells image n lent c in
+    let w = accepted (1 ∷ 5 ∷ 12 ∷ []) tt z (⊎-map (λ h. h) (refused c t) (wrote image n lent)) in
+    let un = and-r (ltb n 8) (decode small image .used n) (w .1) in
+    let k = contractAt small (decode small image) n in
+    let is : take (secondOf r) left ≡ loadRecord small k
+    = (λ i. take ((t .second ∙ ap (λ (o : Out). o .second) (w .2)) i) ((c .left-is ∙ ap (λ (o : Out). o .bytes) (w .2)) i)) ∙ take-append-seam (loadRecord small k) _ in
+    (w .0, un, subst (λ (s : List ℕ). LoadOf k s) (sym is) (load-of image n (w .0) un))
+
+-- ---- demand 3
+-- calls one after another answer and leave what a history of records does
+calls-answers : (ss : List (List ℕ)) (rs image : List ℕ) {left : List ℕ} → Calls image ss rs left → (map answerOf rs ≡ answers small image ss) × (left ≡ imageAfter small image ss)
+unfolding answers imageAfter
+calls-answers [] [] image e = (refl, e)
+calls-answers [] (r ∷ rs) image e = absurd e
+calls-answers (s ∷ ss) [] image e = absurd e
+calls-answers (s ∷ ss) (r ∷ rs) image (mid, c, h) =
+    let k = calls-answers ss rs mid h in (
+      (λ i. judged-tells image s c .answer i ∷ (k .0 ∙ ap (λ (z : List ℕ). answers small z ss) (c .left-is)) i),
+      k .1 ∙ ap (λ (z : List ℕ). imageAfter small z ss) (c .left-is),
+    )
+
+pub calls-history : CallsHistory
+calls-history lent r image c z ss rs left h =
+    let e = accepted (1 ∷ []) tt z (calls-answer .emptying lent r image c) .2 in
+    let k = calls-answers ss rs (emptyImage small) (subst (λ (b : List ℕ). Calls b ss rs left) e h) in
+    let d = history small small-ok ss in
+    record {
+      equal-answers = k .0 ∙ d .equal-answers;
+      stands-for = subst (λ (b : List ℕ). StandsFor small b (contractsAfter small [] ss)) (sym (k .1)) (d .stands-for);
+      calls-granted = d .calls-granted;
+      needs-present = d .needs-present;
+    }
+
+-- ---- the first AID
+has-bytes : (a : Aid) → T (validAid a) → length a ≡ 0 → ⊥
+has-bytes a v z = let b = leb→le 5 (length a) (and-l (leb 5 (length a)) (leb (length a) 16) v) in omega arith
+
+pub calls-aid : CallsAid
+calls-aid rec r c =
+    record {
+      malformed = λ e. c ∙ ap (λ (a : Aid). aidPlace a) (first-aid-part small rec .0 e);
+      whole = λ q e.
+          let h = first-aid-part small rec .1 q e in
+          let p = c ∙ ap (λ (a : Aid). aidPlace a) (h .0) ∙ placed (q .aid) (has-bytes (q .aid) (h .2)) in
+          let short = aid-short small rec (sym (h .0)) in
+          let at : answerOf r ≡ 5 = omega arith in
+          let n : secondOf r ≡ length (q .aid) = omega arith in
+          (at, n, h .1 ∙ (λ i. take (sym n i) (drop (sym at i) rec)));
+    }

@@ -1,0 +1,65 @@
+-- The two numbers of a result are the outcome's answer and second number, for each function. Assumes nothing.
+use Prim.Native.Nat.{ℕ, _<_}
+use native.Mathlib.Omega.{arith}
+use mathlib.Core.Path.{_≡_, refl, ap}
+use mathlib.Core.Logic.{_⊎_, inl, inr, ⊎-elim}
+use mathlib.Core.Bool.{Bool, true, false, _&&_, cond}
+use mathlib.Core.List.{List, [], _∷_, _++_}
+use mathlib.Core.List.{List·Memᴰ·head as here, List·Memᴰ·tail as there}
+use lib.Dec.{T, leb, ltb}
+use lib.ListN.{length, drop}
+use Rattle.policy.specs.Layout.{small}
+use Rattle.policy.specs.Tables.{decode}
+use Rattle.policy.specs.Lookup.{contractAt}
+use Rattle.policy.specs.Sound.{sound}
+use Rattle.policy.specs.Judge.{Out, refusal, judge, check, writeEmpty, loadRecord, readOut}
+use Rattle.policy.specs.Claims.{RefusesWith}
+use Rattle.policy.proofs.Entries.{answers-always}
+use Rattle.geometry.specs.declared.Card.the-variants.{Small}
+use Rattle.readout.proofs.Records.{measured}
+use Rattle.card.specs.Packed.{answerOf, secondOf}
+use Rattle.card.specs.Calls.{Returned, Checked, Emptied, Judged, ReadInto}
+
+pub record Tells (o : Out) (r : ℕ) : Type 0 where
+  pub answer : answerOf r ≡ o .answered
+  pub second : secondOf r ≡ o .second
+
+module _ {o : Out} {r : ℕ} {left : List ℕ} (c : Returned o r left) where
+  tells : o .second < 65536 → Tells o r
+  tells h = let e = c .result in record { answer = omega arith; second = omega arith }
+
+  -- an acceptance whose second number is low, or a refusal
+  tells-either : {A : Type 0} {ns : List ℕ} {second : ℕ} {lent : List ℕ} → second < 65536 → (A → o .second < 65536) → A ⊎ RefusesWith ns second lent o → Tells o r
+  tells-either h f w = tells (⊎-elim f (λ (n, m, e). let q = ap (λ (z : Out). z .second) e in omega arith) w)
+
+pub checked-tells : (image : List ℕ) {r : ℕ} → Checked image r → Tells (check small image) r
+checked-tells image c = tells-either c (omega arith) (λ h. omega arith) (answers-always small .checking image)
+
+pub emptied-tells : (lent : List ℕ) {r : ℕ} {left : List ℕ} → Emptied lent r left → Tells (writeEmpty small lent) r
+emptied-tells lent c = tells-either c (omega arith) (λ h. let e = ap (λ (z : Out). z .second) (h .0) in omega arith) (answers-always small .emptying lent)
+
+pub judged-tells : (image rec : List ℕ) {r : ℕ} {left : List ℕ} → Judged image rec r left → Tells (judge small image rec) r
+judged-tells image rec c = tells-either c (omega arith) (λ h. omega arith) (answers-always small .judging image rec)
+
+-- ---- reading out
+module _ (image : List ℕ) (n : ℕ) (lent : List ℕ) where
+  abbrev pub rec : List ℕ
+  rec = loadRecord small (contractAt small (decode small image) n)
+
+  -- by the three tests: the record is written, or the call is refused
+  abbrev pub Wrote : Bool → Bool → Out → Type 0
+  Wrote a b o = (T a × T b × (o ≡ record { answered = 0; second = length rec; bytes = rec ++ drop (length rec) lent })) ⊎ RefusesWith (1 ∷ 5 ∷ 12 ∷ []) 0 lent o
+
+  wrote-by : (a b c : Bool)
+      → Wrote a b (cond a (cond b (cond c (record { answered = 0; second = length rec; bytes = rec ++ drop (length rec) lent }) (refusal 12 0 lent)) (refusal 5 0 lent)) (refusal 1 0 lent))
+  wrote-by true true true = inl (tt, tt, refl)
+  wrote-by true true false = inr (12, there (there (here refl)), refl)
+  wrote-by true false c = inr (5, there (here refl), refl)
+  wrote-by false b c = inr (1, here refl, refl)
+
+  pub wrote : Wrote (sound small image) (ltb n 8 && decode small image .used n) (readOut small image n lent)
+  unfolding readOut
+  wrote = wrote-by (sound small image) (ltb n 8 && decode small image .used n) (leb (length rec) (length lent))
+
+  pub read-tells : {r : ℕ} {left : List ℕ} → ReadInto image n lent r left → Tells (readOut small image n lent) r
+  read-tells c = tells-either c (omega arith) (λ (ok, un, e). let low = measured Small image n ok _ refl in let q = ap (λ (z : Out). z .second) e in omega (arith, low .0, low .1)) wrote

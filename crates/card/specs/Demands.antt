@@ -1,0 +1,90 @@
+-- The demands, of every call that meets its function's contract, in the two numbers that a host reads from its result.
+use Prim.Native.Nat.{ℕ, _≤_, _<_}
+use mathlib.Core.Path.{_≡_}
+use mathlib.Core.Logic.{_↔_, _⊎_}
+use mathlib.Core.List.{List, [], _∷_, map}
+use mathlib.Core.List.{List·Memᴰ as In}
+use mathlib.Core.Option.{none, some}
+use lib.Dec.{T}
+use lib.ListN.{length, take, drop}
+use Rattle.policy.specs.Lists.{from}
+use Rattle.policy.specs.Contract.{Contract, lawful}
+use Rattle.policy.specs.Layout.{small}
+use Rattle.policy.specs.Record.{Request, load, parse, proper}
+use Rattle.policy.specs.Causes.{Cause}
+use Rattle.policy.specs.Machine.{effect, causes4to7}
+use Rattle.policy.specs.Tables.{decode, emptyImage}
+use Rattle.policy.specs.Lookup.{contractAt}
+use Rattle.policy.specs.Sound.{sound}
+use Rattle.policy.specs.History.{SameContract, StandsFor, machineAnswers, contractsAfter}
+use Rattle.policy.specs.Claims.{CallsGranted, NeedsPresent, FitsLimits, IsFirst, allCauses}
+use Rattle.card.specs.Packed.{answerOf, secondOf}
+use Rattle.card.specs.Calls.{Checked, Emptied, Judged, ReadInto, AidFound, Calls}
+
+-- ---- demand 1: the answer and its second number are of document 01's table
+-- a refusal: one of these answers, this second number, and what was lent is left
+pub record Refused (ns : List ℕ) (second : ℕ) (lent : List ℕ) (r : ℕ) (left : List ℕ) : Type 0 where
+  pub answer-is : In (answerOf r) ns
+  pub second-is : secondOf r ≡ second
+  pub left-is : left ≡ lent
+
+pub record CallsAnswer : Type 0 where
+  pub checking : (image : List ℕ) (r : ℕ) → Checked image r
+      → ((answerOf r ≡ 0) × (secondOf r ≤ 8))
+      ⊎ Refused (1 ∷ []) 255 image r image
+  pub emptying : (lent : List ℕ) (r : ℕ) (left : List ℕ) → Emptied lent r left
+      → ((answerOf r ≡ 0) × (secondOf r ≡ 0) × (left ≡ emptyImage small) × (length lent ≡ 1094))
+      ⊎ Refused (1 ∷ []) 255 lent r left
+  pub judging : (image rec : List ℕ) (r : ℕ) (left : List ℕ) → Judged image rec r left
+      → ((answerOf r ≡ 0) × (secondOf r < 8))
+      ⊎ Refused (from 1 11) 255 image r left
+  pub reading : (image : List ℕ) (number : ℕ) (lent : List ℕ) (r : ℕ) (left : List ℕ) → ReadInto image number lent r left
+      → ((answerOf r ≡ 0) × (length left ≡ length lent) × (drop (secondOf r) left ≡ drop (secondOf r) lent))
+      ⊎ Refused (1 ∷ 5 ∷ 12 ∷ []) 0 lent r left
+
+-- ---- demand 2: the verdict on a record
+pub record VerdictOfCall (image rec : List ℕ) (r : ℕ) : Type 0 where
+  -- an image that is not sound is cause 1; on a sound one the answer is the first of the others
+  pub unsound : (T (sound small image) → ⊥) → answerOf r ≡ 1
+  pub first-cause : (cs : List Contract) → StandsFor small image cs → IsFirst (answerOf r) (allCauses small cs rec)
+  -- 'a well-formed record free of causes 3 to 6 is accepted exactly when the contracts it would leave installed' are lawful and fit
+  pub accepted-exactly : (cs : List Contract) (q : Request) → StandsFor small image cs → parse small rec ≡ some q → T (proper (q .aid) (q .change))
+      → ((k : Cause) → In k (causes4to7 small cs (q .aid) (q .change)) → k .number < 7 → T (k .applies) → ⊥)
+      → (answerOf r ≡ 0) ↔ (T (lawful (effect cs (q .aid) (q .change))) × FitsLimits small (effect cs (q .aid) (q .change)))
+  -- every sound image stands for some contracts
+  pub sound-stands : T (sound small image) → (cs : List Contract) × StandsFor small image cs
+
+abbrev pub CallsVerdict : Type 0
+CallsVerdict = (image rec : List ℕ) (r : ℕ) (left : List ℕ) → Judged image rec r left → VerdictOfCall image rec r
+
+-- ---- demand 2: reading out
+-- a record is well formed, has no cause 3, and is the contract again; a card that accepts it holds the same four sets
+pub record LoadOf (c : Contract) (rec : List ℕ) : Type 0 where
+  pub parses : parse small rec ≡ some (record { aid = c .aid; change = load (c .provides) (c .calls) (c .grants) (c .needs) })
+  pub is-proper : T (proper (c .aid) (load (c .provides) (c .calls) (c .grants) (c .needs)))
+  pub loads-again : (image : List ℕ) (r : ℕ) (left : List ℕ) → Judged image rec r left → answerOf r ≡ 0
+      → (m : ℕ) × T (decode small left .used m) × SameContract c (contractAt small (decode small left) m)
+
+-- the bytes that an accepted call wrote are the contract of its package number
+abbrev pub CallsReadOut : Type 0
+CallsReadOut = (image : List ℕ) (number : ℕ) (lent : List ℕ) (r : ℕ) (left : List ℕ) → ReadInto image number lent r left → answerOf r ≡ 0
+    → T (sound small image) × T (decode small image .used number) × LoadOf (contractAt small (decode small image) number) (take (secondOf r) left)
+
+-- ---- demand 3: a call that wrote the empty image, and after it calls that judge a record each
+pub record HistoryOfCalls (ss : List (List ℕ)) (rs left : List ℕ) : Type 0 where
+  pub equal-answers : map answerOf rs ≡ machineAnswers small [] ss
+  pub stands-for : StandsFor small left (contractsAfter small [] ss)
+  pub calls-granted : CallsGranted (contractsAfter small [] ss)
+  pub needs-present : NeedsPresent (contractsAfter small [] ss)
+
+abbrev pub CallsHistory : Type 0
+CallsHistory = (lent : List ℕ) (r : ℕ) (image : List ℕ) → Emptied lent r image → answerOf r ≡ 0
+    → (ss : List (List ℕ)) (rs left : List ℕ) → Calls image ss rs left → HistoryOfCalls ss rs left
+
+-- ---- the first AID: 0 for a malformed record, else 5 and the length of the AID, which stands there
+pub record AidTold (rec : List ℕ) (r : ℕ) : Type 0 where
+  pub malformed : parse small rec ≡ none → r ≡ 0
+  pub whole : (q : Request) → parse small rec ≡ some q → (answerOf r ≡ 5) × (secondOf r ≡ length (q .aid)) × (q .aid ≡ take (secondOf r) (drop (answerOf r) rec))
+
+abbrev pub CallsAid : Type 0
+CallsAid = (rec : List ℕ) (r : ℕ) → AidFound rec r → AidTold rec r
