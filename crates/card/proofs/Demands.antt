@@ -3,7 +3,7 @@ use Prim.Native.Nat.{ℕ}
 use native.Mathlib.Omega.{arith}
 use mathlib.Core.Path.{_≡_, refl, sym, ap, _∙_, subst}
 use mathlib.Core.Logic.{_⊎_, inl, inr, ⊎-map}
-use mathlib.Core.Bool.{not}
+use mathlib.Core.Bool.{Bool, true, false, not, cond}
 use mathlib.Core.List.{List, [], _∷_, map}
 use mathlib.Core.List.{List·Memᴰ as In}
 use lib.Dec.{T, eqb, leb, leb→le, ltb}
@@ -12,21 +12,23 @@ use lib.Seq.{take-append-seam}
 use Rattle.policy.specs.Lists.{every}
 use Rattle.policy.specs.Contract.{Aid, Contract, validAid}
 use Rattle.policy.specs.Layout.{small}
+use Rattle.policy.specs.Causes.{Cause, _when_, answer}
 use Rattle.policy.specs.Tables.{decode, emptyImage}
-use Rattle.policy.specs.Judge.{Out, loadRecord}
+use Rattle.policy.specs.Judge.{Out, refusal, check, writeEmpty, loadRecord}
 use Rattle.policy.specs.Lookup.{contractAt}
 use Rattle.policy.specs.Sound.{sound}
 use Rattle.policy.specs.History.{SameContract, answers, imageAfter, StandsFor, contractsAfter}
 use Rattle.policy.specs.Claims.{RefusesWith, IsFirst, allCauses}
 use Rattle.policy.proofs.Sets.{and-l, and-r, every-in}
+use Rattle.policy.proofs.Answers.{ascends, first-is}
 use Rattle.policy.proofs.ParseFacts.{first-aid-part}
 use Rattle.policy.proofs.Entries.{answers-always}
 use Rattle.policy.proofs.Theorems.{history, first-cause, accepted-exactly, sound-stands, read-out-again, small-ok}
 use Rattle.card.specs.Packed.{answerOf, secondOf, aidPlace}
 use Rattle.card.specs.Calls.{Returned, Calls}
-use Rattle.card.specs.Demands.{Refused, CallsAnswer, CallsVerdict, LoadOf, CallsReadOut, CallsHistory, CallsAid}
+use Rattle.card.specs.Demands.{Refused, CallsAnswer, CallsCause, CallsVerdict, Restores, CallsReadOut, CallsHistory, CallsAid}
 use Rattle.card.proofs.Packs.{placed, aid-short}
-use Rattle.card.proofs.Tells.{Tells, checked-tells, emptied-tells, judged-tells, read-tells, wrote}
+use Rattle.card.proofs.Tells.{Tells, checked-tells, emptied-tells, judged-tells, wrote, read-tells}
 
 -- ---- demand 1
 refused : {o : Out} {r : ℕ} {left : List ℕ} → Returned o r left → Tells o r → {ns : List ℕ} {second : ℕ} {lent : List ℕ} → RefusesWith ns second lent o → Refused ns second lent r left
@@ -50,6 +52,30 @@ calls-answer =
     }
 
 -- ---- demand 2
+-- one test that fails is cause 1
+caused : (b : Bool) (o p : Out) → o .answered ≡ 0 → p .answered ≡ 1 → cond b o p .answered ≡ answer (1 when not b ∷ [])
+caused true o p e f = e
+caused false o p e f = f
+
+check-caused : (image : List ℕ) → check small image .answered ≡ answer (1 when not (sound small image) ∷ [])
+unfolding check
+check-caused image = caused (sound small image) _ (refusal 1 255 image) refl refl
+
+empty-caused : (lent : List ℕ) → writeEmpty small lent .answered ≡ answer (1 when not (eqb (length lent) 1094) ∷ [])
+unfolding writeEmpty
+empty-caused lent = caused (eqb (length lent) 1094) _ (refusal 1 255 lent) refl refl
+
+first : {o : Out} {r : ℕ} (l : List Cause) → Tells o r → o .answered ≡ answer l → T (ascends 0 l) → IsFirst (answerOf r) l
+first l t e up = subst (λ (n : ℕ). IsFirst n l) (sym (t .answer ∙ e)) (first-is 0 l up)
+
+pub calls-cause : CallsCause
+calls-cause =
+    record {
+      checking = λ image r c. first _ (checked-tells image c) (check-caused image) tt;
+      emptying = λ lent r left c. first _ (emptied-tells lent c) (empty-caused lent) tt;
+      reading = λ image n lent r left c. first _ (read-tells image n lent c) (wrote image n lent .0) tt;
+    }
+
 pub calls-verdict : CallsVerdict
 calls-verdict image rec r left c =
     let t = judged-tells image rec c in
@@ -73,8 +99,8 @@ module _ (image : List ℕ) (n : ℕ) (ok : T (sound small image)) (un : T (deco
   abbrev c : Contract
   c = contractAt small (decode small image) n
 
-  load-of : LoadOf c (loadRecord small c)
-  load-of =
+  restores : Restores c (loadRecord small c)
+  restores =
       let h = read-out-again small small-ok image n ok un in
       record {
         parses = h .parses c refl;
@@ -86,12 +112,12 @@ module _ (image : List ℕ) (n : ℕ) (ok : T (sound small image)) (un : T (deco
 pub calls-read-out : CallsReadOut
 calls-read-out image n lent r left c z =
     let t = read-tells image n lent c in
-    let w = accepted (1 ∷ 5 ∷ 12 ∷ []) tt z (⊎-map (λ h. h) (refused c t) (wrote image n lent)) in
+    let w = accepted (1 ∷ 5 ∷ 12 ∷ []) tt z (⊎-map (λ h. h) (refused c t) (wrote image n lent .1)) in
     let un = and-r (ltb n 8) (decode small image .used n) (w .1) in
     let k = contractAt small (decode small image) n in
     let is : take (secondOf r) left ≡ loadRecord small k
     = (λ i. take ((t .second ∙ ap (λ (o : Out). o .second) (w .2)) i) ((c .left-is ∙ ap (λ (o : Out). o .bytes) (w .2)) i)) ∙ take-append-seam (loadRecord small k) _ in
-    (w .0, un, subst (λ (s : List ℕ). LoadOf k s) (sym is) (load-of image n (w .0) un))
+    (w .0, un, subst (λ (s : List ℕ). Restores k s) (sym is) (restores image n (w .0) un))
 
 -- ---- demand 3
 -- calls one after another answer and leave what a history of records does

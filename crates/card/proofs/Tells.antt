@@ -3,12 +3,13 @@ use Prim.Native.Nat.{ℕ, _<_}
 use native.Mathlib.Omega.{arith}
 use mathlib.Core.Path.{_≡_, refl, ap}
 use mathlib.Core.Logic.{_⊎_, inl, inr, ⊎-elim}
-use mathlib.Core.Bool.{Bool, true, false, _&&_, cond}
+use mathlib.Core.Bool.{Bool, true, false, not, _&&_, cond}
 use mathlib.Core.List.{List, [], _∷_, _++_}
 use mathlib.Core.List.{List·Memᴰ·head as here, List·Memᴰ·tail as there}
 use lib.Dec.{T, leb, ltb}
 use lib.ListN.{length, drop}
 use Rattle.policy.specs.Layout.{small}
+use Rattle.policy.specs.Causes.{_when_, answer}
 use Rattle.policy.specs.Tables.{decode}
 use Rattle.policy.specs.Lookup.{contractAt}
 use Rattle.policy.specs.Sound.{sound}
@@ -41,25 +42,28 @@ emptied-tells lent c = tells-either c (omega arith) (λ h. let e = ap (λ (z : O
 pub judged-tells : (image rec : List ℕ) {r : ℕ} {left : List ℕ} → Judged image rec r left → Tells (judge small image rec) r
 judged-tells image rec c = tells-either c (omega arith) (λ h. omega arith) (answers-always small .judging image rec)
 
--- ---- reading out
+-- ---- reading out, by its three tests: the record is written, or the call is refused for the first that fails
 module _ (image : List ℕ) (n : ℕ) (lent : List ℕ) where
   abbrev pub rec : List ℕ
   rec = loadRecord small (contractAt small (decode small image) n)
 
-  -- by the three tests: the record is written, or the call is refused
-  abbrev pub Wrote : Bool → Bool → Out → Type 0
-  Wrote a b o = (T a × T b × (o ≡ record { answered = 0; second = length rec; bytes = rec ++ drop (length rec) lent })) ⊎ RefusesWith (1 ∷ 5 ∷ 12 ∷ []) 0 lent o
+  abbrev pub written : Out
+  written = record { answered = 0; second = length rec; bytes = rec ++ drop (length rec) lent }
 
-  wrote-by : (a b c : Bool)
-      → Wrote a b (cond a (cond b (cond c (record { answered = 0; second = length rec; bytes = rec ++ drop (length rec) lent }) (refusal 12 0 lent)) (refusal 5 0 lent)) (refusal 1 0 lent))
-  wrote-by true true true = inl (tt, tt, refl)
-  wrote-by true true false = inr (12, there (there (here refl)), refl)
-  wrote-by true false c = inr (5, there (here refl), refl)
-  wrote-by false b c = inr (1, here refl, refl)
+  abbrev pub Wrote : Bool → Bool → Bool → Out → Type 0
+  Wrote a b c o =
+      (o .answered ≡ answer (1 when not a ∷ 5 when not b ∷ 12 when not c ∷ []))
+      × ((T a × T b × (o ≡ written)) ⊎ RefusesWith (1 ∷ 5 ∷ 12 ∷ []) 0 lent o)
 
-  pub wrote : Wrote (sound small image) (ltb n 8 && decode small image .used n) (readOut small image n lent)
+  wrote-by : (a b c : Bool) → Wrote a b c (cond a (cond b (cond c written (refusal 12 0 lent)) (refusal 5 0 lent)) (refusal 1 0 lent))
+  wrote-by true true true = (refl, inl (tt, tt, refl))
+  wrote-by true true false = (refl, inr (12, there (there (here refl)), refl))
+  wrote-by true false c = (refl, inr (5, there (here refl), refl))
+  wrote-by false b c = (refl, inr (1, here refl, refl))
+
+  pub wrote : Wrote (sound small image) (ltb n 8 && decode small image .used n) (leb (length rec) (length lent)) (readOut small image n lent)
   unfolding readOut
   wrote = wrote-by (sound small image) (ltb n 8 && decode small image .used n) (leb (length rec) (length lent))
 
   pub read-tells : {r : ℕ} {left : List ℕ} → ReadInto image n lent r left → Tells (readOut small image n lent) r
-  read-tells c = tells-either c (omega arith) (λ (ok, un, e). let low = measured Small image n ok _ refl in let q = ap (λ (z : Out). z .second) e in omega (arith, low .0, low .1)) wrote
+  read-tells c = tells-either c (omega arith) (λ (ok, un, e). let low = measured Small image n ok _ refl in let q = ap (λ (z : Out). z .second) e in omega (arith, low .0, low .1)) (wrote .1)

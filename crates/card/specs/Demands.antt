@@ -2,20 +2,22 @@
 use Prim.Native.Nat.{ℕ, _≤_, _<_}
 use mathlib.Core.Path.{_≡_}
 use mathlib.Core.Logic.{_↔_, _⊎_}
+use mathlib.Core.Bool.{not, _&&_}
 use mathlib.Core.List.{List, [], _∷_, map}
 use mathlib.Core.List.{List·Memᴰ as In}
 use mathlib.Core.Option.{none, some}
-use lib.Dec.{T}
+use lib.Dec.{T, eqb, leb, ltb}
 use lib.ListN.{length, take, drop}
 use Rattle.policy.specs.Lists.{from}
 use Rattle.policy.specs.Contract.{Contract, lawful}
 use Rattle.policy.specs.Layout.{small}
 use Rattle.policy.specs.Record.{Request, load, parse, proper}
-use Rattle.policy.specs.Causes.{Cause}
+use Rattle.policy.specs.Causes.{Cause, _when_}
 use Rattle.policy.specs.Machine.{effect, causes4to7}
 use Rattle.policy.specs.Tables.{decode, emptyImage}
 use Rattle.policy.specs.Lookup.{contractAt}
 use Rattle.policy.specs.Sound.{sound}
+use Rattle.policy.specs.Judge.{loadRecord}
 use Rattle.policy.specs.History.{SameContract, StandsFor, machineAnswers, contractsAfter}
 use Rattle.policy.specs.Claims.{CallsGranted, NeedsPresent, FitsLimits, IsFirst, allCauses}
 use Rattle.card.specs.Packed.{answerOf, secondOf}
@@ -42,7 +44,18 @@ pub record CallsAnswer : Type 0 where
       → ((answerOf r ≡ 0) × (length left ≡ length lent) × (drop (secondOf r) left ≡ drop (secondOf r) lent))
       ⊎ Refused (1 ∷ 5 ∷ 12 ∷ []) 0 lent r left
 
--- ---- demand 2: the verdict on a record
+-- ---- demand 2: 'The lowest number that applies is given, and a number is given only for its cause.'
+pub record CallsCause : Type 0 where
+  pub checking : (image : List ℕ) (r : ℕ) → Checked image r → IsFirst (answerOf r) (1 when not (sound small image) ∷ [])
+  pub emptying : (lent : List ℕ) (r : ℕ) (left : List ℕ) → Emptied lent r left → IsFirst (answerOf r) (1 when not (eqb (length lent) 1094) ∷ [])
+  pub reading : (image : List ℕ) (number : ℕ) (lent : List ℕ) (r : ℕ) (left : List ℕ) → ReadInto image number lent r left
+      → IsFirst (answerOf r)
+      (1 when not (sound small image)
+      ∷ 5 when not (ltb number 8 && decode small image .used number)
+      ∷ 12 when not (leb (length (loadRecord small (contractAt small (decode small image) number))) (length lent))
+      ∷ [])
+
+-- the verdict on a record
 pub record VerdictOfCall (image rec : List ℕ) (r : ℕ) : Type 0 where
   -- an image that is not sound is cause 1; on a sound one the answer is the first of the others
   pub unsound : (T (sound small image) → ⊥) → answerOf r ≡ 1
@@ -59,7 +72,7 @@ CallsVerdict = (image rec : List ℕ) (r : ℕ) (left : List ℕ) → Judged ima
 
 -- ---- demand 2: reading out
 -- a record is well formed, has no cause 3, and is the contract again; a card that accepts it holds the same four sets
-pub record LoadOf (c : Contract) (rec : List ℕ) : Type 0 where
+pub record Restores (c : Contract) (rec : List ℕ) : Type 0 where
   pub parses : parse small rec ≡ some (record { aid = c .aid; change = load (c .provides) (c .calls) (c .grants) (c .needs) })
   pub is-proper : T (proper (c .aid) (load (c .provides) (c .calls) (c .grants) (c .needs)))
   pub loads-again : (image : List ℕ) (r : ℕ) (left : List ℕ) → Judged image rec r left → answerOf r ≡ 0
@@ -68,7 +81,7 @@ pub record LoadOf (c : Contract) (rec : List ℕ) : Type 0 where
 -- the bytes that an accepted call wrote are the contract of its package number
 abbrev pub CallsReadOut : Type 0
 CallsReadOut = (image : List ℕ) (number : ℕ) (lent : List ℕ) (r : ℕ) (left : List ℕ) → ReadInto image number lent r left → answerOf r ≡ 0
-    → T (sound small image) × T (decode small image .used number) × LoadOf (contractAt small (decode small image) number) (take (secondOf r) left)
+    → T (sound small image) × T (decode small image .used number) × Restores (contractAt small (decode small image) number) (take (secondOf r) left)
 
 -- ---- demand 3: a call that wrote the empty image, and after it calls that judge a record each
 pub record HistoryOfCalls (ss : List (List ℕ)) (rs left : List ℕ) : Type 0 where
