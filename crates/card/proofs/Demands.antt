@@ -65,15 +65,15 @@ empty-caused : (lent : List ℕ) → writeEmpty small lent .answered ≡ answer 
 unfolding writeEmpty
 empty-caused lent = caused (eqb (length lent) 1094) _ (refusal 1 255 lent) refl refl
 
-first : {o : Out} {r : ℕ} (l : List Cause) → Tells o r → o .answered ≡ answer l → T (ascends 0 l) → IsFirst (answerOf r) l
-first l t e up = subst (λ (n : ℕ). IsFirst n l) (sym (t .answer ∙ e)) (first-is 0 l up)
+first-of : {o : Out} {r : ℕ} (l : List Cause) → Tells o r → o .answered ≡ answer l → T (ascends 0 l) → IsFirst (answerOf r) l
+first-of l t e up = subst (λ (n : ℕ). IsFirst n l) (sym (t .answer ∙ e)) (first-is 0 l up)
 
 pub calls-cause : CallsCause
 calls-cause =
     record {
-      checking = λ image r c. first _ (checked-tells image c) (check-caused image) tt;
-      emptying = λ lent r left c. first _ (emptied-tells lent c) (empty-caused lent) tt;
-      reading = λ image n lent r left c. first _ (read-tells image n lent c) (wrote image n lent .0) tt;
+      checking = λ image r c. first-of _ (checked-tells image c) (check-caused image) tt;
+      emptying = λ lent r left c. first-of _ (emptied-tells lent c) (empty-caused lent) tt;
+      reading = λ image n lent r left c. first-of _ (read-tells image n lent c) (wrote image n lent .0) tt;
     }
 
 pub calls-verdict : CallsVerdict
@@ -121,13 +121,13 @@ calls-read-out image n lent r left c z =
 
 -- ---- demand 3
 -- calls one after another answer and leave what a history of records does
-calls-answers : (ss : List (List ℕ)) (rs image : List ℕ) {left : List ℕ} → Calls image ss rs left → (map answerOf rs ≡ answers small image ss) × (left ≡ imageAfter small image ss)
+as-history : (ss : List (List ℕ)) (rs image : List ℕ) {left : List ℕ} → Calls image ss rs left → (map answerOf rs ≡ answers small image ss) × (left ≡ imageAfter small image ss)
 unfolding answers imageAfter
-calls-answers [] [] image e = (refl, e)
-calls-answers [] (r ∷ rs) image e = absurd e
-calls-answers (s ∷ ss) [] image e = absurd e
-calls-answers (s ∷ ss) (r ∷ rs) image (mid, c, h) =
-    let k = calls-answers ss rs mid h in (
+as-history [] [] image e = (refl, e)
+as-history [] (r ∷ rs) image e = absurd e
+as-history (s ∷ ss) [] image e = absurd e
+as-history (s ∷ ss) (r ∷ rs) image (mid, c, h) =
+    let k = as-history ss rs mid h in (
       (λ i. judged-tells image s c .answer i ∷ (k .0 ∙ ap (λ (z : List ℕ). answers small z ss) (c .left-is)) i),
       k .1 ∙ ap (λ (z : List ℕ). imageAfter small z ss) (c .left-is),
     )
@@ -135,7 +135,7 @@ calls-answers (s ∷ ss) (r ∷ rs) image (mid, c, h) =
 pub calls-history : CallsHistory
 calls-history lent r image c z ss rs left h =
     let e = accepted (1 ∷ []) tt z (calls-answer .emptying lent r image c) .2 in
-    let k = calls-answers ss rs (emptyImage small) (subst (λ (b : List ℕ). Calls b ss rs left) e h) in
+    let k = as-history ss rs (emptyImage small) (subst (λ (b : List ℕ). Calls b ss rs left) e h) in
     let d = history small small-ok ss in
     record {
       equal-answers = k .0 ∙ d .equal-answers;
