@@ -31,20 +31,19 @@ static void print_bytes(const uint8_t *bytes, uint32_t count) {
 static void judge(uint8_t *image, const uint8_t *record, size_t length) {
     uint32_t aid = card_aid(record, length);
     uint32_t result = card_judge(image, CARD_IMAGE_SIZE, record, length);
-    if (CARD_ANSWER(result) == 0) {
+    if (CARD_ANSWER(result) == CARD_ACCEPTED) {
         printf("accepted, package %u, AID ", (unsigned)CARD_SECOND(result));
     } else {
         printf("refused, cause %u, AID ", (unsigned)CARD_ANSWER(result));
     }
-    /* The AID's place in the record, and its length. */
-    print_bytes(record + CARD_ANSWER(aid), CARD_SECOND(aid));
+    print_bytes(record + CARD_AID_AT(aid), CARD_AID_LENGTH(aid));
 }
 
 int main(void) {
-    static uint8_t image[CARD_IMAGE_SIZE];
-    static uint8_t contract[CARD_RECORD_SIZE];
+    uint8_t image[CARD_IMAGE_SIZE] = {0};
+    uint8_t contract[CARD_RECORD_SIZE] = {0};
 
-    if (CARD_ANSWER(card_empty(image, sizeof image)) != 0) {
+    if (CARD_ANSWER(card_empty(image, sizeof image)) != CARD_ACCEPTED) {
         fprintf(stderr, "no empty image is written\n");
         return 1;
     }
@@ -53,14 +52,14 @@ int main(void) {
     judge(image, organiser, sizeof organiser);
 
     uint32_t checked = card_check(image, sizeof image);
-    if (CARD_ANSWER(checked) != 0) {
+    if (CARD_ANSWER(checked) != CARD_ACCEPTED) {
         fprintf(stderr, "the image is not sound\n");
         return 1;
     }
     printf("packages on the card: %u\n", (unsigned)CARD_SECOND(checked));
 
     uint32_t read = card_read_out(image, sizeof image, 1, contract, sizeof contract);
-    if (CARD_ANSWER(read) != 0) {
+    if (CARD_ANSWER(read) != CARD_ACCEPTED) {
         fprintf(stderr, "package 1 is not read out: %u\n", (unsigned)CARD_ANSWER(read));
         return 1;
     }

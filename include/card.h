@@ -1,44 +1,37 @@
 /*
  * The member card's contract policy engine: five functions, proved, in libcard.a (`rt staticlib card`).
  *
- * Each function takes any bytes of any length and always returns. Its result is
+ * Each function takes any bytes of any length and always returns. Its result has two parts, an answer and a second number, which
+ * CARD_ANSWER and CARD_SECOND take out; the result of card_aid has macros of its own. On any answer but CARD_ACCEPTED
+ * every byte that was lent is left as it was.
  *
- *     answer * 65536 + second number          (card_aid: see there)
+ * What the caller owes:
  *
- * and on any answer but 0 it leaves every byte that was lent as it was.
+ * - Each pointer is not null and points to as many bytes as its length says. A length of 0 is fine, with any pointer but null: of null
+ *   the toolchain promises nothing. Where a host has null for no bytes it lends (const uint8_t *)"" with the length 0.
+ * - The bytes are initialised, also those that are written without being read first, as by card_empty: the proofs speak of bytes
+ *   that have a value.
+ * - Bytes that a function may write (`image` without const, and `out`) overlap nothing else that is lent in the same call.
+ * - Until the call returns nobody else writes what is lent: no other thread, signal handler or interrupt, and nobody through a
+ *   file that is mapped there.
  *
- *   answer  cause                                                        second number
- *   0       accepted                                                     see each function
- *   1       the image is not sound, or not CARD_IMAGE_SIZE bytes         255; reading out: 0
- *   2       the record is malformed: length, version, kind, count or
- *           AID length wrong, or bytes missing or left over              255
- *   3       a row or AID is repeated; the own AID as the other end; a
- *           need that is not called; a grant of a service not provided   255
- *   4       load of an AID that is installed                             255
- *   5       the package is not installed                                 255; reading out: 0
- *   6       adds what the contract has, or removes what it lacks; a
- *           grant of a service not provided; a need not called           255
- *   7       no package number left, or no service number                 255
- *   8       a met call would stand without its grant                     255
- *   9       a need would be unmet                                        255
- *   10      more than 16 unmet calls afterwards                          255
- *   11      more than 16 waiting grants afterwards                       255
- *   12      the buffer is shorter than the record read out               0
+ * What the functions use, as `rt staticlib` compiles them:
  *
- * The lowest answer that applies is given.
- *
- * What the caller owes: each pointer is not null and points to as many bytes as its length says (a length of 0 is fine), and
- * bytes that a function may write (`image` without const, and `out`) overlap nothing else that is lent in the same call.
- * The functions hold no state: several threads may call them at once, as long as none writes bytes that another is lent.
- * Of the C library they call at most what compilers call themselves: memcpy, memmove, memset, memcmp and bcmp.
+ * - No heap and no state: no byte outlives a call, and several threads may call at once.
+ * - A little stack: CARD_STACK_JUDGE and its like, below.
+ * - Of the C library at most what compilers call themselves: memcpy, memmove, memset, memcmp and bcmp. A host without a C library
+ *   supplies these.
+ * - x86-64 as every such processor has it, with SSE2 and nothing later, called by the System V convention; the code may stand at any
+ *   address. On bare metal, SSE is switched on, an interrupt saves the xmm registers that it uses, and it is not taken on the
+ *   same stack unless it spares the 128 bytes below the stack pointer (the convention's red zone).
  *
  * A card with one package on it:
  *
- *     uint8_t image[CARD_IMAGE_SIZE];
+ *     uint8_t image[CARD_IMAGE_SIZE] = {0};
  *     card_empty(image, sizeof image);
  *     static const uint8_t load[] = {0, 14, 1, 1, 5, 0xF0, 0, 0, 0, 1, 0, 0, 0, 0};
  *     uint32_t result = card_judge(image, sizeof image, load, sizeof load);
- *     if (CARD_ANSWER(result) == 0)
+ *     if (CARD_ANSWER(result) == CARD_ACCEPTED)
  *         printf("package number %u\n", (unsigned)CARD_SECOND(result));
  */
 #ifndef CARD_H
@@ -51,33 +44,80 @@
 extern "C" {
 #endif
 
+/*
+ * The version of what this file promises. The major number goes up when a host that kept to it may have to change: parameters,
+ * results, the meaning of an answer, the bytes of images and records. The minor number goes up when something is added.
+ */
+#define CARD_VERSION_MAJOR 1
+#define CARD_VERSION_MINOR 0
+#define CARD_VERSION (CARD_VERSION_MAJOR * 1000 + CARD_VERSION_MINOR)
+
 /* Bytes of an image. */
 #define CARD_IMAGE_SIZE 1094
 
 /* Bytes of the longest record: a buffer of this size holds whatever is read out. */
 #define CARD_RECORD_SIZE 4145
 
-/* The two parts of a result. */
+/*
+ * Bytes of stack that a call takes at most, its return address and the C library's memcpy and memset among them. No theorem speaks of
+ * the stack: these are measured, with a little room, and a test holds the archive to them (tests/tests/stack.rs).
+ */
+#define CARD_STACK_CHECK 320
+#define CARD_STACK_EMPTY 64
+#define CARD_STACK_JUDGE 896
+#define CARD_STACK_READ_OUT 448
+#define CARD_STACK_AID 256
+
+/*
+ * The answers. Where several causes apply the lowest is given. The second number of a refusal is 255, and 0 when reading out; that of an
+ * acceptance stands with each function.
+ */
+enum card_answer {
+    CARD_ACCEPTED = 0,
+    CARD_UNSOUND_IMAGE = 1,        /* the image is not sound, or not CARD_IMAGE_SIZE bytes */
+    CARD_MALFORMED_RECORD = 2,     /* length, version, kind, count or AID length wrong, or bytes missing or left over */
+    CARD_CONTRADICTORY_RECORD = 3, /* a row or AID is repeated; the own AID as the other end; in a load, a need that is not called or a
+                                      grant of a service not provided */
+    CARD_INSTALLED = 4,            /* load of an AID that is installed */
+    CARD_NOT_INSTALLED = 5,        /* the package, or the package number to read out, is not installed */
+    CARD_POINTLESS_CHANGE = 6,     /* adds what the contract has, or removes what it lacks; a grant of a service not provided; a need
+                                      not called */
+    CARD_NO_NUMBER = 7,            /* no package number left, or no service number of the package */
+    CARD_UNGRANTED_CALL = 8,       /* a met call would stand without its grant */
+    CARD_UNMET_NEED = 9,           /* a need would be unmet */
+    CARD_UNMET_FULL = 10,          /* more than 16 unmet calls afterwards */
+    CARD_WAITING_FULL = 11,        /* more than 16 waiting grants afterwards */
+    CARD_BUFFER_SHORT = 12         /* the buffer is shorter than the record read out */
+};
+
+/* The two parts of a result: answer * 65536 + second number. Not for card_aid's. */
 #define CARD_ANSWER(result) ((uint32_t)(result) >> 16)
 #define CARD_SECOND(result) ((uint32_t)(result) & 0xFFFFu)
 
-/* Checks an image: 0 with the count of installed packages where it is sound, else 1. */
+/* Checks an image: accepted with the count of installed packages where it is sound, else 1. */
 uint32_t card_check(const uint8_t *image, size_t image_length);
 
-/* Writes the empty image: 0 with 0. Of a buffer that is not CARD_IMAGE_SIZE bytes: 1. */
+/* Writes the empty image: accepted with 0. Of a buffer that is not CARD_IMAGE_SIZE bytes: 1. */
 uint32_t card_empty(uint8_t *image, size_t image_length);
 
-/* Judges a record on an image. Accepted, the image is changed: 0 with the package number (on removal, the one it had). Refused: 1 to 11. */
+/*
+ * Judges a record on an image. Accepted, the image is changed, and the second number is the package number (on removal, the one it had).
+ * Refused: 1 to 11.
+ */
 uint32_t card_judge(uint8_t *image, size_t image_length, const uint8_t *record, size_t record_length);
 
 /*
- * Writes the contract of a package number to the start of out, as a record of kind 1: 0 with the record's length; the bytes of out
- * past it stay. Refused: 1, 5 or 12 with 0.
+ * Writes the contract of a package number to the start of out, as a record of kind 1: accepted with the record's length; the bytes of
+ * out past it stay. Refused: 1, 5 or 12.
  */
 uint32_t card_read_out(const uint8_t *image, size_t image_length, uint32_t number, uint8_t *out, size_t out_length);
 
-/* Where a record's first AID stands in it: 5 * 65536 + the AID's length (its bytes start at byte 5), or 0 for a malformed record. */
+/* Where the bytes of a record's first AID stand in the record, and how many they are; of a malformed record (cause 2) both are 0. */
 uint32_t card_aid(const uint8_t *record, size_t record_length);
+
+/* The two parts of card_aid's result. */
+#define CARD_AID_AT(result) ((uint32_t)(result) >> 16)
+#define CARD_AID_LENGTH(result) ((uint32_t)(result) & 0xFFFFu)
 
 #ifdef __cplusplus
 }

@@ -24,6 +24,7 @@ fn main() {
         return;
     }
     println!("cargo:rerun-if-changed={}", archive.display());
+    println!("cargo:rustc-env=CARD_ARCHIVE={}", archive.display());
     println!("cargo:rustc-link-search=native={}", directory.display());
     println!("cargo:rustc-link-lib=static=card");
 }

@@ -113,13 +113,17 @@ pub mod exact {
     /// The first AID's part of the record; empty of a malformed record.
     pub fn aid(record: &[u8]) -> &[u8] {
         // SAFETY: pointer and length are those of one lent slice, which is only read.
-        let part = verdict(unsafe { card_aid(record.as_ptr(), record.len()) });
-        let (start, length) = (part.answer as usize, part.second as usize);
-        &record[start..start + length]
+        let (start, length) = halves(unsafe { card_aid(record.as_ptr(), record.len()) });
+        &record[start as usize..][..length as usize]
     }
 
-    /// A result is the answer times 65,536 plus the second number.
     fn verdict(result: u32) -> Verdict {
-        Verdict::new(result >> 16, result & 0xFFFF)
+        let (answer, second) = halves(result);
+        Verdict::new(answer, second)
+    }
+
+    /// A result has its first number in the high 16 bits and its second in the low ones.
+    fn halves(result: u32) -> (u32, u32) {
+        (result >> 16, result & 0xFFFF)
     }
 }

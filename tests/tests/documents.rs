@@ -1,7 +1,9 @@
-//! The documents say what is so: their commands print what stands below them, and their offsets
-//! are those of an image.
+//! The documents say what is so: their commands print what stands below them, their offsets are
+//! those of an image, and the header's numbers are those of the answers and sizes.
 
 use second::bytes::layout::*;
+use second::card::{IMAGE, LONGEST_RECORD};
+use second::refusal::Refusal;
 use std::collections::BTreeSet;
 use std::fs;
 use std::path::{Path, PathBuf};
@@ -137,6 +139,24 @@ fn the_results_are_written_alike_in_both_ways() {
         .collect();
     assert_eq!(results.len(), 5);
     assert!(results.iter().all(|(decimal, hexadecimal)| decimal == hexadecimal), "{results:?}");
+}
+
+#[test]
+fn the_headers_numbers_are_those_of_the_card() {
+    let header = document("include/card.h");
+    let defined = |name: &str| {
+        let value = header.lines().find_map(|line| line.strip_prefix(&format!("#define {name} ")));
+        value.and_then(number).expect(name)
+    };
+    assert_eq!((defined("CARD_IMAGE_SIZE"), defined("CARD_RECORD_SIZE")), (IMAGE, LONGEST_RECORD));
+    let answers = section(&header, "enum card_answer {").replace(',', " ");
+    let answers: Vec<usize> = answers
+        .lines()
+        .take_while(|line| *line != "};")
+        .filter_map(|line| number(line.split_once(" = ")?.1.split(' ').next()?))
+        .collect();
+    let causes = Refusal::ALL.map(|refusal| refusal.number() as usize);
+    assert_eq!(answers, [&[0], &causes[..]].concat());
 }
 
 /// The names between backquotes.
