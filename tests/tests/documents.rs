@@ -137,7 +137,7 @@ fn the_results_are_written_alike_in_both_ways() {
             Some((number(&row[0].replace(',', ""))?, hexadecimal))
         })
         .collect();
-    assert_eq!(results.len(), 5);
+    assert_eq!(results.len(), 6);
     assert!(results.iter().all(|(decimal, hexadecimal)| decimal == hexadecimal), "{results:?}");
 }
 
