@@ -59,8 +59,8 @@ extern "C" {
 #define CARD_RECORD_SIZE 4145
 
 /*
- * Bytes of stack that a call takes at most, its return address and the C library's memcpy and memset among them. No theorem speaks of
- * the stack: these are measured, with a little room, and a test holds the archive to them (tests/tests/stack.rs).
+ * Bytes of stack that a call takes at most, its return address and glibc's memcpy and memset among them. No theorem speaks of the
+ * stack: these are measured, with a little room, and a test holds the archive to them (tests/tests/stack.rs).
  */
 #define CARD_STACK_CHECK 320
 #define CARD_STACK_EMPTY 64
