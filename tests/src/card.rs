@@ -21,6 +21,16 @@ impl fmt::Debug for Verdict {
     }
 }
 
+impl fmt::Display for Verdict {
+    /// As the programs print what judging gives: the answer, and the package number or `-` on a refusal.
+    fn fmt(&self, f: &mut fmt::Formatter) -> fmt::Result {
+        match self.answer {
+            0 => write!(f, "0 {}", self.second),
+            cause => write!(f, "{cause} -"),
+        }
+    }
+}
+
 impl Verdict {
     pub const fn new(answer: u32, second: u32) -> Verdict {
         Verdict { answer, second }
@@ -98,6 +108,11 @@ impl Card for Engine {
     fn aid<'a>(&self, record: &'a [u8]) -> &'a [u8] {
         crate::engine::exact::aid(record)
     }
+}
+
+/// Their names, as the programs say what they compare.
+pub fn names(cards: &[&dyn Card]) -> String {
+    cards.iter().map(|card| card.name()).collect::<Vec<_>>().join(" and ")
 }
 
 /// Every engine that is linked. The byte engine comes first; the others are held to it.

@@ -7,6 +7,7 @@ pub mod worked;
 
 use crate::card::{Card, Verdict};
 use crate::compare::{Compare, Tally};
+use crate::run::caught;
 use crate::write;
 
 /// The paper's names for AIDs.
@@ -15,9 +16,6 @@ pub const C: &[u8] = &[0xF0, 0, 0, 0, 2];
 pub const B: &[u8] = &[0xF0, 0, 0, 0, 3];
 /// An AID that is never installed.
 pub const X: &[u8] = &[0xF0, 0, 0, 0, 9];
-
-/// The longest record that the Rattle program `cases` reads.
-const LONGEST: usize = 4145;
 
 pub struct Case {
     pub name: &'static str,
@@ -37,55 +35,37 @@ pub fn all() -> Vec<Case> {
     edges::cases().into_iter().chain(misread::cases()).chain(worked::cases()).collect()
 }
 
-/// The input of the Rattle program `cases`: every case, one behind another.
-pub fn input() -> Vec<u8> {
-    all().iter().flat_map(Case::input).collect()
+/// The case of this name.
+pub fn named(name: &str) -> Case {
+    all().into_iter().find(|case| case.name == name).expect("a case of that name")
 }
 
 impl Case {
-    /// Judges the records everywhere, compares, and gives what they got.
+    /// Judges the records everywhere, compares, and gives what they got: what the table says.
     pub fn run(&self, cards: &[&dyn Card]) -> Result<Vec<Verdict>, String> {
-        let mut compare = Compare::new(cards, 0)?;
-        let mut tally = Tally::default();
-        let verdicts = self.steps.iter().map(|step| compare.step(&step.record, &mut tally));
-        verdicts.map(|verdict| verdict.map_err(|difference| difference.to_string())).collect()
-    }
-
-    /// The line that a program prints for the case: each answer, and the package number or `-`.
-    pub fn line(&self, verdicts: &[Verdict]) -> String {
-        let words: Vec<String> = verdicts
-            .iter()
-            .map(|verdict| match verdict.answer {
-                0 => format!("0 {}", verdict.second),
-                answer => format!("{answer} -"),
-            })
-            .collect();
-        format!("{}: {}", self.title(), words.join(", "))
-    }
-
-    /// The name as it is printed.
-    fn title(&self) -> String {
-        format!("{}{}", if self.marked { "M " } else { "" }, self.name)
-    }
-
-    /// The case as the Rattle program `cases` reads it: a length byte and the name, a byte with the number of
-    /// records, and each record behind two length bytes, big-endian.
-    fn input(&self) -> Vec<u8> {
-        let title = self.title();
-        let mut bytes = vec![u8::try_from(title.len()).expect("a name of at most 255 bytes")];
-        bytes.extend(title.bytes());
-        bytes.push(u8::try_from(self.steps.len()).expect("at most 255 records"));
-        for Step { record, .. } in &self.steps {
-            assert!(record.len() <= LONGEST, "a record of {} bytes", record.len());
-            bytes.extend([(record.len() / 256) as u8, (record.len() % 256) as u8]);
-            bytes.extend(record);
+        let judged = caught(|| {
+            let (mut compare, mut tally) = (Compare::new(cards, 0)?, Tally::default());
+            self.steps.iter().map(|step| compare.step(&step.record, &mut tally)).collect::<Result<Vec<_>, _>>()
+        });
+        let verdicts = judged.map_err(|difference| difference.to_string())?;
+        match verdicts.iter().eq(self.expected()) {
+            true => Ok(verdicts),
+            false => Err(format!("{}; expected {}", words(&verdicts), words(self.expected()))),
         }
-        bytes
     }
 
-    pub fn expected(&self) -> Vec<Verdict> {
-        self.steps.iter().map(|step| step.verdict).collect()
+    /// The line that the program prints for the case.
+    pub fn line(&self, verdicts: &[Verdict]) -> String {
+        format!("{}{}: {}", if self.marked { "M " } else { "" }, self.name, words(verdicts))
     }
+
+    fn expected(&self) -> impl Iterator<Item = &Verdict> {
+        self.steps.iter().map(|step| &step.verdict)
+    }
+}
+
+fn words<'a>(verdicts: impl IntoIterator<Item = &'a Verdict>) -> String {
+    verdicts.into_iter().map(Verdict::to_string).collect::<Vec<_>>().join(", ")
 }
 
 fn marked(name: &'static str, steps: Vec<Step>) -> Case {

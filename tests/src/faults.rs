@@ -3,6 +3,7 @@
 
 use crate::bytes;
 use crate::card::{Bytes, Card, Verdict, IMAGE};
+use crate::program::Failure;
 
 /// The byte engine with one of its entries replaced.
 pub struct Fault {
@@ -80,6 +81,14 @@ pub const FAULTS: &[Fault] = &[
     Fault { name: "number-cut-to-a-byte", entry: Entry::ReadOut(number_cut) },
     Fault { name: "aid-with-length", entry: Entry::Aid(aid_with_length) },
 ];
+
+/// The fault that the option `--fault` names.
+pub fn named(name: &str) -> Result<&'static dyn Card, Failure> {
+    let named = FAULTS.iter().find(|fault| fault.name() == name);
+    let names = || FAULTS.iter().map(|fault| fault.name()).collect::<Vec<_>>().join(", ");
+    let bad = || Failure::bad_use(format!("--fault {name}: not known; there are {}", names()));
+    named.map(|fault| fault as &dyn Card).ok_or_else(bad)
+}
 
 /// Judges rightly, but never changes the image.
 fn never_changes(image: &mut [u8], record: &[u8]) -> Verdict {

@@ -73,7 +73,7 @@ fn shortest(cards: &[&dyn Card], seed: u64, history: &[Vec<u8>], found: Differen
 }
 
 /// A panic is a difference too.
-fn caught(tried: impl FnOnce() -> Result<(), Difference>) -> Result<(), Difference> {
+pub fn caught<T>(tried: impl FnOnce() -> Result<T, Difference>) -> Result<T, Difference> {
     catch_unwind(AssertUnwindSafe(tried)).unwrap_or_else(|panic| {
         let words = panic.downcast_ref::<String>().map(String::as_str).or(panic.downcast_ref::<&str>().copied());
         Err(format!("a panic: {}", words.unwrap_or("without words")).into())

@@ -12,7 +12,7 @@ const PROGRAMS: [&str; 4] = [
 ];
 
 /// A short run of each program, and of each of its ways to write.
-const RUNS: [&str; 11] = [
+const RUNS: [&str; 10] = [
     "bench --rounds 1",
     "bench --count 2 --calls 1",
     "bench --help",
@@ -21,7 +21,6 @@ const RUNS: [&str; 11] = [
     "cardtool encode --raw RECORDS",
     "cases",
     "cases --records",
-    "cases --stdin",
     "differ --records 10",
     "differ --help",
 ];
@@ -51,6 +50,10 @@ fn closed() -> Stdio {
 
 fn errors(output: &Output) -> String {
     String::from_utf8_lossy(&output.stderr).into_owned()
+}
+
+fn printed(output: &Output) -> String {
+    String::from_utf8_lossy(&output.stdout).into_owned()
 }
 
 #[test]
@@ -106,8 +109,8 @@ fn a_bad_command_line_is_2() {
     fails("bench --rounds x", 2, "bench: --rounds x: not a number, or too large\n");
     fails("bench --count 11", 2, "bench: --count 11: not 1 to 10, check or read_out\n");
     fails("bench --count 1 --of no", 2, "bench: --of: no such engine is linked\n");
-    fails("cases --bogus", 2, "cases: '--bogus' is not known; there are --records, --stdin and --help\n");
-    fails("cases --records --stdin", 2, "cases: one option can be given\n");
+    fails("cases --bogus", 2, "cases: '--bogus' is not known; there are --records, --fault and --help\n");
+    fails("cases --fault", 2, "cases: either --records or --fault NAME can be given\n");
     fails("differ --damage 3", 2, "differ: --damage 3: not as in 3=0F,1093=01\n");
     fails("differ --replay no-such-file", 2, "differ: no-such-file: No such file or directory (os error 2)\n");
     let missing = "a command is missing; there are encode, decode, show, build, dump, judge and --help";
@@ -126,7 +129,23 @@ fn an_argument_that_is_no_text_is_told() {
 
 #[test]
 fn a_difference_is_1() {
-    let ended = program("differ --fault grants-lost").output().expect("differ");
-    assert_eq!((ended.status.code(), errors(&ended).as_str()), (Some(1), "differ: the comparison failed\n"));
-    assert!(String::from_utf8_lossy(&ended.stdout).contains("\nFAILED: "));
+    let runs = [
+        ("differ --fault grants-lost", "differ: the comparison failed\n"),
+        ("cases --fault grants-lost", "cases: 2 cases failed\n"),
+    ];
+    for (run, words) in runs {
+        let ended = program(run).output().expect(run);
+        assert_eq!((ended.status.code(), errors(&ended).as_str()), (Some(1), words));
+        assert!(printed(&ended).contains("FAILED: "), "{run}");
+    }
+}
+
+/// The proved engine is among those compared when its archive is linked.
+#[test]
+fn what_is_compared_is_said_first() {
+    let engines = if cfg!(feature = "engine") { "bytes and engine" } else { "bytes" };
+    for (run, rest) in [("cases", ""), ("differ --records 10", ", seed 455")] {
+        let ended = program(run).output().expect(run);
+        assert_eq!(printed(&ended).lines().next(), Some(format!("machine against {engines}{rest}").as_str()), "{run}");
+    }
 }

@@ -1,9 +1,9 @@
 //! Compares the engines on random histories. `differ --help` lists the options.
 
-use second::card::{linked, Card};
+use second::card::{linked, names, Card};
 use second::compare::Tally;
 use second::damage::Damage;
-use second::faults::FAULTS;
+use second::faults;
 use second::hex::{from_hex, to_hex};
 use second::program::{self, number, Failure};
 use second::run::{replay, run, DEFAULT_RECORDS, DEFAULT_SEED};
@@ -37,8 +37,7 @@ fn main() -> ExitCode {
         let arguments = arguments(given)?;
         let mut cards = linked();
         cards.extend(arguments.fault);
-        let names: Vec<&str> = cards.iter().map(|card| card.name()).collect();
-        say_line!("machine against {}, seed {}", names.join(" and "), arguments.seed);
+        say_line!("machine against {}, seed {}", names(&cards), arguments.seed);
         // A panic is a difference, and is told as one.
         std::panic::set_hook(Box::new(|_| {}));
         match &arguments.replay {
@@ -61,17 +60,10 @@ fn arguments(given: &[String]) -> Result<Arguments, Failure> {
                 let bad = || Failure::bad_use(format!("{name} {value}: not as in 3=0F,1093=01"));
                 arguments.damage = Damage::from_text(value).ok_or_else(bad)?;
             }
-            _ => arguments.fault = Some(fault(value)?),
+            _ => arguments.fault = Some(faults::named(value)?),
         }
     }
     Ok(arguments)
-}
-
-fn fault(name: &str) -> Result<&'static dyn Card, Failure> {
-    let named = FAULTS.iter().find(|fault| fault.name() == name);
-    let names = || FAULTS.iter().map(|fault| fault.name()).collect::<Vec<_>>().join(", ");
-    let bad = || Failure::bad_use(format!("--fault {name}: not known; there are {}", names()));
-    named.map(|fault| fault as &dyn Card).ok_or_else(bad)
 }
 
 /// What was found, on standard output with the rest.
