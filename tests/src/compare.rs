@@ -82,9 +82,9 @@ impl<'a> Compare<'a> {
         Ok(Compare { cards, machine: Machine::default(), image, seed })
     }
 
-    /// Judges a record everywhere and compares all that the paper determines.
+    /// Judges a record and compares all that the paper determines.
     pub fn step(&mut self, bytes: &[u8], tally: &mut Tally) -> Result<Verdict, Difference> {
-        let verdict = judge_alike(self.cards, &mut self.machine, &mut self.image, bytes, &mut tally.pairs)?;
+        let verdict = self.judge(bytes, &mut tally.pairs)?;
         let mut random = Random::of_bytes(self.seed, &[&self.image, bytes].concat());
         let before = self.image.clone();
         self.check_alike()?;
@@ -97,6 +97,50 @@ impl<'a> Compare<'a> {
             self.damaged_alike(&draw(&self.image, &mut random), bytes, tally)?;
         }
         self.count(tally);
+        Ok(verdict)
+    }
+
+    /// Judges a record. Answers are equal, other engines give what the first gives to the byte, a refusal changes
+    /// nothing, and the tables stand for the machine's contracts.
+    pub fn judge(&mut self, bytes: &[u8], pairs: &mut Pairs) -> Result<Verdict, String> {
+        let before = self.image.clone();
+        let answer = self.machine.judge(bytes);
+        let kind = Kind::of(bytes);
+        pairs.count(kind, answer);
+        expect!(possible(kind, answer), "the paper has no answer {answer} to kind {kind}");
+        let mut first = None;
+        for card in self.cards {
+            let (mut own, lent) = (before.clone(), bytes.to_vec());
+            let verdict = card.judge(&mut own, &lent);
+            let place = || format!("{}: judging gives {verdict:?}", card.name());
+            expect!(*black_box(&lent) == *bytes, "{} and changes the record", place());
+            expect!(verdict.answer == answer, "{}, the machine {answer}", place());
+            match &first {
+                None => {
+                    self.image = own;
+                    first = Some(verdict);
+                }
+                Some(given) => {
+                    let first = self.cards[0].name();
+                    expect!(verdict == *given, "{}, {first} {given:?}", place());
+                    let at = (0..IMAGE).find(|at| own[*at] != self.image[*at]);
+                    expect!(at.is_none(), "{} and another byte {} than {first}", place(), at.unwrap_or(0));
+                }
+            }
+        }
+        let verdict = first.ok_or("no engine")?;
+        if answer == 0 {
+            let named = record::read(bytes).ok().map(|record| record.aid);
+            let numbered = if kind == Kind::Known(2) { &before } else { &self.image };
+            expect!(tables::aid_at(numbered, verdict.second) == named, "{verdict:?} has not the package's number");
+        } else {
+            expect!(verdict.second == 255, "{verdict:?} is a refusal without 255");
+            expect!(self.image == before, "{verdict:?} is a refusal that changes the image");
+        }
+        let stands_for = tables::contracts(&self.image);
+        expect!(stands_for.is_some(), "the image is not sound after {verdict:?}");
+        let same = stands_for.as_ref() == Some(&self.machine);
+        expect!(same, "the image stands for other contracts after {verdict:?}");
         Ok(verdict)
     }
 
@@ -202,7 +246,7 @@ impl<'a> Compare<'a> {
     /// A damaged image that is sound is a card like any other.
     fn sound_alike(mut self, bytes: &[u8], tally: &mut Tally) -> Result<(), String> {
         self.check_alike()?;
-        judge_alike(self.cards, &mut self.machine, &mut self.image, bytes, &mut tally.pairs)?;
+        self.judge(bytes, &mut tally.pairs)?;
         self.check_alike()
     }
 
@@ -217,54 +261,6 @@ impl<'a> Compare<'a> {
         tally.eight_packages += u64::from(contracts.len() == 8);
         tally.eight_services += u64::from(contracts.values().any(|contract| contract.provides.len() == 8));
     }
-}
-
-/// Judges a record on a sound image. Answers are equal, other engines give what the first gives to
-/// the byte, a refusal changes nothing, and the tables stand for the machine's contracts.
-fn judge_alike(
-    cards: &[&dyn Card],
-    machine: &mut Machine,
-    image: &mut Vec<u8>,
-    bytes: &[u8],
-    pairs: &mut Pairs,
-) -> Result<Verdict, String> {
-    let before = image.clone();
-    let answer = machine.judge(bytes);
-    let kind = Kind::of(bytes);
-    pairs.count(kind, answer);
-    expect!(possible(kind, answer), "the paper has no answer {answer} to kind {kind}");
-    let mut first = None;
-    for card in cards {
-        let (mut own, lent) = (before.clone(), bytes.to_vec());
-        let verdict = card.judge(&mut own, &lent);
-        let place = || format!("{}: judging gives {verdict:?}", card.name());
-        expect!(*black_box(&lent) == *bytes, "{} and changes the record", place());
-        expect!(verdict.answer == answer, "{}, the machine {answer}", place());
-        match &first {
-            None => {
-                *image = own;
-                first = Some(verdict);
-            }
-            Some(first) => {
-                expect!(verdict == *first, "{}, {} {first:?}", place(), cards[0].name());
-                let at = (0..IMAGE).find(|at| own[*at] != image[*at]);
-                expect!(at.is_none(), "{} and another byte {} than {}", place(), at.unwrap_or(0), cards[0].name());
-            }
-        }
-    }
-    let verdict = first.ok_or("no engine")?;
-    if answer == 0 {
-        let named = record::read(bytes).ok().map(|record| record.aid);
-        let numbered = if kind == Kind::Known(2) { &before } else { &*image };
-        expect!(tables::aid_at(numbered, verdict.second) == named, "{verdict:?} has not the package's number");
-    } else {
-        expect!(verdict.second == 255, "{verdict:?} is a refusal without 255");
-        expect!(*image == before, "{verdict:?} is a refusal that changes the image");
-    }
-    let stands_for = tables::contracts(image);
-    expect!(stands_for.is_some(), "the image is not sound after {verdict:?}");
-    expect!(stands_for.as_ref() == Some(machine), "the image stands for other contracts after {verdict:?}");
-    Ok(verdict)
 }
 
 /// Whether the lists have the rows of the contract, each once.

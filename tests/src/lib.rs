@@ -23,6 +23,9 @@ pub mod tables;
 // The cases of the paper and of the report.
 pub mod cases;
 
+// What the session program prints.
+pub mod session;
+
 // What is timed.
 pub mod full_card;
 

@@ -1,0 +1,177 @@
+//! The inputs that the session program is run on: its edges, and random histories.
+
+use super::frames;
+use crate::card::LONGEST_RECORD;
+use crate::cases::{named, H};
+use crate::generate::Source;
+use crate::machine::Machine;
+use crate::random::Random;
+use crate::write::{add_service, load, record, Row};
+
+/// An input, and what it is.
+#[derive(Clone)]
+pub struct Stream {
+    pub name: String,
+    pub input: Vec<u8>,
+}
+
+impl Stream {
+    fn new(name: impl Into<String>, input: Vec<u8>) -> Stream {
+        Stream { name: name.into(), input }
+    }
+
+    /// The first bytes of it.
+    fn cut(&self, bytes: usize) -> Stream {
+        let bytes = bytes.min(self.input.len());
+        Stream::new(format!("{}, cut off after {bytes} bytes", self.name), self.input[..bytes].to_vec())
+    }
+}
+
+/// Every input.
+pub fn all() -> Vec<Stream> {
+    [edges(), histories()].concat()
+}
+
+/// The paper's four records.
+pub fn paper() -> Vec<Vec<u8>> {
+    named("the four records of the session").steps.into_iter().map(|step| step.record).collect()
+}
+
+/// What the paper says of lengths, of kinds, of the longest record, and of the end; and ordinals of every width.
+pub fn edges() -> Vec<Stream> {
+    let one = vec![Stream::new("the paper's four records", paper().concat()), Stream::new("no bytes", Vec::new())];
+    [one, single_bytes(), lengths(), kinds(), longest(), counts()].concat()
+}
+
+/// A single byte, alone and behind records.
+fn single_bytes() -> Vec<Stream> {
+    let alone = [0, 1, 4, 255].map(|byte| Stream::new(format!("the byte {byte}"), vec![byte]));
+    let behind = [0, 255].map(|byte| {
+        let input = [paper().concat(), vec![byte]].concat();
+        Stream::new(format!("the byte {byte} behind four records"), input)
+    });
+    alone.into_iter().chain(behind).collect()
+}
+
+/// Good and bad lengths, with as many bytes as they say, with more and with less; alone, behind records and before them.
+fn lengths() -> Vec<Stream> {
+    let mut streams = Vec::new();
+    for length in [0, 1, 2, 3, 4, 5, 255, 256, 257, 4096, 4144, 4145, 4146, 4147, 8192, 32_768, 65_535] {
+        let said = usize::from(length);
+        let mut sizes = vec![2, 3, 4, said, said + 1, said.saturating_sub(1), said / 2];
+        sizes.retain(|size| *size >= 2);
+        sizes.sort();
+        sizes.dedup();
+        for size in sizes {
+            let frame = junk(length, size);
+            for (before, after) in [(0, 0), (4, 0), (0, 4), (3, 1)] {
+                let name = format!("{before} records, a length of {said} with {size} bytes, {after} records");
+                let around = |records: usize| paper()[..records].concat();
+                streams.push(Stream::new(name, [around(before), frame.clone(), around(after)].concat()));
+            }
+        }
+    }
+    streams
+}
+
+/// So many bytes, two at least: a length field, version 1, kind 1 and junk.
+fn junk(length: u16, size: usize) -> Vec<u8> {
+    let mut bytes = vec![0x5A; size.max(4)];
+    bytes[..2].copy_from_slice(&length.to_be_bytes());
+    bytes[2..4].fill(1);
+    bytes.truncate(size);
+    bytes
+}
+
+/// Every kind, known or not: as a record of four bytes, and before an AID.
+fn kinds() -> Vec<Stream> {
+    let aid = [&[5], H].concat();
+    let rest: [&[u8]; 2] = [&[], &aid];
+    let each = rest.map(|rest| (0..=255).flat_map(|kind| record(kind, &[rest])).collect::<Vec<_>>());
+    let mut streams: Vec<_> = each.map(|input| Stream::new("every kind", input)).into();
+    for kind in [0, 11, 12, 99, 255] {
+        let input = [paper()[0].clone(), record(kind, &[&aid]), paper()[1].clone()].concat();
+        streams.push(Stream::new(format!("kind {kind} between records"), input));
+    }
+    streams
+}
+
+/// The longest record, which is a load, and the longest that adds a service: both read to the end.
+fn longest() -> Vec<Stream> {
+    let aid = |n: u8| vec![n; 16];
+    let services: Vec<_> = (0..8).map(|method| (1, method)).collect();
+    let rows: Vec<Row> = (1..=72).map(|n| (aid(n), services[0])).collect();
+    let loaded = load(&aid(0), &services, &rows, &rows, &rows);
+    assert_eq!(loaded.len(), LONGEST_RECORD);
+    let callers: Vec<_> = (1..=32).map(aid).collect();
+    let added = [load(&aid(0), &[], &[], &[], &[]), add_service(&aid(0), (1, 0), &callers)].concat();
+    let four = paper().concat();
+    let mut byte_more = loaded.clone();
+    byte_more.push(0);
+    vec![
+        Stream::new("the longest load", loaded.clone()),
+        Stream::new("the longest load twice, between records", [&four[..], &loaded, &loaded, &four].concat()),
+        Stream::new("the longest load, a byte short", loaded[..LONGEST_RECORD - 1].to_vec()),
+        Stream::new("the longest load and a byte", byte_more),
+        Stream::new("a load, and a service with 32 grants", added),
+    ]
+}
+
+/// So many records that ordinals have one to five digits and pass 16 bits; the last line is a record's or a bad frame's.
+fn counts() -> Vec<Stream> {
+    let mut streams = Vec::new();
+    for count in [9, 10, 99, 100, 300, 999, 1_000, 9_999, 65_600] {
+        let records: Vec<u8> = paper().into_iter().cycle().take(count).flatten().collect();
+        let ended = [&records[..], &[0, 0, 1, 1]].concat();
+        streams.push(Stream::new(format!("{count} records"), records));
+        streams.push(Stream::new(format!("{count} records and a length of 0"), ended));
+    }
+    streams
+}
+
+/// Random histories by seed: whole, cut off at random places, and with a byte changed.
+pub fn histories() -> Vec<Stream> {
+    let mut streams = Vec::new();
+    for seed in 1..=12 {
+        let framed = history(seed, true);
+        let mut random = Random::new(seed);
+        let ends = ends(&framed.input);
+        for _ in 0..6 {
+            streams.push(framed.cut(random.below(framed.input.len())));
+            let end = *random.pick(&ends).expect("a record");
+            streams.push(framed.cut(end + random.below(4)));
+            let mut input = framed.input.clone();
+            let at = random.below(input.len());
+            input[at] = random.byte();
+            streams.push(Stream::new(format!("{}, byte {at} changed", framed.name), input));
+        }
+        streams.push(framed);
+        streams.push(history(seed, false));
+    }
+    streams
+}
+
+/// 400 records of one card's history. `framed`: those alone that are as long as they say, good or spoiled; else all, so
+/// that sooner or later a length is wrong.
+pub fn history(seed: u64, framed: bool) -> Stream {
+    let (mut source, mut held) = (Source::new(seed, 0), Machine::default());
+    let mut records = Vec::new();
+    while records.len() < 400 {
+        let record = source.record(&held);
+        if !framed || frames(&record).records == [&record[..]] {
+            held.judge(&record);
+            records.push(record);
+        }
+    }
+    let sort = if framed { "framed" } else { "any" };
+    Stream::new(format!("history {seed}, {sort}"), records.concat())
+}
+
+/// Where each record ends.
+fn ends(input: &[u8]) -> Vec<usize> {
+    let ends = frames(input).records.into_iter().scan(0, |end, record| {
+        *end += record.len();
+        Some(*end)
+    });
+    ends.collect()
+}
