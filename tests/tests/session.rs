@@ -267,12 +267,13 @@ fn an_input_may_be_closed() {
 #[test]
 fn other_programs_are_found() {
     let input = paper().concat();
-    let found = |command: &str| {
-        let printed = printed(in_shell(command), whole(&input), Duration::from_secs(1));
-        difference(&transcript(&input), printed).unwrap_or_default()
+    let found = |command: &str, limit| {
+        difference(&transcript(&input), printed(in_shell(command), whole(&input), limit)).unwrap_or_default()
     };
-    assert_eq!(found("exec sleep 60"), "runs for more than 1s");
-    assert_eq!(found("exec >&-; exec sleep 60"), "runs for more than 1s");
+    let short = Duration::from_millis(100);
+    assert_eq!(found("exec sleep 60", short), "runs for more than 100ms");
+    assert_eq!(found("exec >&-; exec sleep 60", short), "runs for more than 100ms");
+    let found = |command| found(command, LIMIT);
     assert_eq!(found("\"$0\"; exit 1"), "ends with exit status: 1");
     assert_eq!(found("cat > /dev/null"), "prints None, and Some(\"1 1 0 0\\n\") is expected");
     assert_eq!(found("\"$0\"; echo"), "prints Some(\"\\n\"), and None is expected");
