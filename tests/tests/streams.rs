@@ -1,7 +1,8 @@
 //! The streams that the session program is run on tell it from programs that are wrong in one way each.
 
-use second::session::streams::all;
-use second::session::{frames, Frames};
+use second::pairs::{Kind, POSSIBLE};
+use second::session::streams::{all, history, SEEDS};
+use second::session::{frames, transcript, Frames};
 
 /// A wrong program: what it makes of the frames and of the right lines.
 type Wrong = fn(&Frames, Vec<String>) -> Vec<String>;
@@ -98,4 +99,15 @@ fn the_streams_tell_wrong_programs_from_the_right_one() {
         }
     }
     panic!("not told: {:?}", left.iter().map(|(name, _)| *name).collect::<Vec<_>>());
+}
+
+/// Every answer that the paper makes possible for a kind is in a history's lines, but for 1: no session's image is unsound.
+#[test]
+fn the_histories_have_every_pair() {
+    let lines: String = SEEDS.map(|seed| transcript(&history(seed, true).input)).collect();
+    for (kind, answers) in POSSIBLE {
+        for answer in answers.iter().filter(|answer| matches!(kind, Kind::Known(_)) && **answer != 1) {
+            assert!(lines.contains(&format!(" {kind} {answer} ")), "kind {kind} never has answer {answer}");
+        }
+    }
 }

@@ -7,6 +7,7 @@ use crate::generate::Source;
 use crate::machine::Machine;
 use crate::random::Random;
 use crate::write::{add_service, load, record, Row};
+use std::ops::RangeInclusive;
 
 /// An input, and what it is.
 #[derive(Clone)]
@@ -129,10 +130,13 @@ fn counts() -> Vec<Stream> {
     streams
 }
 
-/// Random histories by seed: whole, cut off at random places, and with a byte changed.
+/// The seeds of the random histories.
+pub const SEEDS: RangeInclusive<u64> = 1..=12;
+
+/// Random histories: whole, cut off at random places, and with a byte changed.
 pub fn histories() -> Vec<Stream> {
     let mut streams = Vec::new();
-    for seed in 1..=12 {
+    for seed in SEEDS {
         let framed = history(seed, true);
         let mut random = Random::new(seed);
         let ends = ends(&framed.input);
