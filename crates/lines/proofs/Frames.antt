@@ -123,10 +123,3 @@ announced-sizes high low n h = go (high * 256 + low) (leb 4 (high * 256 + low)) 
         let u : m ≤ longest = leb-true m longest q in (e, omega arith, omega arith)
     go m true false p q h = let z : _≡_ {A = ℕ} 0 1 = cc in absurd (omega arith)
     go m false b p q h = let z : _≡_ {A = ℕ} 0 1 = cc in absurd (omega arith)
-
--- as many bytes as they announce are a record, and nothing behind it
-pub whole-frame : (high low n : ℕ) (t : List ℕ) → announced high low ≡ Record n → length (high ∷ low ∷ t) ≡ n → frame (high ∷ low ∷ t) ≡ holds (high ∷ low ∷ t) []
-whole-frame high low n t e m =
-    let s : List ℕ = high ∷ low ∷ t in
-    ap (λ (f : Frame). cut f s) e
-    ∙ rw (le-leb n (length s) (omega arith)) (λ i. holds (take-all n s (omega arith) i) (drop-of-length-le s {i = n} (omega arith) i))

@@ -6,6 +6,8 @@ use lib.Dec.{leb}
 use lib.ListN.{length, take, drop}
 use Rattle.lines.specs.declared.Frame.{Frame}
 use Rattle.lines.specs.declared.Frame.the-variants.{Record, Bad}
+use Rattle.lines.specs.declared.Held.{Held}
+use Rattle.lines.specs.declared.Held.the-variants as held
 
 -- the longest record
 abbrev pub longest : ℕ
@@ -32,6 +34,17 @@ frame [] = ends
 frame (b ∷ []) = broken
 frame (high ∷ low ∷ s) = cut (announced high low) (high ∷ low ∷ s)
 
+-- ---- the same of an input of which these bytes are held, and no more come where it has ended
+abbrev pub announcedAs : Frame → ℕ → Bool → Held
+announcedAs (Record n) have ended = cond (leb n have) (held.Record n) (cond ended held.Bad (held.Start n))
+announcedAs Bad have ended = held.Bad
+
+unfoldable pub heldAs : List ℕ → Bool → Held
+heldAs [] ended = cond ended held.End (held.Start 2)
+heldAs (b ∷ []) ended = cond ended held.Bad (held.Start 2)
+heldAs (high ∷ low ∷ s) ended = announcedAs (announced high low) (length (high ∷ low ∷ s)) ended
+
+-- ---- a whole input
 -- an input's records, in order, and whether a bad frame follows them
 pub record Session : Type 0 where
   pub records : List (List ℕ)

@@ -1,16 +1,24 @@
--- The images that a run of a program goes through.
-use Prim.Native.Nat.{ℕ}
+-- How far a run of the session program has come.
+use Prim.Native.Nat.{ℕ, suc}
 use mathlib.Core.Path.{_≡_}
-use mathlib.Core.List.{List}
+use mathlib.Core.List.{List, [], _∷_, _++_}
+use lib.ListN.{length}
 use Rattle.policy.specs.Layout.{small}
 use Rattle.policy.specs.Tables.{emptyImage}
 use Rattle.policy.specs.History.{imageAfter}
+use Rattle.lines.specs.Frames.{holds, frame}
 
--- what is left of an image after some records were judged on it in turn
-pub record After (img left : List ℕ) : Type 0 where
+-- a record as it is cut from an input, whatever follows
+abbrev pub IsFrame : List ℕ → Type 0
+IsFrame r = (rest : List ℕ) → frame (r ++ rest) ≡ holds r rest
+
+abbrev pub EachFrame : List (List ℕ) → Type 0
+EachFrame [] = Unit {0}
+EachFrame (r ∷ rs) = IsFrame r × EachFrame rs
+
+-- 'It starts on the empty image', 'ordinal from 1': frames were judged in turn, and the next line has ordinal n
+pub record Reached (n : ℕ) (image : List ℕ) : Type 0 where
   pub records : List (List ℕ)
-  pub left-is : left ≡ imageAfter small img records
-
--- 'It starts on the empty image'
-abbrev pub Reached : List ℕ → Type 0
-Reached left = After (emptyImage small) left
+  pub frames : EachFrame records
+  pub counted : n ≡ suc (length records)
+  pub image-is : image ≡ imageAfter small (emptyImage small) records

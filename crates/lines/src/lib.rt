@@ -4,7 +4,7 @@ ghost use mathlib.Core.Path.{_≡_};
 ghost use mathlib.Core.List.{[], _∷_};
 ghost use lib.ListN.{length};
 ghost use Rattle.lines.specs.Lines.{digits, shown, line, recordLine, badLine, Wrote, Printed};
-ghost use Rattle.lines.specs.Frames.{announced};
+ghost use Rattle.lines.specs.Frames.{announced, heldAs};
 
 // What stands in a column of a line: a number, or `-`.
 pub enum Shown {
@@ -18,6 +18,18 @@ pub enum Frame {
     Record(usize),
     // No record has this length.
     Bad,
+}
+
+// What the bytes held of an input are.
+pub enum Held {
+    // A record of so many bytes, whole.
+    Record(usize),
+    // The start of a frame, which goes on up to this many bytes.
+    Start(usize),
+    // The bad frame.
+    Bad,
+    // No bytes, and none to come.
+    End,
 }
 
 // The byte put at index at.
@@ -99,4 +111,30 @@ pub fn frame_length(high: u8, low: u8) -> Frame
         return Frame::Bad;
     }
     Frame::Record(n)
+}
+
+// What the bytes held are, where ended says that no more come.
+pub fn frame_held(bytes: &[u8], ended: bool) -> Held
+    ensures { λ r. ⌜ r ≡ heldAs (now (bytes .entry)) ended ⌝ }
+{
+    let have = bytes.len();
+    if have < 2 {
+        if ended {
+            if have == 0 {
+                return Held::End;
+            }
+            return Held::Bad;
+        }
+        return Held::Start(2);
+    }
+    let Frame::Record(size) = frame_length(bytes[0], bytes[1]) else {
+        return Held::Bad;
+    };
+    if size <= have {
+        return Held::Record(size);
+    }
+    if ended {
+        return Held::Bad;
+    }
+    Held::Start(size)
 }

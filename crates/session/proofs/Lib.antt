@@ -1,2 +1,3 @@
 mod Answered
-mod Reading
+mod Turning
+mod Running

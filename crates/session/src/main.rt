@@ -1,19 +1,20 @@
 // The session program: reads records from standard input, judges each on one card, and prints a line for each at once.
+// What decides stands in `turn`; around it the program reads, writes and loops.
 use geometry::Card;
 use libc::STDIN_FILENO;
 use libc::STDOUT_FILENO;
-use lines::Frame;
+use lines::Held;
 ghost use mathlib.Core.Path.{_≡_};
-ghost use Prim.Native.Nat.{_≤_};
-ghost use lib.ListN.{length, getD};
+ghost use mathlib.Core.Bool.{true};
+ghost use Prim.Native.Nat.{_≤_, _<_, _^_, _-_};
+ghost use lib.ListN.{length, take, getD};
 ghost use Rattle.lines.specs.Lines.{recordLine, Printed};
-ghost use Rattle.lines.specs.Session.{judging};
+ghost use Rattle.lines.specs.Session.{judging, turn as turnOf};
 ghost use Rattle.lines.specs.Frames.{longest};
-ghost use Rattle.lines.specs.Reached.{After, Reached};
 ghost use Rattle.policy.specs.Layout.{small, size};
-ghost use Rattle.session.specs.Input.{Held};
+ghost use Rattle.session.specs.Turned.{Turned, lastOrdinal, Ready, Advanced, Ran};
 
-// One record: judged on the image, and its line put into text. This is one turn of the transcript.
+// One record: judged on the image, and its line put into text.
 fn answer_record(image: &mut [u8], rec: &[u8], ordinal: u64, text: &mut [u8; 40]) -> usize
     requires { ⌜ 4 ≤ length (now rec) ⌝ }
     ensures { λ r. ⌜ Printed
@@ -27,79 +28,116 @@ fn answer_record(image: &mut [u8], rec: &[u8], ordinal: u64, text: &mut [u8; 40]
     lines::record_line(text, ordinal, rec[3], v.number, v.second)
 }
 
-// Prints the line of a bad frame, which ends the run.
-fn end_badly(ordinal: u64) -> bool {
-    let mut text = [0u8; 40];
-    let n = lines::bad_line(&mut text, ordinal);
-    io::write_all(STDOUT_FILENO, &text[..n]);
-    false
-}
-
-// Judges a record and prints its line; answers whether the line was taken.
-fn print_answer(image: &mut [u8], rec: &[u8], ordinal: u64) -> bool
-    requires { ⌜ 4 ≤ length (now rec) ⌝ }
-    ensures { λ _. ⌜ now (image .exit) ≡ judging (now (image .entry)) (now (rec .entry)) .2 ⌝ }
-{
-    let mut text = [0u8; 40];
-    let n = answer_record(image, rec, ordinal, &mut text);
-    io::write_all(STDOUT_FILENO, &text[..n])
-}
-
-// What the input holds next.
-pub enum Input {
-    // A record of so many bytes.
-    Record(usize),
-    // A bad frame.
-    Bad,
-    // No bytes.
+// What a turn calls for.
+pub enum Then {
+    // Bytes of the input, up to so many.
+    Read(usize),
+    // The first bytes of text written, and the next turn.
+    Line(usize),
+    // The first bytes of text written, and no more.
+    Last(usize),
+    // Nothing: the input is at its end.
     End,
 }
 
-// Reads a frame whole into buf. A pipe may deliver it in pieces; `read_full` waits for all of them.
-fn read_frame(buf: &mut [u8]) -> Input
-    requires { ⌜ length (now buf) ≡ longest ⌝ }
-    ensures { λ r. ⌜ Held r (now (buf .exit)) ⌝ }
+// One turn of the transcript, on the bytes held of the next frame.
+fn turn(image: &mut [u8], held: &[u8], ended: bool, ordinal: u64, text: &mut [u8; 40]) -> Then
+    ensures { λ r. ⌜ Turned
+        (turnOf ordinal (now (image .entry)) (now (held .entry)) ended) r
+        (now (image .entry)) (now (image .exit)) (now (text .entry)) (now (text .exit)) ⌝ }
 {
-    let got = io::read_full(STDIN_FILENO, &mut buf[..2]);
-    if got == 0 {
-        return Input::End;
+    match lines::frame_held(held, ended) {
+        Held::Record(size) => Then::Line(answer_record(image, &held[..size], ordinal, text)),
+        Held::Start(size) => Then::Read(size),
+        Held::Bad => Then::Last(lines::bad_line(text, ordinal)),
+        Held::End => Then::End,
     }
-    if got < 2 {
-        return Input::Bad;
-    }
-    let Frame::Record(size) = lines::frame_length(buf[0], buf[1]) else {
-        return Input::Bad;
-    };
-    let rest = io::read_full(STDIN_FILENO, &mut buf[2..size]);
-    if rest < size - 2 {
-        return Input::Bad;
-    }
-    Input::Record(size)
 }
 
-// One frame of the input: prints its line, and answers whether to go on. Only a record that is judged changes the image.
-fn turn(image: &mut [u8], buf: &mut [u8], ordinal: u64) -> bool
-    requires { ⌜ length (now buf) ≡ longest ⌝ }
-    ensures { λ _. ⌜ After (now (image .entry)) (now (image .exit)) ⌝ }
+// How far a run has come.
+pub struct Progress {
+    // The ordinal of the next line.
+    pub ordinal: u64,
+    // Bytes held of the next frame, and whether the input has ended behind them.
+    pub have: usize,
+    pub ended: bool,
+    // Whether a turn follows, and whether a line was not taken.
+    pub going: bool,
+    pub closed: bool,
+}
+
+// One turn of the program.
+fn advance(image: &mut [u8], buf: &mut [u8], p: Progress) -> Progress
+    requires { ⌜ Ready p (now buf) ⌝ }
+    ensures { λ r. ⌜ Advanced
+        (turnOf (p .ordinal) (now (image .entry)) (take (p .have) (now (buf .entry))) (p .ended)) p r
+        (now (image .entry)) (now (image .exit)) (now (buf .entry)) (now (buf .exit)) ⌝ }
 {
-    match read_frame(buf) {
-        Input::Record(size) => print_answer(image, &buf[..size], ordinal),
-        Input::Bad => end_badly(ordinal),
-        Input::End => false,
+    let mut text = [0u8; 40];
+    let ordinal = p.ordinal;
+    let have = p.have;
+    let ended = p.ended;
+    match turn(image, &buf[..have], ended, ordinal, &mut text) {
+        Then::Read(to) => {
+            let want = to - have;
+            let got = io::read_full(STDIN_FILENO, &mut buf[have..to]);
+            Progress {
+                ordinal,
+                have: have + got,
+                ended: got < want,
+                going: true,
+                closed: false,
+            }
+        }
+        Then::Line(n) => {
+            let taken = io::write_all(STDOUT_FILENO, &text[..n]);
+            let next = ordinal + 1;
+            Progress {
+                ordinal: next,
+                have: 0,
+                ended,
+                going: taken & (next < u64::MAX),
+                closed: !taken,
+            }
+        }
+        Then::Last(n) => {
+            io::write_all(STDOUT_FILENO, &text[..n]);
+            Progress {
+                ordinal,
+                have,
+                ended,
+                going: false,
+                closed: false,
+            }
+        }
+        Then::End => Progress {
+            ordinal,
+            have,
+            ended,
+            going: false,
+            closed: false,
+        },
     }
 }
 
 // The run, from the empty image on. A proved loop has to end, and nothing says that the input does: so it stops at an ordinal that no run reaches, 2^64 - 1.
-fn run(image: &mut [u8], buf: &mut [u8])
+fn run(image: &mut [u8], buf: &mut [u8]) -> Progress
     requires image_size { ⌜ length (now image) ≡ size small ⌝ }
     requires buf_size { ⌜ length (now buf) ≡ longest ⌝ }
-    ensures { λ _. ⌜ Reached (now (image .exit)) ⌝ }
+    ensures { λ r. ⌜ Ran r (now (image .exit)) (now (buf .exit)) ⌝ }
 {
     engine::empty::write_empty(image, Card::Small);
-    let mut ordinal: u64 = 1;
-    while ordinal < u64::MAX && turn(image, buf, ordinal) {
-        ordinal += 1;
+    let mut p = Progress {
+        ordinal: 1,
+        have: 0,
+        ended: false,
+        going: true,
+        closed: false,
+    };
+    while p.going {
+        p = advance(image, buf, p);
     }
+    p
 }
 
 fn main() {

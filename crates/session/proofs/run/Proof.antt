@@ -1,18 +1,19 @@
--- `session::run` meets its contract: the image is that of a history all along. The measure is what is left of the ordinals. Assumes nothing.
-use Prim.Native.Nat.{_-_, _^_, _<_}
+-- `session::run` meets its contract: turn by turn, until one calls for nothing more. Assumes nothing.
 use mathlib.Core.Path.{_≡_}
+use native.Mathlib.Omega.{arith}
 use borrow.Author.Needs.{needs}
 use lib.ListN.{length}
-use Rattle.lines.specs.Reached.{Reached}
-use Rattle.lines.proofs.Reached.{starts, onward}
+use Rattle.lines.specs.Frames.{longest}
+use Rattle.lines.proofs.Reached.{starts}
+use Rattle.session.proofs.Running.{Runs, left-over, begins, ready, moves}
 use Rattle.session.proofs.run.Statement.{statement}
 use Rattle.session.proofs.run.Tie as tie
 
 abbrev Inv-loop : tie.InvT-loop
-Inv-loop image₀ buf₀ ordinal₀ image buf ordinal = (length image ≡ length image₀) × (length buf ≡ length buf₀) × (ordinal < 2 ^ 64) × Reached image
+Inv-loop image₀ buf₀ p₀ image buf p = (length image ≡ length image₀) × (length buf ≡ length buf₀) × Runs p image buf
 
 abbrev μ-loop : tie.MeasureT-loop
-μ-loop image₀ buf₀ ordinal₀ image buf ordinal = 2 ^ 64 - ordinal
+μ-loop image₀ buf₀ p₀ image buf p = left-over p
 
 write-empty-requires : tie.Need-write-empty-requires Inv-loop μ-loop
 write-empty-requires c κs = search needs
@@ -20,20 +21,20 @@ write-empty-requires c κs = search needs
 loop-holds : tie.Need-loop-holds Inv-loop μ-loop
 loop-holds c =
     let s = c .before .before .before .before .before .before in
-    let r = starts (s .args .image .now) (s .pre .0) (c .before .before .write-empty .ensures) in
+    let r = begins (s .args .buf .now) (starts (s .args .image .now) (s .pre .0) (c .before .before .write-empty .ensures)) in
     search (r, needs)
 
-turn-requires : tie.Need-turn-requires Inv-loop μ-loop
-turn-requires c κs = search needs
-
-add-ordinal : tie.Need-add-ordinal Inv-loop μ-loop
-add-ordinal c = search needs
+advance-requires : tie.Need-advance-requires Inv-loop μ-loop
+advance-requires c κs = let l = c .before .before .before .loop in ready (l .inv .2) (c .before .before .loop-test .taken) (omega (arith, l .inv .1, c .before .before .before .before .before .before .before .before .before .before .pre .1))
 
 loop-less : tie.Need-loop-less Inv-loop μ-loop
-loop-less c = search needs
+loop-less c = let l = c .before .before .before .before .before .before .before .before .loop in moves _ _ _ _ _ _ (l .inv .2) (c .before .before .before .before .before .before .before .loop-test .taken) (omega (arith, l .inv .1, c .before .before .before .before .before .before .before .before .before .before .before .before .before .before .before .pre .1)) (c .before .before .before .before .advance .ensures) .1
 
 loop-again : tie.Need-loop-again Inv-loop μ-loop
-loop-again c = let r = onward (c .before .before .before .before .before .before .before .before .before .loop .inv .3) (c .before .before .before .before .before .turn .ensures) in search (r, needs)
+loop-again c =
+    let l = c .before .before .before .before .before .before .before .before .loop in
+    let m = moves _ _ _ _ _ _ (l .inv .2) (c .before .before .before .before .before .before .before .loop-test .taken) (omega (arith, l .inv .1, c .before .before .before .before .before .before .before .before .before .before .before .before .before .before .before .pre .1)) (c .before .before .before .before .advance .ensures) .0 in
+    search (m, needs)
 
 same-length : tie.Need-same-length Inv-loop μ-loop
 same-length c = search needs
@@ -42,16 +43,7 @@ same-length-2 : tie.Need-same-length-2 Inv-loop μ-loop
 same-length-2 c = search needs
 
 returns : tie.Need-returns Inv-loop μ-loop
-returns c = onward (c .before .before .before .before .before .before .before .before .before .loop .inv .3) (c .before .before .before .before .before .turn .ensures)
-
-same-length-3 : tie.Need-same-length-3 Inv-loop μ-loop
-same-length-3 c = search needs
-
-same-length-4 : tie.Need-same-length-4 Inv-loop μ-loop
-same-length-4 c = search needs
-
-returns-2 : tie.Need-returns-2 Inv-loop μ-loop
-returns-2 c = c .before .loop .inv .3
+returns c = let run = c .before .loop .inv .2 in record { reached = run .reached; over = run .over (c .loop-test .left) }
 
 pub run-spec : {M : Type 1} → statement M
 run-spec =
@@ -61,13 +53,9 @@ run-spec =
     μ-loop
     write-empty-requires
     loop-holds
-    turn-requires
-    add-ordinal
+    advance-requires
     loop-less
     loop-again
     same-length
     same-length-2
-    returns
-    same-length-3
-    same-length-4
-    returns-2)
+    returns)

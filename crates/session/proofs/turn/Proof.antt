@@ -1,39 +1,32 @@
--- `session::turn` meets its contract. Assumes nothing.
-use mathlib.Core.Path.{sym, subst}
-use native.Mathlib.Omega.{arith}
+-- `session::turn` meets its contract: the turn of the transcript, by what the bytes held are. Assumes nothing.
+use mathlib.Core.Path.{sym, _∙_}
 use borrow.Author.Needs.{needs}
 use lib.Seq.{length-take-le}
-use Rattle.session.specs.declared.Input.{Input}
-use Rattle.session.specs.declared.Input.the-variants.{Record}
-use Rattle.session.specs.Input.{Held}
-use Rattle.lines.proofs.Reached.{stays, judged-one}
+use Rattle.lines.proofs.Holding.{whole}
+use Rattle.session.proofs.Turning.{of-record, of-start, of-bad, of-end}
 use Rattle.session.proofs.turn.Statement.{statement}
 use Rattle.session.proofs.turn.Tie as tie
 
-read-frame-requires : tie.Need-read-frame-requires
-read-frame-requires c κs = search needs
+frame-held-requires : tie.Need-frame-held-requires
+frame-held-requires c κs = search needs
 
 enum-known-size : tie.Need-enum-known-size
 enum-known-size c = search needs
 
--- what was read is a record
-held : (c : tie.After-known-told) → Held (Record (c .before .size .given .0 .0)) (c .before .before .before .before .before .read-frame .last .0)
-held c = subst (λ (z : Input). Held z (c .before .before .before .before .before .read-frame .last .0)) (c .before .size .given .1) (c .before .before .before .before .before .read-frame .ensures)
+slice-aggregate-answer-record : tie.Need-slice-aggregate-answer-record
+slice-aggregate-answer-record c = let e = sym (c .before .before .before .before .before .frame-held .ensures) ∙ c .before .before .before .size .given .1 in sym (length-take-le _ _ (whole _ _ e .within))
 
-slice-reshare-prefix-print-answer : tie.Need-slice-reshare-prefix-print-answer
-slice-reshare-prefix-print-answer c = omega (arith, held (c .before))
+answer-record-requires : tie.Need-answer-record-requires
+answer-record-requires c κs = let w = whole _ _ (sym (c .before .before .before .before .before .before .frame-held .ensures) ∙ c .before .before .before .before .size .given .1) in rw (length-take-le _ _ (w .within)) (w .least)
 
-slice-aggregate-print-answer : tie.Need-slice-aggregate-print-answer
-slice-aggregate-print-answer c = sym (length-take-le _ _ (held (c .before .before) .1))
-
-print-answer-requires : tie.Need-print-answer-requires
-print-answer-requires c κs = let h = held (c .before .before) in rw (length-take-le _ _ (h .1)) (h .0)
+enum-known-size-2 : tie.Need-enum-known-size-2
+enum-known-size-2 c = search needs
 
 enum-told : tie.Need-enum-told
 enum-told c = search needs
 
-end-badly-requires : tie.Need-end-badly-requires
-end-badly-requires c κs = search needs
+bad-line-requires : tie.Need-bad-line-requires
+bad-line-requires c κs = search needs
 
 enum-told-2 : tie.Need-enum-told-2
 enum-told-2 c = search needs
@@ -41,40 +34,32 @@ enum-told-2 c = search needs
 same-length : tie.Need-same-length
 same-length c = search needs
 
-same-length-2 : tie.Need-same-length-2
-same-length-2 c = search needs
-
 returns : tie.Need-returns
-returns c = judged-one _ _ (c .before .before .print-answer .ensures)
-
-same-length-3 : tie.Need-same-length-3
-same-length-3 c = search needs
+returns c = of-record _ _ _ _ (sym (c .before .before .before .before .before .before .before .before .before .frame-held .ensures) ∙ c .before .before .before .before .before .before .before .size .given .1) (c .before .before .answer-record .ensures)
 
 returns-2 : tie.Need-returns-2
-returns-2 c = stays _
-
-same-length-4 : tie.Need-same-length-4
-same-length-4 c = search needs
+returns-2 c = of-start _ _ _ _ (sym (c .before .before .before .frame-held .ensures) ∙ c .before .size2 .given .1)
 
 returns-3 : tie.Need-returns-3
-returns-3 c = stays _
+returns-3 c = of-bad _ _ _ _ (sym (c .before .before .before .before .frame-held .ensures) ∙ c .before .before .enum-told .given .1) (c .bad-line .ensures)
+
+returns-4 : tie.Need-returns-4
+returns-4 c = of-end _ _ _ _ (sym (c .before .before .frame-held .ensures) ∙ c .enum-told2 .given .1)
 
 pub turn-spec : {M : Type 1} → statement M
 turn-spec =
     tie.close
     (tie.spec
-    read-frame-requires
+    frame-held-requires
     enum-known-size
-    slice-reshare-prefix-print-answer
-    slice-aggregate-print-answer
-    print-answer-requires
+    slice-aggregate-answer-record
+    answer-record-requires
+    enum-known-size-2
     enum-told
-    end-badly-requires
+    bad-line-requires
     enum-told-2
     same-length
-    same-length-2
     returns
-    same-length-3
     returns-2
-    same-length-4
-    returns-3)
+    returns-3
+    returns-4)
