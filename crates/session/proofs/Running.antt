@@ -5,15 +5,17 @@ use mathlib.Core.Logic.{_⊎_}
 use mathlib.Core.Bool.{Bool, true, false, cond}
 use mathlib.Core.List.{List}
 use native.Mathlib.Omega.{arith}
+use lib.Dec.{ltb}
 use lib.ListN.{length, take}
 use lib.Seq.{length-take-le}
+use borrow.Author.Tests.{ltb-false}
 use Rattle.lines.specs.Frames.{longest}
 use Rattle.lines.specs.Session.{Turn, reads, prints, closes, stops, turn}
 use Rattle.lines.specs.Reached.{Reached}
 use Rattle.lines.proofs.Reached.{onward}
 use Rattle.lines.proofs.Session.{calls}
 use Rattle.session.specs.declared.Progress.{Progress}
-use Rattle.session.specs.Turned.{lastOrdinal, Ready, Ended, AdvancedBy, Advanced, Over}
+use Rattle.session.specs.Turned.{lastOrdinal, Ready, Started, Ended, AdvancedBy, Advanced, Over}
 
 -- a run on its way, or ended
 pub record Runs (p : Progress) (image buf : List ℕ) : Type 0 where
@@ -36,8 +38,8 @@ halted (closes line) p h = tt
 halted stops p h = tt
 
 -- the run starts
-pub begins : {image : List ℕ} (buf : List ℕ) → Reached 1 image → Runs (record { ordinal = 1; have = 0; ended = false; going = true; closed = false }) image buf
-begins buf r = record { reached = r; held = omega arith; below = λ e. omega arith; over = λ e. never refl e }
+pub begins : {p : Progress} {image : List ℕ} (buf : List ℕ) → Started p → Reached 1 image → Runs p image buf
+begins buf s r = record { reached = rw (s .ordinal) r; held = omega (arith, s .none); below = λ e. omega (arith, s .ordinal); over = λ e. never (s .going) e }
 
 -- the next turn may follow
 pub ready : {p : Progress} {image buf : List ℕ} → Runs p image buf → p .going ≡ true → length buf ≡ longest → Ready p buf
@@ -82,16 +84,16 @@ module _ (p q : Progress) (image left lent buf : List ℕ) (run : Runs p image l
         rw (on, h .going, b .going, h .ordinal) (less (omega (arith, b .more, n)) (b .most) (h .ended) (q .ended) refl),
       )
     where
-      less : p .have < k → k ≤ longest → (q .ended ≡ false → q .have ≡ k) → (c : Bool) → q .ended ≡ c
+      less : p .have < k → k ≤ longest → q .ended ≡ ltb (q .have) k → (c : Bool) → q .ended ≡ c
           → (lastOrdinal - p .ordinal) * (longest + 3) + cond c 1 (longest + 2 - q .have) < (lastOrdinal - p .ordinal) * (longest + 3) + (longest + 2 - p .have)
       less a b f true g = omega arith
-      less a b f false g = let h : q .have ≡ k = f g in omega arith
+      less a b f false g = let h : k ≤ q .have = ltb-false (q .have) k (sym f ∙ g) in omega arith
   go (prints line after) e (h, f) =
       let b = calls (p .ordinal) image (take (p .have) lent) (p .ended) e in (
         record {
           reached = rw (h .next, f, b .2) (onward (b .0) (b .1) (run .reached));
           held = omega (arith, h .none);
-          below = h .going;
+          below = λ g. h .going g .0;
           over = λ g. halted (turn (q .ordinal) left (take (q .have) buf) (q .ended)) q (h .stopped g);
         },
         rw (on, h .next) (less (q .going) (q .ended)),

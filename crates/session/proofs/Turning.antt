@@ -8,7 +8,7 @@ use native.Mathlib.Omega.{arith}
 use lib.Dec.{ltb}
 use lib.ListN.{length, take, getD}
 use lib.Seq.{length-take-le, take-at}
-use borrow.Author.Tests.{ltb-true, ltb-false}
+use borrow.Author.Tests.{lt-ltb, le-ltb, ltb-true, ltb-false}
 use Rattle.lines.specs.declared.Held.{Held}
 use Rattle.lines.specs.declared.Held.the-variants.{Record, Start, Bad, End}
 use Rattle.lines.specs.Lines.{recordLine, badLine, Printed}
@@ -76,10 +76,14 @@ took-in {k} p got lent rest a b c =
       keeps = take-at (take (p .have) lent) rest (p .have) (length-take-le (p .have) lent b);
       least = omega arith;
       most = omega arith;
-      ended = λ e. let d : k - p .have ≤ got = ltb-false got (k - p .have) e in omega arith;
+      ended = by-count (ltb got (k - p .have)) refl;
       ordinal = refl;
       going = refl;
     }
+  where
+    by-count : (b : Bool) → ltb got (k - p .have) ≡ b → b ≡ ltb (p .have + got) k
+    by-count true e = let d : got < k - p .have = ltb-true got (k - p .have) e in sym (lt-ltb (p .have + got) k (omega arith))
+    by-count false e = let d : k - p .have ≤ got = ltb-false got (k - p .have) e in sym (le-ltb (p .have + got) k (omega arith))
 
 -- a line was taken or not
 pub gave-out : (p : Progress) (taken : Bool) → p .ordinal < lastOrdinal
@@ -93,8 +97,8 @@ gave-out p taken h =
       stopped = λ e. off taken e;
     }
   where
-    on : (b : Bool) → b && ltb (p .ordinal + 1) lastOrdinal ≡ true → p .ordinal + 1 < lastOrdinal
-    on true e = ltb-true (p .ordinal + 1) lastOrdinal e
+    on : (b : Bool) → b && ltb (p .ordinal + 1) lastOrdinal ≡ true → (p .ordinal + 1 < lastOrdinal) × (not b ≡ false)
+    on true e = (ltb-true (p .ordinal + 1) lastOrdinal e, refl)
     on false e = let z : _≡_ {A = Bool} false true = e in absurd (let y : _≡_ {A = ℕ} 0 1 = cc in omega arith)
 
     off : (b : Bool) → b && ltb (p .ordinal + 1) lastOrdinal ≡ false → (not b ≡ true) ⊎ (p .ordinal + 1 ≡ lastOrdinal)

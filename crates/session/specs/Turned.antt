@@ -1,9 +1,10 @@
 -- What the session program has done: one turn, and the run.
-use Prim.Native.Nat.{ℕ, suc, _+_, _*_, _-_, _^_, _≤_, _<_}
+use Prim.Native.Nat.{ℕ, suc, _-_, _^_, _≤_, _<_}
 use mathlib.Core.Path.{_≡_}
 use mathlib.Core.Logic.{_⊎_}
-use mathlib.Core.Bool.{Bool, true, false, cond}
+use mathlib.Core.Bool.{true, false}
 use mathlib.Core.List.{List}
+use lib.Dec.{ltb}
 use lib.ListN.{length, take}
 use Rattle.lines.specs.Lines.{Printed}
 use Rattle.lines.specs.Frames.{longest}
@@ -34,12 +35,19 @@ pub record Ready (p : Progress) (buf : List ℕ) : Type 0 where
   pub held : p .have ≤ longest
   pub below : p .ordinal < lastOrdinal
 
--- a read brings at most what was called for, and keeps what is held
+-- a run starts: nothing is held, and the input may go on
+pub record Started (p : Progress) : Type 0 where
+  pub ordinal : p .ordinal ≡ 1
+  pub none : p .have ≡ 0
+  pub ended : p .ended ≡ false
+  pub going : p .going ≡ true
+
+-- a read brings at most what was called for, keeps what is held, and fewer bytes say that the input has ended
 pub record TookIn (k : ℕ) (p q : Progress) (lent buf : List ℕ) : Type 0 where
   pub keeps : take (p .have) buf ≡ take (p .have) lent
   pub least : p .have ≤ q .have
   pub most : q .have ≤ k
-  pub ended : q .ended ≡ false → q .have ≡ k
+  pub ended : q .ended ≡ ltb (q .have) k
   pub ordinal : q .ordinal ≡ p .ordinal
   pub going : q .going ≡ true
 
@@ -48,7 +56,7 @@ pub record GaveOut (p q : Progress) : Type 0 where
   pub none : q .have ≡ 0
   pub same : q .ended ≡ p .ended
   pub next : q .ordinal ≡ suc (p .ordinal)
-  pub going : q .going ≡ true → q .ordinal < lastOrdinal
+  pub going : q .going ≡ true → (q .ordinal < lastOrdinal) × (q .closed ≡ false)
   pub stopped : q .going ≡ false → (q .closed ≡ true) ⊎ (q .ordinal ≡ lastOrdinal)
 
 -- the run ends where it is

@@ -12,7 +12,7 @@ ghost use Rattle.lines.specs.Lines.{recordLine, Printed};
 ghost use Rattle.lines.specs.Session.{judging, turn as turnOf};
 ghost use Rattle.lines.specs.Frames.{longest};
 ghost use Rattle.policy.specs.Layout.{small, size};
-ghost use Rattle.session.specs.Turned.{Turned, lastOrdinal, Ready, Advanced, Ran};
+ghost use Rattle.session.specs.Turned.{Turned, Ready, Started, Advanced, Ran};
 
 // One record: judged on the image, and its line put into text.
 fn answer_record(image: &mut [u8], rec: &[u8], ordinal: u64, text: &mut [u8; 40]) -> usize
@@ -64,6 +64,18 @@ pub struct Progress {
     // Whether a turn follows, and whether a line was not taken.
     pub going: bool,
     pub closed: bool,
+}
+
+fn start() -> Progress
+    ensures { λ r. ⌜ Started r ⌝ }
+{
+    Progress {
+        ordinal: 1,
+        have: 0,
+        ended: false,
+        going: true,
+        closed: false,
+    }
 }
 
 // One turn of the program.
@@ -127,13 +139,7 @@ fn run(image: &mut [u8], buf: &mut [u8]) -> Progress
     ensures { λ r. ⌜ Ran r (now (image .exit)) (now (buf .exit)) ⌝ }
 {
     engine::empty::write_empty(image, Card::Small);
-    let mut p = Progress {
-        ordinal: 1,
-        have: 0,
-        ended: false,
-        going: true,
-        closed: false,
-    };
+    let mut p = start();
     while p.going {
         p = advance(image, buf, p);
     }

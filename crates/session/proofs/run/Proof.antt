@@ -18,22 +18,25 @@ abbrev μ-loop : tie.MeasureT-loop
 write-empty-requires : tie.Need-write-empty-requires Inv-loop μ-loop
 write-empty-requires c κs = search needs
 
+start-requires : tie.Need-start-requires Inv-loop μ-loop
+start-requires c κs = search needs
+
 loop-holds : tie.Need-loop-holds Inv-loop μ-loop
 loop-holds c =
-    let s = c .before .before .before .before .before .before in
-    let r = begins (s .args .buf .now) (starts (s .args .image .now) (s .pre .0) (c .before .before .write-empty .ensures)) in
+    let s = c .before .before .before .before .before .before .before in
+    let r = begins (s .args .buf .now) (c .start .ensures) (starts (s .args .image .now) (s .pre .0) (c .before .before .before .write-empty .ensures)) in
     search (r, needs)
 
 advance-requires : tie.Need-advance-requires Inv-loop μ-loop
-advance-requires c κs = let l = c .before .before .before .loop in ready (l .inv .2) (c .before .before .loop-test .taken) (omega (arith, l .inv .1, c .before .before .before .before .before .before .before .before .before .before .pre .1))
+advance-requires c κs = let l = c .before .before .before .loop in ready (l .inv .2) (c .before .before .loop-test .taken) (omega (arith, l .inv .1, c .before .before .before .before .before .before .before .before .before .before .before .pre .1))
 
 loop-less : tie.Need-loop-less Inv-loop μ-loop
-loop-less c = let l = c .before .before .before .before .before .before .before .before .loop in moves _ _ _ _ _ _ (l .inv .2) (c .before .before .before .before .before .before .before .loop-test .taken) (omega (arith, l .inv .1, c .before .before .before .before .before .before .before .before .before .before .before .before .before .before .before .pre .1)) (c .before .before .before .before .advance .ensures) .1
+loop-less c = let l = c .before .before .before .before .before .before .before .before .loop in moves _ _ _ _ _ _ (l .inv .2) (c .before .before .before .before .before .before .before .loop-test .taken) (omega (arith, l .inv .1, c .before .before .before .before .before .before .before .before .before .before .before .before .before .before .before .before .pre .1)) (c .before .before .before .before .advance .ensures) .1
 
 loop-again : tie.Need-loop-again Inv-loop μ-loop
 loop-again c =
     let l = c .before .before .before .before .before .before .before .before .loop in
-    let m = moves _ _ _ _ _ _ (l .inv .2) (c .before .before .before .before .before .before .before .loop-test .taken) (omega (arith, l .inv .1, c .before .before .before .before .before .before .before .before .before .before .before .before .before .before .before .pre .1)) (c .before .before .before .before .advance .ensures) .0 in
+    let m = moves _ _ _ _ _ _ (l .inv .2) (c .before .before .before .before .before .before .before .loop-test .taken) (omega (arith, l .inv .1, c .before .before .before .before .before .before .before .before .before .before .before .before .before .before .before .before .pre .1)) (c .before .before .before .before .advance .ensures) .0 in
     search (m, needs)
 
 same-length : tie.Need-same-length Inv-loop μ-loop
@@ -52,6 +55,7 @@ run-spec =
     Inv-loop
     μ-loop
     write-empty-requires
+    start-requires
     loop-holds
     advance-requires
     loop-less
