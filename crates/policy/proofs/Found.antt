@@ -1,16 +1,18 @@
 -- What the searches for numbers find, and what it says when they find nothing.
-use Prim.Native.Nat.{ℕ, _<_}
-use mathlib.Core.Path.{_≡_, sym, ap, _∙_, subst}
-use mathlib.Core.Bool.{Bool, not, _&&_}
+use Prim.Native.Nat.{ℕ, zero, suc, _≤_, _<_, zero-le}
+use native.Mathlib.Omega.{arith}
+use mathlib.Core.Path.{_≡_, refl, sym, ap, _∙_, subst}
+use mathlib.Core.Bool.{Bool, true, false, not, _&&_, cond}
 use mathlib.Core.Option.{Option, none, some}
 use lib.Dec.{T}
-use Rattle.policy.specs.Lists.{first, upto, orElse}
+use Rattle.policy.specs.Lists.{first, from, upto, orElse}
 use Rattle.policy.specs.Contract.{Aid, eqAid, Tok, eqTok, Row}
 use Rattle.policy.specs.Layout.{Layout}
 use Rattle.policy.specs.Tables.{Tables}
 use Rattle.policy.specs.Lookup.{Place, numbers, places, numberOf, serviceOf, serverOf, freeNumber, freeService}
-use Rattle.policy.proofs.Sets.{and-l, and-r, and-i, not-e, not-not, Found, found, upto-in, in-upto}
+use Rattle.policy.proofs.Sets.{false-T, and-l, and-r, and-i, not-e, not-not, Found, found, upto-in, in-upto}
 use Rattle.policy.proofs.Equal.{eqAid→, eqAid-of, eqTok→, eqTok-of}
+use Rattle.policy.proofs.Put.{by-number}
 use Rattle.policy.proofs.Formed.{Names}
 
 abbrev pub NumberIs : Tables → Aid → Option ℕ → Type 0
@@ -27,14 +29,28 @@ ServerIs t r (some p) = T (t .provides (p .callee) (p .service)) × (t .aid (p .
 
 abbrev pub FreeIs : ℕ → (ℕ → Bool) → Option ℕ → Type 0
 FreeIs most taken none = (n : ℕ) → n < most → T (taken n)
-FreeIs most taken (some n) = (n < most) × (T (taken n) → ⊥)
+FreeIs most taken (some n) = (n < most) × (T (taken n) → ⊥) × ((i : ℕ) → i < n → T (taken i))
+
+-- the numbers from i up to the first that passes do not pass
+abbrev NoneBefore : (ℕ → Bool) → ℕ → Option ℕ → Type 0
+NoneBefore f i none = Unit {0}
+NoneBefore f i (some n) = (x : ℕ) → i ≤ x → x < n → T (f x) → ⊥
+
+none-before : (f : ℕ → Bool) (i n : ℕ) → NoneBefore f i (first f (from i n))
+none-before f i zero = tt
+none-before f i (suc n) = go (f i) refl (first f (from (suc i) n)) (none-before f (suc i) n)
+  where
+    go : (b : Bool) → f i ≡ b → (o : Option ℕ) → NoneBefore f (suc i) o → NoneBefore f i (cond b (some i) o)
+    go true e o h = λ x a l t. absurd (omega arith)
+    go false e none h = tt
+    go false e (some n) h = λ x a l t. by-number i (λ (z : ℕ). T (f z) → ⊥) x (false-T e) (λ ne. h x (omega arith) l) t
 
 free-is : (most : ℕ) (taken : ℕ → Bool) → FreeIs most taken (first (λ n. not (taken n)) (upto most))
-free-is most taken = go (first (λ n. not (taken n)) (upto most)) (found (λ n. not (taken n)) (upto most))
+free-is most taken = go (first (λ n. not (taken n)) (upto most)) (found (λ n. not (taken n)) (upto most)) (none-before (λ n. not (taken n)) 0 most)
   where
-    go : (o : Option ℕ) → Found (λ n. not (taken n)) (upto most) o → FreeIs most taken o
-    go none h = λ n l. not-not (taken n) (h n (in-upto most n l))
-    go (some n) h = (upto-in most (h .0), not-e (taken n) (h .1))
+    go : (o : Option ℕ) → Found (λ n. not (taken n)) (upto most) o → NoneBefore (λ n. not (taken n)) 0 o → FreeIs most taken o
+    go none h b = λ n l. not-not (taken n) (h n (in-upto most n l))
+    go (some n) h b = (upto-in most (h .0), not-e (taken n) (h .1), λ i l. not-not (taken i) (b i zero-le l))
 
 module _ (L : Layout) (t : Tables) where
   pub free-number-is : FreeIs (L .packages) (t .used) (freeNumber L t)

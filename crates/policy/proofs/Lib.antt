@@ -43,3 +43,7 @@ pub mod Entries
 pub mod Records
 pub mod HasRow
 pub mod Settled
+pub mod PlacingLists
+pub mod PlacingKinds
+pub mod Placing
+pub mod Numbering

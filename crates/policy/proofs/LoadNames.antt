@@ -50,6 +50,7 @@ pub record Newcomer (L : Layout) (t : Tables) (m : ℕ) (k : Contract) : Type 0 
   pub formed : Formed L t
   pub number-lt : m < L .packages
   pub free : T (t .used m) → ⊥
+  pub lower-used : (n : ℕ) → n < m → T (t .used n)
   pub absent : (n : ℕ) → T (t .used n) → t .aid n ≡ k .aid → ⊥
   pub services-fit : length (k .provides) ≤ L .services
   pub sets : FourSets k
@@ -176,6 +177,7 @@ module _ (L : Layout) (t : Tables) (a : Aid) (p : List Tok) (c g n : List Row) w
         formed = f;
         number-lt = fr .0;
         free = fr .1;
+        lower-used = fr .2;
         absent = away;
         services-fit = fit;
         sets = record {

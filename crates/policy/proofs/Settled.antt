@@ -32,7 +32,7 @@ module _ (L : Layout) (img : List ℕ) where
   judge-unsound s e = ap (λ (b : Bool). cond b (judgeTables L img (decode L img) (parse L s)) (refusal 1 255 img)) e
 
   -- a sound image, and what reading gave
-  judge-read : (s : List ℕ) → T (sound L img) → (o : Option Request) → parse L s ≡ o → judge L img s ≡ judgeTables L img (decode L img) o
+  pub judge-read : (s : List ℕ) → T (sound L img) → (o : Option Request) → parse L s ≡ o → judge L img s ≡ judgeTables L img (decode L img) o
   unfolding judge
   judge-read s ok o e = λ i. cond (T-true (sound L img) ok i) (judgeTables L img (decode L img) (e i)) (refusal 1 255 img)
 

@@ -58,7 +58,7 @@ module _ (most : ℕ) (taken : ℕ → Bool) where
 -- ---- as many contracts as used numbers, and as many services as places taken
 module _ (L : Layout) (t : Tables) (lost : List Unmet) (cs : List Contract)
     (names : Names L (t .used) (t .aid) (t .tok) (t .provides)) (st : Stands t lost cs) where
-  count : length cs ≡ length (usedNumbers L t)
+  pub count : length cs ≡ length (usedNumbers L t)
   count = sym (length-map cs (λ c. c .aid)) ∙ same-length (map (λ c. c .aid) cs) (map (t .aid) (usedNumbers L t)) (st .one-each) once to of ∙ length-map (usedNumbers L t) (t .aid)
     where
       on : {n : ℕ} → In n (usedNumbers L t) → T (t .used n)

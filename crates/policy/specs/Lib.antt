@@ -15,3 +15,5 @@ pub mod Marked
 pub mod ShortCheck
 pub mod Claims
 pub mod Settled
+pub mod Numbering
+pub mod Placing

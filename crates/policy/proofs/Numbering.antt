@@ -1,0 +1,56 @@
+-- The theorems of specs/Numbering.antt.
+use Prim.Native.Nat.{ℕ, _≤_}
+use native.Mathlib.Omega.{arith}
+use mathlib.Core.Path.{_≡_, refl, sym, ap, _∙_, subst}
+use mathlib.Core.Bool.{Bool, true, false, _&&_, cond}
+use mathlib.Core.List.{List, [], _++_}
+use mathlib.Core.Option.{some}
+use lib.Dec.{T, leb, ltb}
+use lib.ListN.{length, take, drop, length-append}
+use lib.Seq.{take-at}
+use Rattle.policy.specs.Layout.{Layout, LayoutOk}
+use Rattle.policy.specs.Record.{parse}
+use Rattle.policy.specs.Tables.{decode}
+use Rattle.policy.specs.Lookup.{usedNumbers, contractAt}
+use Rattle.policy.specs.Sound.{sound}
+use Rattle.policy.specs.Judge.{Out, refusal, check, loadRecord, readOut}
+use Rattle.policy.specs.Numbering.{SecondNumber, CheckCounts, LoadOf, ReadLength}
+use Rattle.policy.proofs.Sets.{T-true, true-T, and-r}
+use Rattle.policy.proofs.SoundFacts.{sound-formed, sound-fitting}
+use Rattle.policy.proofs.ReadOut.{read-out-parses}
+use Rattle.policy.proofs.Tests.{count}
+use Rattle.policy.proofs.Step.{stands-of}
+use Rattle.policy.proofs.Placing.{acceptance}
+
+-- ---- judging
+pub second-number : (L : Layout) → LayoutOk L → SecondNumber L
+second-number L lo img s q ok e z = acceptance L lo img s q ok e z .0
+
+-- ---- checking an image
+pub check-counts : (L : Layout) → CheckCounts L
+unfolding check
+check-counts L img cs f =
+    subst (λ (b : Bool). let o = cond b (record { answered = 0; second = length (usedNumbers L (decode L img)); bytes = img }) (refusal 1 255 img) in (o .answered ≡ 0) × (o .second ≡ length cs))
+    (sym (T-true (sound L img) (f .is-sound))) (refl, sym (count L (decode L img) [] cs (sound-formed L img (f .is-sound) .names) (stands-of L img cs f)))
+
+-- ---- reading out
+pub read-length : (L : Layout) → LayoutOk L → ReadLength L
+unfolding readOut
+read-length L lo img n out z = go (sound L img) (ltb n (L .packages) && decode L img .used n) (leb (length r) (length out)) refl refl z
+  where
+    r : List ℕ
+    r = loadRecord L (contractAt L (decode L img) n)
+
+    given : Bool → Bool → Bool → Out
+    given a b c = cond a (cond b (cond c (record { answered = 0; second = length r; bytes = r ++ drop (length r) out }) (refusal 12 0 out)) (refusal 5 0 out)) (refusal 1 0 out)
+
+    go : (a b c : Bool) → sound L img ≡ a → ltb n (L .packages) && decode L img .used n ≡ b → given a b c .answered ≡ 0
+        → T (sound L img) × T (decode L img .used n) × (given a b c .second ≤ length (given a b c .bytes))
+        × (parse L (take (given a b c .second) (given a b c .bytes)) ≡ some (LoadOf (contractAt L (decode L img) n)))
+    go true true true ea eb e =
+        let ok = true-T ea in
+        let un = and-r (ltb n (L .packages)) (decode L img .used n) (true-T eb) in
+        (ok, un, omega (arith, length-append r (drop (length r) out)), ap (parse L) (take-at r (drop (length r) out) (length r) refl) ∙ read-out-parses L lo (decode L img) (sound-formed L img ok) (sound-fitting L img ok) n un)
+    go true true false ea eb e = absurd (omega arith)
+    go true false c ea eb e = absurd (omega arith)
+    go false b c ea eb e = absurd (omega arith)

@@ -1,0 +1,323 @@
+-- Each kind's draft puts things where document 01 says, under the number of its package.
+use Prim.Native.Nat.{ℕ, _≤_, _<_}
+use native.Mathlib.Omega.{arith}
+use mathlib.Core.Path.{_≡_, refl, sym, ap, _∙_, subst}
+use mathlib.Core.Logic.{_⊎_, inl, inr}
+use mathlib.Core.Bool.{Bool, true, not, _&&_}
+use mathlib.Core.List.{List, [], _∷_, _++_, map, map-id}
+use mathlib.Core.List.{List·Memᴰ as In, Sublistᴰ as InOrder, Sublistᴰ·slnil as none-left, Sublistᴰ·cons-cons as stays, Sublistᴰ·refl as all-stay}
+use mathlib.Core.Option.{Option, none, some}
+use lib.Dec.{T, eqb}
+use Rattle.policy.specs.Lists.{keep, isSome, orElse}
+use Rattle.policy.specs.Contract.{Aid, Tok, Row, Contract, validAid}
+use Rattle.policy.specs.Layout.{Layout}
+use Rattle.policy.specs.Record.{Change, load, remove, addService, removeService, addCall, removeCall, addGrant, removeGrant, addNeed, removeNeed, proper}
+use Rattle.policy.specs.Causes.{answer}
+use Rattle.policy.specs.Tables.{Tables, Unmet, Waiting}
+use Rattle.policy.specs.Lookup.{Place, numbers, places, serviceAt, wanted, grantAt, numberOf, freeNumber}
+use Rattle.policy.specs.Sound.{eqUnmet, eqWaiting}
+use Rattle.policy.specs.Draft.{Draft, Look, callRow, leftBy, notServed, addCallAt, removeCallAt, addNeedAt, removeNeedAt, addGrantAt, removeGrantAt, addServiceAt, removeServiceAt, removeAt, loadAt, asksFor, draft, numberFor}
+use Rattle.policy.specs.Judge.{tableCauses}
+use Rattle.policy.specs.Numbering.{HasNumber, Numbered}
+use Rattle.policy.specs.Placing.{Lowest, Stay, ClosedUp, callsOf, grantsOf, callsOn, rule, Placed}
+use Rattle.policy.proofs.Sets.{and-l, each-map-keep, each-one, pairs, pairs-in}
+use Rattle.policy.proofs.Equal.{row-path}
+use Rattle.policy.proofs.Put.{by-number, NewPlace, new-place}
+use Rattle.policy.proofs.Pieces.{in-or-off}
+use Rattle.policy.proofs.Formed.{Formed, ProvidesAt, at, RowAt, GrantAt, Valid}
+use Rattle.policy.proofs.Found.{NumberIs, FreeIs, free-number-is, number-is}
+use Rattle.policy.proofs.Reach.{reach-2, reach-3, reach-4, reach-5, reach-6, reach-7, reach-8, reach-9, reach-10}
+use Rattle.policy.proofs.LoadNames.{Newcomer, Loaded, loaded, load-reached}
+use Rattle.policy.proofs.LoadFormed.{unmetStill, waitsStill, waitingFor, uninstalled, service-loaded}
+use Rattle.policy.proofs.Dropped.{Without, left-in}
+use Rattle.policy.proofs.KindRemove.{dropping as package-dropped}
+use Rattle.policy.proofs.KindRemoveService.{dropping as service-dropped}
+use Rattle.policy.proofs.PlacingLists.{OldOrNew, stay, keep-order, none-new, none-recorded, recorded, by-numbers}
+
+-- there is one lowest number that is not taken
+lowest-one : (taken : ℕ → Bool) (m n : ℕ) → Lowest taken m → Lowest taken n → m ≡ n
+lowest-one taken m n a b = go (in-or-off m n) (in-or-off n m)
+  where
+    go : (m < n) ⊎ (n ≤ m) → (n < m) ⊎ (m ≤ n) → m ≡ n
+    go (inl h) k = absurd (a .0 (b .1 m h))
+    go (inr h) (inl k) = absurd (b .0 (a .1 n k))
+    go (inr h) (inr k) = omega arith
+
+module _ (L : Layout) (t : Tables) (fm : Formed L t) (a : Aid) where
+  -- ---- the number of an acceptance
+  -- an installed package has it
+  number-here : (n : ℕ) → T (t .used n) → t .aid n ≡ a → n ≡ numberFor L t a
+  unfolding numberFor
+  number-here n u e = go (numberOf L t a) (number-is L t (fm .names) a)
+    where
+      go : (o : Option ℕ) → NumberIs t a o → n ≡ orElse o (orElse (freeNumber L t) 255 (λ n. n)) (λ n. n)
+      go none h = absurd (h n u e)
+      go (some m) h = fm .names .aid-inj n m u (h .0) (e ∙ sym (h .1))
+
+  -- a newcomer takes it
+  number-new : (m : ℕ) (k : Contract) → k .aid ≡ a → Newcomer L t m k → m ≡ numberFor L t a
+  unfolding numberFor
+  number-new m k e new = go (numberOf L t a) (number-is L t (fm .names) a) (freeNumber L t) (free-number-is L t)
+    where
+      go : (o : Option ℕ) → NumberIs t a o → (f : Option ℕ) → FreeIs (L .packages) (t .used) f → m ≡ orElse o (orElse f 255 (λ n. n)) (λ n. n)
+      go none h none f = absurd (new .free (f m (new .number-lt)))
+      go none h (some n) f = lowest-one (t .used) m n (new .free, new .lower-used) (f .1, f .2)
+      go (some n) h f i = absurd (new .absent n (h .0) (h .1 ∙ sym e))
+
+  -- what a kind has to show of the tables that it leaves and the number m
+  abbrev pub Settles : Change → Tables → ℕ → Type 0
+  Settles c t′ m = Numbered t t′ a c m × Placed t t′ m c
+
+  -- each package and service of t′ is old, or new
+  packages-in : (t′ : Tables) → ((p : ℕ) → T (t′ .used p) → OldOrNew (t .used) (t .aid) (t′ .aid) p) → Stay (t .used) (t .aid) (t′ .used) (t′ .aid)
+  packages-in t′ = stay (t .used) (t .aid) (t′ .aid) (fm .names .aid-inj) (t′ .used)
+
+  services-in : (t′ : Tables) → ((j k : ℕ) → T (t′ .provides j k) → OldOrNew (t .provides j) (t .tok j) (t′ .tok j) k)
+      → (j : ℕ) → Stay (t .provides j) (t .tok j) (t′ .provides j) (t′ .tok j)
+  services-in t′ h j = stay (t .provides j) (t .tok j) (t′ .tok j) (fm .names .tok-inj j) (t′ .provides j) (h j)
+
+  -- ---- kinds 5 to 10: packages and services stay as they are
+  module _ (calls grants needs : ℕ → ℕ → ℕ → Bool) (u : List Unmet) (w : List Waiting) where
+    abbrev rowed : Tables
+    rowed = record {
+      used = t .used;
+      aid = t .aid;
+      tok = t .tok;
+      provides = t .provides;
+      calls = calls;
+      grants = grants;
+      needs = needs;
+      unmet = u;
+      waiting = w;
+    }
+
+    rows-settle : (c : Change) (m : ℕ) → Numbered t rowed a c m → rule t rowed m c .numbers
+        → ClosedUp (t .unmet) u (rule t rowed m c .unmet) → ClosedUp (t .waiting) w (rule t rowed m c .waiting) → Settles c rowed m
+    rows-settle c m h n x y = (
+      h,
+      record { packages-stay = packages-in t (λ p v. inl (v, refl)); services-stay = services-in t (λ j k v. inl (v, refl)); numbers = n; unmet = x; waiting = y },
+    )
+
+  -- lists in which nothing is new, whatever rows the record has
+  no-calls : (m : ℕ) (rows : List Row) {u : List Unmet} → InOrder u (t .unmet) → ClosedUp (t .unmet) u (callsOf m rows)
+  no-calls m rows h = none-new h (none-recorded wanted (λ u. u .caller) m rows)
+
+  no-grants : (t′ : Tables) (m : ℕ) (rows : List Row) {w : List Waiting} → InOrder w (t .waiting) → ClosedUp (t .waiting) w (grantsOf t′ m rows)
+  no-grants t′ m rows h = none-new h (none-recorded (grantAt t′) (λ w. w .callee) m rows)
+
+  same-calls : (m : ℕ) (rows : List Row) → ClosedUp (t .unmet) (t .unmet) (callsOf m rows)
+  same-calls m rows = no-calls m rows (all-stay (t .unmet))
+
+  same-grants : (m : ℕ) (rows : List Row) → ClosedUp (t .waiting) (t .waiting) (grantsOf t m rows)
+  same-grants m rows = no-grants t m rows (all-stay (t .waiting))
+
+  module _ (r : Row) (i : ℕ) (h : HasNumber t a i) where
+    add-call : (RowAt t (t .calls) (t .unmet) i r → ⊥) → (o : Option Place) → Settles (addCall r) (addCallAt L t i r o .tables) i
+    add-call fresh none = rows-settle _ _ _ _ _ (addCall r) i h tt
+        (record {
+          stayed = t .unmet;
+          new = callRow i r ∷ [];
+          is = refl;
+          in-order = all-stay (t .unmet);
+          unseen = each-one (λ u. In u (t .unmet) → ⊥) (callRow i r) (λ m. fresh (RowAt.row m));
+          ordered = (stays refl none-left, each-one (λ u. u .caller ≡ i) (callRow i r) refl);
+        })
+        (same-grants i [])
+    add-call fresh (some p) = rows-settle _ _ _ _ _ (addCall r) i h tt (same-calls i (r ∷ [])) (same-grants i [])
+
+    remove-call : (o : Option Place) → Settles (removeCall r) (removeCallAt L t i r o .tables) i
+    remove-call none = rows-settle _ _ _ _ _ (removeCall r) i h tt (no-calls i [] (keep-order (λ u. not (eqUnmet (callRow i r) u)) (t .unmet))) (same-grants i [])
+    remove-call (some p) = rows-settle _ _ _ _ _ (removeCall r) i h tt (same-calls i []) (same-grants i [])
+
+    module _ (k : ℕ) where
+      abbrev wait : Waiting
+      wait = record { caller = r .aid; callee = i; service = k }
+
+      add-grant : t .tok i k ≡ r .tok → (GrantAt t i r → ⊥) → (o : Option ℕ) → Settles (addGrant r) (addGrantAt L t i (r .aid) k o .tables) i
+      add-grant e fresh none = rows-settle _ _ _ _ _ (addGrant r) i h tt (same-calls i [])
+          (record {
+            stayed = t .waiting;
+            new = wait ∷ [];
+            is = refl;
+            in-order = all-stay (t .waiting);
+            unseen = each-one (λ w. In w (t .waiting) → ⊥) wait (λ m. fresh (GrantAt.row k m (sym e)));
+            ordered = (stays (row-path refl e) none-left, each-one (λ w. w .callee ≡ i) wait refl);
+          })
+      add-grant e fresh (some x) = rows-settle _ _ _ _ _ (addGrant r) i h tt (same-calls i []) (same-grants i (r ∷ []))
+
+      remove-grant : (o : Option ℕ) → Settles (removeGrant r) (removeGrantAt L t i (r .aid) k o .tables) i
+      remove-grant none = rows-settle _ _ _ _ _ (removeGrant r) i h tt (same-calls i []) (no-grants t i [] (keep-order (λ w. not (eqWaiting wait w)) (t .waiting)))
+      remove-grant (some x) = rows-settle _ _ _ _ _ (removeGrant r) i h tt (same-calls i []) (same-grants i [])
+
+    add-need : (o : Option Place) → Settles (addNeed r) (addNeedAt L t i r o .tables) i
+    add-need none = rows-settle _ _ _ _ _ (addNeed r) i h tt (same-calls i []) (same-grants i [])
+    add-need (some p) = rows-settle _ _ _ _ _ (addNeed r) i h tt (same-calls i []) (same-grants i [])
+
+    remove-need : (o : Option Place) → Settles (removeNeed r) (removeNeedAt L t i r o .tables) i
+    remove-need none = rows-settle _ _ _ _ _ (removeNeed r) i h tt (same-calls i []) (same-grants i [])
+    remove-need (some p) = rows-settle _ _ _ _ _ (removeNeed r) i h tt (same-calls i []) (same-grants i [])
+
+  -- ---- kinds 2 and 4: services d of package j go, and calls on them are left
+  module _ (t′ : Tables) (j : ℕ) (d : ℕ → Bool) (w : Without t t′ j d) where
+    packages-without : Stay (t .used) (t .aid) (t′ .used) (t′ .aid)
+    packages-without = packages-in t′ (λ p u. inl (w .used-old p u, w .aid-same p u))
+
+    services-without : (y : ℕ) → Stay (t .provides y) (t .tok y) (t′ .provides y) (t′ .tok y)
+    services-without = services-in t′ (λ y z p. inl (w .prov-old y z p, w .tok-same y z p))
+
+  left-placed : (j : ℕ) (d : ℕ → Bool) (stayed : List Unmet) → InOrder stayed (t .unmet) → ClosedUp (t .unmet) (stayed ++ leftBy L t (t .calls) j d) (callsOn t j)
+  left-placed j d stayed h = record {
+    stayed = stayed;
+    new = leftBy L t (t .calls) j d;
+    is = refl;
+    in-order = h;
+    unseen = λ u m n.
+        let x = left-in L t (fm .names) j d (t .calls) (fm .calls) m in
+        fm .unmet .off .off-card u n j (x .1) (fm .calls .of-prov (x .0) j (x .1) (x .2)) (sym (ap (λ (v : Unmet). v .callee) (x .4))) (sym (ap (λ (v : Unmet). v .tok) (x .4)));
+    ordered = by-numbers (λ i k. t .calls i j k && d k) (λ i k. callRow i (serviceAt t j k)) (λ i k. t .calls i j k) (λ i k b. and-l (t .calls i j k) (d k) b) (L .services) (L .packages);
+  }
+
+  remove-placed : (n : ℕ) → T (t .used n) → Placed t (removeAt L t n .tables) n remove
+  remove-placed n un = record {
+    packages-stay = packages-without (removeAt L t n .tables) n (λ z. true) gone;
+    services-stay = services-without (removeAt L t n .tables) n (λ z. true) gone;
+    numbers = tt;
+    unmet = left-placed n (λ z. true) (keep (λ u. not (eqb (u .caller) n)) (t .unmet)) (keep-order (λ u. not (eqb (u .caller) n)) (t .unmet));
+    waiting = record {
+      stayed = keep (λ w. not (eqb (w .callee) n)) (t .waiting);
+      new = pairs waitFor (λ j. t .grants j n) (places L) (numbers L);
+      is = refl;
+      in-order = keep-order (λ w. not (eqb (w .callee) n)) (t .waiting);
+      unseen = λ w m o. fm .waiting .wait-off w o n un (sym (ap (λ (v : Waiting). v .caller) (pairs-in waitFor (λ j. t .grants j n) (places L) (numbers L) m .3)));
+      ordered = by-numbers (λ j. t .grants j n) waitFor (λ j. t .grants j n) (λ j k b. b) (L .services) (L .packages);
+    };
+  }
+    where
+      gone : Without t (removeAt L t n .tables) n (λ z. true)
+      gone = package-dropped L t fm n un .without
+
+      waitFor : ℕ → ℕ → Waiting
+      waitFor j k = record { caller = t .aid n; callee = j; service = k }
+
+  remove-service-placed : (s : Tok) (j k : ℕ) → T (t .provides j k) → Placed t (removeServiceAt L t j k .tables) j (removeService s)
+  remove-service-placed s j k p = record {
+    packages-stay = packages-without (removeServiceAt L t j k .tables) j (λ z. eqb z k) gone;
+    services-stay = services-without (removeServiceAt L t j k .tables) j (λ z. eqb z k) gone;
+    numbers = tt;
+    unmet = left-placed j (λ z. eqb z k) (t .unmet) (all-stay (t .unmet));
+    waiting = no-grants (removeServiceAt L t j k .tables) j [] (keep-order (λ w. not (eqb (w .callee) j && eqb (w .service) k)) (t .waiting));
+  }
+    where
+      gone : Without t (removeServiceAt L t j k .tables) j (λ z. eqb z k)
+      gone = service-dropped L t fm j k p .without
+
+  -- ---- kind 3: service k of package j is new
+  module _ (s : Tok) (l : List Aid) (j k : ℕ) (fresh : ProvidesAt t j s → ⊥) (free : FreeIs (L .services) (t .provides j) (some k)) where
+    abbrev served : Tables
+    served = addServiceAt L t j k s l .tables
+
+    place : NewPlace (t .tok) (served .tok) (t .provides) (served .provides) j k s
+    place = new-place (t .tok) (t .provides) j k s (free .1)
+
+    add-service-placed : Placed t served j (addService s l)
+    add-service-placed = record {
+      packages-stay = packages-in t (λ p v. inl (v, refl));
+      services-stay = services-in served (λ y z p. old-or-new y z (place .prov-cases y z p));
+      numbers = (k, (free .1, free .2), place .new-prov, place .new-tok);
+      unmet = no-calls j [] (keep-order (λ u. not (asksFor L t (t .aid j) s u)) (t .unmet));
+      waiting = record {
+        stayed = t .waiting;
+        new = map waits (keep lone l);
+        is = refl;
+        in-order = all-stay (t .waiting);
+        unseen = each-map-keep waits (λ w. In w (t .waiting) → ⊥) lone l (λ b _ _ m. free .1 (fm .waiting .wait-prov (waits b) m));
+        ordered = recorded waits lone (grantAt served) (λ w. w .callee) j (λ b. record { aid = b; tok = s }) l (λ b _. row-path refl (place .new-tok)) (λ b. refl);
+      };
+    }
+      where
+        lone : Aid → Bool
+        lone b = not (isSome (numberOf L t b))
+
+        waits : Aid → Waiting
+        waits b = record { caller = b; callee = j; service = k }
+
+        old-or-new : (y z : ℕ) → ((y ≡ j) × (z ≡ k)) ⊎ T (t .provides y z) → OldOrNew (t .provides y) (t .tok y) (served .tok y) z
+        old-or-new y z (inl e) = inr (
+          λ p. free .1 (rw (← e .0, ← e .1) p),
+          λ x p q. fresh (at x (subst (λ (v : ℕ). T (t .provides v x)) (e .0) p)
+              (sym (place .new-tok) ∙ (λ i. served .tok (sym (e .0) i) (sym (e .1) i)) ∙ sym q ∙ (λ i. t .tok (e .0 i) x))),
+        )
+        old-or-new y z (inr p) = inl (p, place .old-tok y z p)
+
+  -- ---- kind 1: package m is new
+  module _ (p : List Tok) (c g n : List Row) (va : T (validAid a)) (m : ℕ) where
+    abbrev contract : Contract
+    contract = record { aid = a; provides = p; calls = c; grants = g; needs = n }
+
+    abbrev joined : Tables
+    joined = loadAt L t m contract .tables
+
+    load-settles : Newcomer L t m contract → Settles (load p c g n) joined m
+    load-settles new = (
+      (on .used-new, on .aid-new),
+      record {
+        packages-stay = packages-in joined (λ x. by-number m (λ (x : ℕ). T (joined .used x) → OldOrNew (t .used) (t .aid) (joined .aid) x) x
+            (λ _. inr (new .free, λ y u e. new .absent y u (e ∙ on .aid-new))) (λ ne u. inl (on .used-back x ne u, on .aid-old x ne)));
+        services-stay = services-in joined (λ y z. by-number m (λ (y : ℕ). T (joined .provides y z) → OldOrNew (t .provides y) (t .tok y) (joined .tok y) z) y
+            (λ _. inr (λ q. on .prov-ne m z q refl, λ x q _. on .prov-ne m x q refl)) (λ ne q. inl (on .prov-back y z ne q, on .tok-old y z ne)));
+        numbers = ((new .free, new .lower-used), (λ k. (on .prov-is k, on .prov-new k)), λ k _. on .tok-new k);
+        unmet = record {
+          stayed = keep (unmetStill L t m contract) (t .unmet);
+          new = map (callRow m) (keep (notServed L t m contract) c);
+          is = refl;
+          in-order = keep-order (unmetStill L t m contract) (t .unmet);
+          unseen = each-map-keep (callRow m) (λ u. In u (t .unmet) → ⊥) (notServed L t m contract) c (λ r _ _ o. new .free (fm .unmet .off .off-used (callRow m r) o));
+          ordered = subst (λ (rows : List Row). callsOf m rows (map (callRow m) (keep (notServed L t m contract) c))) (map-id c)
+              (recorded (callRow m) (notServed L t m contract) wanted (λ u. u .caller) m (λ r. r) c (λ r _. refl) (λ r. refl));
+        };
+        waiting = record {
+          stayed = keep (waitsStill L t m contract) (t .waiting);
+          new = map (waitingFor L t m contract) (keep (uninstalled L t m contract) g);
+          is = refl;
+          in-order = keep-order (waitsStill L t m contract) (t .waiting);
+          unseen = each-map-keep (waitingFor L t m contract) (λ w. In w (t .waiting) → ⊥) (uninstalled L t m contract) g
+              (λ r _ _ o. on .prov-ne m _ (fm .waiting .wait-prov (waitingFor L t m contract r) o) refl);
+          ordered = subst (λ (rows : List Row). grantsOf joined m rows (map (waitingFor L t m contract) (keep (uninstalled L t m contract) g))) (map-id g)
+              (recorded (waitingFor L t m contract) (uninstalled L t m contract) (grantAt joined) (λ w. w .callee) m (λ r. r) g
+              (λ r i. row-path refl (service-loaded L t m contract new va (new .grants-provided r i) .1)) (λ r. refl));
+        };
+      },
+    )
+      where
+        on : Loaded L t m contract
+        on = loaded L t m contract new
+
+  -- ---- the ten kinds
+  module _ (c : Change) where
+    abbrev Settled : Draft → Look → Type 0
+    Settled d _ = Settles c (d .tables) (numberFor L t a)
+
+    -- under the number n of an installed package
+    under : {t′ : Tables} (n : ℕ) → HasNumber t a n → Settles c t′ n → Settles c t′ (numberFor L t a)
+    under {t′} n h = subst (Settles c t′) (number-here n (h .0) (h .1))
+
+  -- package j provides service k
+  provider : (j k : ℕ) → T (t .provides j k) → t .aid j ≡ a → HasNumber t a j
+  provider j k p e = (fm .names .prov-used j k p, e)
+
+  pub settles : (c : Change) → T (validAid a) → Valid L c → T (proper a c) → answer (tableCauses L t a c) ≡ 0 → Settles c (draft L t a c .tables) (numberFor L t a)
+  settles (load p c g n) va v pr = load-reached L t a p c g n (Settled (load p c g n)) fm (v .0) pr (λ m new.
+      subst (Settles (load p c g n) (joined p c g n va m)) (number-new m (contract p c g n va m) refl new) (load-settles p c g n va m new))
+  settles remove va v pr = reach-2 L t fm a (Settled remove) (λ n u e. under remove n (u, e) ((u, e), remove-placed n u))
+  settles (addService s l) va v pr =
+      reach-3 L t fm a (Settled (addService s l)) s l (λ j k u e fresh free. under (addService s l) j (u, e) ((u, e), add-service-placed s l j k fresh free))
+  settles (removeService s) va v pr =
+      reach-4 L t fm a (Settled (removeService s)) s (λ j k p e _. let h = provider j k p e in under (removeService s) j h (h, remove-service-placed s j k p))
+  settles (addCall r) va v pr = reach-5 L t fm a (Settled (addCall r)) r (λ i u e fresh o _. under (addCall r) i (u, e) (add-call r i (u, e) fresh o))
+  settles (removeCall r) va v pr = reach-6 L t fm a (Settled (removeCall r)) r (λ i u e o _. under (removeCall r) i (u, e) (remove-call r i (u, e) o))
+  settles (addGrant r) va v pr =
+      reach-7 L t fm a (Settled (addGrant r)) r (λ j k p e ek fresh o _. let h = provider j k p e in under (addGrant r) j h (add-grant r j h k ek fresh o))
+  settles (removeGrant r) va v pr =
+      reach-8 L t fm a (Settled (removeGrant r)) r (λ j k p e _ o _. let h = provider j k p e in under (removeGrant r) j h (remove-grant r j h k o))
+  settles (addNeed r) va v pr = reach-9 L t fm a (Settled (addNeed r)) r (λ i u e _ _ o _. under (addNeed r) i (u, e) (add-need r i (u, e) o))
+  settles (removeNeed r) va v pr = reach-10 L t fm a (Settled (removeNeed r)) r (λ i u e o _. under (removeNeed r) i (u, e) (remove-need r i (u, e) o))

@@ -1,0 +1,115 @@
+-- Where an accepted record puts things, by the tables before and after: document 01, 'Where things go', for what
+-- *stands for* does not see, numbers and the order of rows.
+use Prim.Native.Nat.{ℕ, _<_}
+use mathlib.Core.Path.{_≡_}
+use mathlib.Core.Logic.{_↔_, _⊎_}
+use mathlib.Core.Bool.{Bool}
+use mathlib.Core.List.{List, [], _∷_, _++_, map}
+use mathlib.Core.List.{List·Memᴰ as In, Sublistᴰ as InOrder}
+use mathlib.Core.Option.{some}
+use lib.Dec.{T}
+use lib.ListN.{length, getD}
+use Rattle.policy.specs.Contract.{Row}
+use Rattle.policy.specs.Layout.{Layout}
+use Rattle.policy.specs.Record.{Request, Change, load, remove, addService, removeService, addCall, removeCall, addGrant, removeGrant, addNeed, removeNeed, parse}
+use Rattle.policy.specs.Tables.{Tables, Unmet, Waiting, noTok, decode}
+use Rattle.policy.specs.Lookup.{wanted, grantAt}
+use Rattle.policy.specs.Sound.{sound}
+use Rattle.policy.specs.Judge.{judge}
+
+-- ---- numbers
+-- n is the lowest number that is not taken
+abbrev pub Lowest : (ℕ → Bool) → ℕ → Type 0
+Lowest taken n = (T (taken n) → ⊥) × ((i : ℕ) → i < n → T (taken i))
+
+-- what had a number before and has one afterwards has the same one: of the numbers taken before and of those taken
+-- afterwards, equal ones and no others have the same value
+abbrev pub Stay : {A : Type 0} → (ℕ → Bool) → (ℕ → A) → (ℕ → Bool) → (ℕ → A) → Type 0
+Stay taken value taken′ value′ = (n p : ℕ) → T (taken n) → T (taken′ p) → (value n ≡ value′ p) ↔ (n ≡ p)
+
+-- ---- lists
+-- 'What leaves a list is closed up in order. Then new rows are put at the end.'
+pub record ClosedUp {A : Type 0} (before after : List A) (Order : List A → Type 0) : Type 0 where
+  pub stayed : List A
+  pub new : List A
+  pub is : after ≡ stayed ++ new
+  pub in-order : InOrder stayed before
+  pub unseen : (x : A) → In x new → In x before → ⊥
+  pub ordered : Order new
+
+-- 'New rows come in record order': those of package m, which are some of the record's rows
+abbrev pub AsRecorded : {A : Type 0} → (A → Row) → (A → ℕ) → ℕ → List Row → List A → Type 0
+AsRecorded {A} row owner m rows new = InOrder (map row new) rows × ((x : A) → In x new → owner x ≡ m)
+
+-- pairs of numbers that go up, by the first, then by the second
+abbrev pub Below : ℕ × ℕ → ℕ × ℕ → Type 0
+Below p q = (p .0 < q .0) ⊎ ((p .0 ≡ q .0) × (p .1 < q .1))
+
+abbrev pub GoesUp : List (ℕ × ℕ) → Type 0
+GoesUp [] = Unit {0}
+GoesUp (p ∷ l) = ((q : ℕ × ℕ) → In q l → Below p q) × GoesUp l
+
+-- 'by caller number then the service number', 'by callee number then service number': the rows of pairs whose bits were set
+abbrev pub ByNumber : {A : Type 0} → (ℕ → ℕ → Bool) → (ℕ → ℕ → A) → List A → Type 0
+ByNumber bits row new = (ps : List (ℕ × ℕ)) × GoesUp ps × ((p : ℕ × ℕ) → In p ps → T (bits (p .0) (p .1))) × (new ≡ map (λ p. row (p .0) (p .1)) ps)
+
+-- ---- new rows, by the number m of the record's package and the tables before or after
+-- unmet calls of package m that the record has, and its grants that wait
+abbrev pub callsOf : ℕ → List Row → List Unmet → Type 0
+callsOf m rows = AsRecorded wanted (λ u. u .caller) m rows
+
+abbrev pub grantsOf : Tables → ℕ → List Row → List Waiting → Type 0
+grantsOf after m rows = AsRecorded (grantAt after) (λ w. w .callee) m rows
+
+-- 'after kind 2 or 4, unmet calls by caller number then the service number it had'
+abbrev pub callsOn : Tables → ℕ → List Unmet → Type 0
+callsOn before m = ByNumber (λ i k. before .calls i m k) (λ i k. record { callee = before .aid m; tok = before .tok m k; caller = i })
+
+-- 'after kind 2, waiting grants by callee number then service number'
+abbrev pub grantsTo : Tables → ℕ → List Waiting → Type 0
+grantsTo before m = ByNumber (λ j k. before .grants j m k) (λ j k. record { caller = before .aid m; callee = j; service = k })
+
+-- ---- the rules, by kind: of the numbers taken, and of the new rows of each list
+pub record Rule : Type 1 where
+  pub numbers : Type 0
+  pub unmet : List Unmet → Type 0
+  pub waiting : List Waiting → Type 0
+
+module _ (before after : Tables) (m : ℕ) where
+  -- no number is taken, and no grant waits anew
+  abbrev pub onlyCalls : (List Unmet → Type 0) → Rule
+  onlyCalls u = record { numbers = Unit {0}; unmet = u; waiting = grantsOf after m [] }
+
+  abbrev pub rule : Change → Rule
+  -- 'A load takes the lowest unused package number. Its services take 0, 1, 2 in record order.'
+  rule (load p c g n) = record {
+    numbers = Lowest (before .used) m × ((k : ℕ) → T (after .provides m k) ↔ (k < length p)) × ((k : ℕ) → k < length p → after .tok m k ≡ getD p k noTok);
+    unmet = callsOf m c;
+    waiting = grantsOf after m g;
+  }
+  rule remove = record { numbers = Unit {0}; unmet = callsOn before m; waiting = grantsTo before m }
+  -- 'Kind 3 takes the lowest unused service number.'
+  rule (addService s l) = record {
+    numbers = (k : ℕ) × Lowest (before .provides m) k × T (after .provides m k) × (after .tok m k ≡ s);
+    unmet = callsOf m [];
+    waiting = grantsOf after m (map (λ a. record { aid = a; tok = s }) l);
+  }
+  rule (removeService s) = onlyCalls (callsOn before m)
+  rule (addCall r) = onlyCalls (callsOf m (r ∷ []))
+  rule (removeCall r) = onlyCalls (callsOf m [])
+  rule (addGrant r) = record { numbers = Unit {0}; unmet = callsOf m []; waiting = grantsOf after m (r ∷ []) }
+  rule (removeGrant r) = onlyCalls (callsOf m [])
+  rule (addNeed r) = onlyCalls (callsOf m [])
+  rule (removeNeed r) = onlyCalls (callsOf m [])
+
+-- the tables before and after a change of package m
+pub record Placed (before after : Tables) (m : ℕ) (c : Change) : Type 0 where
+  pub packages-stay : Stay (before .used) (before .aid) (after .used) (after .aid)
+  pub services-stay : (j : ℕ) → Stay (before .provides j) (before .tok j) (after .provides j) (after .tok j)
+  pub numbers : rule before after m c .numbers
+  pub unmet : ClosedUp (before .unmet) (after .unmet) (rule before after m c .unmet)
+  pub waiting : ClosedUp (before .waiting) (after .waiting) (rule before after m c .waiting)
+
+abbrev pub Placing : Layout → Type 0
+Placing L = (img s : List ℕ) (q : Request) → T (sound L img) → parse L s ≡ some q → judge L img s .answered ≡ 0
+    → Placed (decode L img) (decode L (judge L img s .bytes)) (judge L img s .second) (q .change)
