@@ -14,7 +14,8 @@ use Rattle.policy.specs.Tables.{decode}
 use Rattle.policy.specs.Lookup.{usedNumbers, contractAt}
 use Rattle.policy.specs.Sound.{sound}
 use Rattle.policy.specs.Judge.{Out, refusal, check, loadRecord, readOut}
-use Rattle.policy.specs.Numbering.{SecondNumber, CheckCounts, LoadOf, ReadLength}
+use Rattle.policy.specs.Records.{requestOf}
+use Rattle.policy.specs.Numbering.{SecondNumber, CheckCounts, ReadLength}
 use Rattle.policy.proofs.Sets.{T-true, true-T, and-r}
 use Rattle.policy.proofs.SoundFacts.{sound-formed, sound-fitting}
 use Rattle.policy.proofs.ReadOut.{read-out-parses}
@@ -46,7 +47,7 @@ read-length L lo img n out z = go (sound L img) (ltb n (L .packages) && decode L
 
     go : (a b c : Bool) → sound L img ≡ a → ltb n (L .packages) && decode L img .used n ≡ b → given a b c .answered ≡ 0
         → T (sound L img) × T (decode L img .used n) × (given a b c .second ≤ length (given a b c .bytes))
-        × (parse L (take (given a b c .second) (given a b c .bytes)) ≡ some (LoadOf (contractAt L (decode L img) n)))
+        × (parse L (take (given a b c .second) (given a b c .bytes)) ≡ some (requestOf (contractAt L (decode L img) n)))
     go true true true ea eb e =
         let ok = true-T ea in
         let un = and-r (ltb n (L .packages)) (decode L img .used n) (true-T eb) in

@@ -12,6 +12,7 @@ use Rattle.policy.specs.Tables.{Tables, decode}
 use Rattle.policy.specs.Lookup.{contractAt}
 use Rattle.policy.specs.Sound.{sound}
 use Rattle.policy.specs.Judge.{judge, check, readOut}
+use Rattle.policy.specs.Records.{requestOf}
 use Rattle.policy.specs.History.{StandsFor}
 
 -- the package a has number m
@@ -39,12 +40,8 @@ SecondNumber L = (img s : List ℕ) (q : Request) → T (sound L img) → parse 
 abbrev pub CheckCounts : Layout → Type 0
 CheckCounts L = (img : List ℕ) (cs : List Contract) → StandsFor L img cs → (check L img .answered ≡ 0) × (check L img .second ≡ length cs)
 
--- the load of a contract
-abbrev pub LoadOf : Contract → Request
-LoadOf c = record { aid = c .aid; change = load (c .provides) (c .calls) (c .grants) (c .needs) }
-
 -- 'on reading out, the record's length': so many bytes from the front are a record, the load of the package's contract
 abbrev pub ReadLength : Layout → Type 0
 ReadLength L = (img : List ℕ) (n : ℕ) (out : List ℕ) → readOut L img n out .answered ≡ 0
     → T (sound L img) × T (decode L img .used n) × (readOut L img n out .second ≤ length (readOut L img n out .bytes))
-    × (parse L (take (readOut L img n out .second) (readOut L img n out .bytes)) ≡ some (LoadOf (contractAt L (decode L img) n)))
+    × (parse L (take (readOut L img n out .second) (readOut L img n out .bytes)) ≡ some (requestOf (contractAt L (decode L img) n)))
