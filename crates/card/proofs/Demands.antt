@@ -14,19 +14,22 @@ use Rattle.policy.specs.Contract.{Aid, Contract, validAid}
 use Rattle.policy.specs.Layout.{small}
 use Rattle.policy.specs.Causes.{Cause, _when_, answer}
 use Rattle.policy.specs.Tables.{decode, emptyImage}
-use Rattle.policy.specs.Judge.{Out, refusal, check, writeEmpty, loadRecord}
+use Rattle.policy.specs.Judge.{Out, refusal, judge, check, writeEmpty, loadRecord}
 use Rattle.policy.specs.Lookup.{contractAt}
 use Rattle.policy.specs.Sound.{sound}
 use Rattle.policy.specs.History.{SameContract, answers, imageAfter, StandsFor, contractsAfter}
 use Rattle.policy.specs.Claims.{RefusesWith, IsFirst, allCauses}
-use Rattle.policy.proofs.Sets.{and-l, and-r, every-in}
+use Rattle.policy.proofs.Sets.{and-l, and-r, test, every-in}
 use Rattle.policy.proofs.Answers.{ascends, first-is}
 use Rattle.policy.proofs.ParseFacts.{first-aid-part}
 use Rattle.policy.proofs.Entries.{answers-always}
+use Rattle.policy.proofs.Numbering.{second-number, check-counts}
+use Rattle.policy.proofs.Placing.{placing}
+use Rattle.policy.proofs.Records.{longest-record}
 use Rattle.policy.proofs.Theorems.{history, first-cause, accepted-exactly, sound-stands, read-out-again, small-ok}
 use Rattle.card.specs.Packed.{answerOf, secondOf, aidPlace}
 use Rattle.card.specs.Calls.{Returned, Calls}
-use Rattle.card.specs.Demands.{Refused, CallsAnswer, CallsCause, CallsVerdict, Restores, CallsReadOut, CallsHistory, CallsAid}
+use Rattle.card.specs.Demands.{Refused, CallsAnswer, CallsCause, CallsVerdict, Restores, CallsReadOut, CallsNumber, CallsHistory, CallsAid}
 use Rattle.card.proofs.Packs.{placed, aid-short}
 use Rattle.card.proofs.Tells.{Tells, checked-tells, emptied-tells, judged-tells, wrote, read-tells}
 
@@ -118,6 +121,30 @@ calls-read-out image n lent r left c z =
     let is : take (secondOf r) left ≡ loadRecord small k
     = (λ i. take ((t .second ∙ ap (λ (o : Out). o .second) (w .2)) i) ((c .left-is ∙ ap (λ (o : Out). o .bytes) (w .2)) i)) ∙ take-append-seam (loadRecord small k) _ in
     (w .0, un, subst (λ (s : List ℕ). Restores k s) (sym is) (restores image n (w .0) un))
+
+-- ---- second numbers
+-- what is accepted stands on a sound image
+judged-sound : (image rec : List ℕ) → judge small image rec .answered ≡ 0 → T (sound small image)
+judged-sound image rec z = go (test (sound small image))
+  where
+    go : T (sound small image) ⊎ (T (sound small image) → ⊥) → T (sound small image)
+    go (inl h) = h
+    go (inr h) = let e : 1 ≡ 0 = sym (ap (λ (o : Out). o .answered) (first-cause small small-ok image rec .0 h)) ∙ z in absurd (omega arith)
+
+pub calls-number : CallsNumber
+calls-number =
+    record {
+      checking = λ image r cs c s. let t = checked-tells image c in let k = check-counts small image cs s in (t .answer ∙ k .0, t .second ∙ k .1);
+      judging = λ image rec r left q c z e.
+          let t = judged-tells image rec c in
+          let a = sym (t .answer) ∙ z in
+          let ok = judged-sound image rec a in
+          record {
+            numbered = rw (t .second, c .left-is) (second-number small small-ok image rec q ok e a);
+            placed = rw (t .second, c .left-is) (placing small small-ok image rec q ok e a);
+          };
+      reading = λ image n lent r left c z. let t = read-tells image n lent c in rw (t .second) (longest-record small small-ok .1 image n lent (sym (t .answer) ∙ z));
+    }
 
 -- ---- demand 3
 -- calls one after another answer and leave what a history of records does

@@ -11,14 +11,17 @@ use lib.ListN.{length, take, drop}
 use Rattle.policy.specs.Lists.{from}
 use Rattle.policy.specs.Contract.{Contract, lawful}
 use Rattle.policy.specs.Layout.{small}
-use Rattle.policy.specs.Record.{Request, load, parse, proper}
+use Rattle.policy.specs.Record.{Request, parse, proper}
 use Rattle.policy.specs.Causes.{Cause, _when_}
 use Rattle.policy.specs.Machine.{effect, causes4to7}
 use Rattle.policy.specs.Tables.{decode, emptyImage}
 use Rattle.policy.specs.Lookup.{contractAt}
 use Rattle.policy.specs.Sound.{sound}
 use Rattle.policy.specs.Judge.{loadRecord}
+use Rattle.policy.specs.Records.{loadOf, requestOf}
 use Rattle.policy.specs.History.{SameContract, StandsFor, machineAnswers, contractsAfter}
+use Rattle.policy.specs.Numbering.{Numbered}
+use Rattle.policy.specs.Placing.{Placed}
 use Rattle.policy.specs.Claims.{CallsGranted, NeedsPresent, FitsLimits, IsFirst, allCauses}
 use Rattle.card.specs.Packed.{answerOf, secondOf}
 use Rattle.card.specs.Calls.{Checked, Emptied, Judged, ReadInto, AidFound, Calls}
@@ -73,8 +76,8 @@ CallsVerdict = (image rec : List ℕ) (r : ℕ) (left : List ℕ) → Judged ima
 -- ---- demand 2: reading out
 -- a record is well formed, has no cause 3, and is the contract again; a card that accepts it holds the same four sets
 pub record Restores (c : Contract) (rec : List ℕ) : Type 0 where
-  pub parses : parse small rec ≡ some (record { aid = c .aid; change = load (c .provides) (c .calls) (c .grants) (c .needs) })
-  pub is-proper : T (proper (c .aid) (load (c .provides) (c .calls) (c .grants) (c .needs)))
+  pub parses : parse small rec ≡ some (requestOf c)
+  pub is-proper : T (proper (c .aid) (loadOf c))
   pub loads-again : (image : List ℕ) (r : ℕ) (left : List ℕ) → Judged image rec r left → answerOf r ≡ 0
       → (m : ℕ) × T (decode small left .used m) × SameContract c (contractAt small (decode small left) m)
 
@@ -82,6 +85,16 @@ pub record Restores (c : Contract) (rec : List ℕ) : Type 0 where
 abbrev pub CallsReadOut : Type 0
 CallsReadOut = (image : List ℕ) (number : ℕ) (lent : List ℕ) (r : ℕ) (left : List ℕ) → ReadInto image number lent r left → answerOf r ≡ 0
     → T (sound small image) × T (decode small image .used number) × Restores (contractAt small (decode small image) number) (take (secondOf r) left)
+
+-- ---- the second number of an acceptance, 'returned with it', and where things go
+pub record NumberOfCall (image rec : List ℕ) (r : ℕ) (left : List ℕ) (q : Request) : Type 0 where
+  pub numbered : Numbered (decode small image) (decode small left) (q .aid) (q .change) (secondOf r)
+  pub placed : Placed (decode small image) (decode small left) (secondOf r) (q .change)
+
+pub record CallsNumber : Type 0 where
+  pub checking : (image : List ℕ) (r : ℕ) (cs : List Contract) → Checked image r → StandsFor small image cs → (answerOf r ≡ 0) × (secondOf r ≡ length cs)
+  pub judging : (image rec : List ℕ) (r : ℕ) (left : List ℕ) (q : Request) → Judged image rec r left → answerOf r ≡ 0 → parse small rec ≡ some q → NumberOfCall image rec r left q
+  pub reading : (image : List ℕ) (number : ℕ) (lent : List ℕ) (r : ℕ) (left : List ℕ) → ReadInto image number lent r left → answerOf r ≡ 0 → secondOf r ≤ 4145
 
 -- ---- demand 3: a call that wrote the empty image, and after it calls that judge a record each
 pub record HistoryOfCalls (ss : List (List ℕ)) (rs left : List ℕ) : Type 0 where
