@@ -5,30 +5,32 @@ use mathlib.Core.Bool.{Bool, true, false, cond}
 use mathlib.Core.List.{List}
 use mathlib.Core.Option.{none, some}
 use native.Mathlib.Omega.{arith}
-use lib.Dec.{eqb}
+use lib.Dec.{eqb, ltb}
 use lib.ListN.{length, drop, drop-of-length-le, List·getD-eq-default}
 use lib.Seq.{drop-cons}
+use borrow.Author.Tests.{ltb-true, ltb-false}
 use Rattle.policy.specs.Contract.{Row}
 use Rattle.policy.specs.Layout.{Layout}
 use Rattle.policy.specs.Record.{Got, got, bad, Reader, andThen, tokens, aRow, whole, change, kinds, aLoad, aService}
 use Rattle.policy.specs.Record.{Change, addCall, removeCall, addGrant, removeGrant, addNeed, removeNeed}
-use Rattle.record.specs.Meaning.{reader, listReader, Places, Served, RowStands, rowIn, AidFits, kindOf, KindFits, rowKind, Bodies}
+use Rattle.record.specs.Meaning.{reader, listReader, Places, Served, RowStands, rowIn, AidFits, kindOf, KindFits, loadBy, loadOf, serviceBy, serviceOf, rowKind, Bodies}
 use Rattle.record.specs.declared.Sort.{Sort}
 use Rattle.record.specs.declared.Sort.the-variants as sort
 use Rattle.record.specs.declared.Placed.{Placed}
 use Rattle.record.specs.declared.Placed.the-variants as placed
+use Rattle.record.specs.declared.ListAt.{ListAt}
 use Rattle.record.specs.declared.Service.{Service}
 use Rattle.record.specs.declared.Service.the-variants as service
+use Rattle.record.specs.declared.TokensAt.{TokensAt}
 use Rattle.record.specs.declared.Body.the-variants as body
 use Rattle.record.specs.declared.Aid.{Aid}
 use Rattle.record.specs.declared.Tokens.{Tokens}
-use Rattle.record.specs.declared.Items.{Items}
 use Rattle.record.specs.declared.RowAt.{RowAt}
 use Rattle.record.specs.declared.Kind.{Kind}
 use Rattle.record.specs.declared.Kind.the-variants.{Load, Remove, AddService, RemoveService, AddCall, RemoveCall, AddGrant, RemoveGrant, AddNeed, RemoveNeed}
 
 -- a list of a sort, at a position
-abbrev pub At : Layout → Sort → ℕ → List ℕ → Placed → Type 0
+abbrev pub At : Layout → Sort → ℕ → List ℕ → ListAt → Type 0
 At L k = Places (reader k) (listReader L k)
 
 -- the change of one row, by the kind
@@ -100,74 +102,55 @@ module _ (L : Layout) where
     unfolding change
     remove-good m = body-whole s Remove tt refl m
 
+  -- the last part that was read ends the record, or bytes are left over
+  ends : {g : Got Change} (end : ℕ) (s : List ℕ) (k : Kind) → KindFits s k → g ≡ got (kindOf s k) (drop end s) → (b : Bool) → ltb end (length s) ≡ b → Bodies L g s (cond b body.Malformed (body.Whole k))
+  ends end s k f e true t = body-left s e (ltb-true end (length s) t)
+  ends end s k f e false t = body-whole s k f e (ltb-false end (length s) t)
+
   -- a load: four lists, one after another
   module _ (s : List ℕ) {at : ℕ} where
-    pub load-bad : At L sort.Service at s placed.Malformed → Bodies L (aLoad L (drop at s)) s body.Malformed
+    load-by : (p c g n : Placed) {at₂ at₃ at₄ end : ℕ} → At L sort.Service at s (record { list = p; next = at₂ }) → At L sort.Row at₂ s (record { list = c; next = at₃ })
+        → At L sort.Row at₃ s (record { list = g; next = at₄ }) → At L sort.Row at₄ s (record { list = n; next = end })
+        → Bodies L (aLoad L (drop at s)) s (loadBy (length s) end p c g n)
     unfolding aLoad
-    load-bad h = body-bad (rw (← (h .same)))
+    load-by placed.Malformed c g n hp hc hg hn = body-bad (rw (← (hp .same)))
+    load-by (placed.Found p) placed.Malformed g n hp hc hg hn = body-bad (rw (← (hp .same), ← (hc .same)))
+    load-by (placed.Found p) (placed.Found c) placed.Malformed n hp hc hg hn = body-bad (rw (← (hp .same), ← (hc .same), ← (hg .same)))
+    load-by (placed.Found p) (placed.Found c) (placed.Found g) placed.Malformed hp hc hg hn = body-bad (rw (← (hp .same), ← (hc .same), ← (hg .same), ← (hn .same)))
+    load-by (placed.Found p) (placed.Found c) (placed.Found g) (placed.Found n) {end = end} hp hc hg hn =
+        ends end s (Load p c g n) (hp .fits, hc .fits, hg .fits, hn .fits) (rw (← (hp .same), ← (hc .same), ← (hg .same), ← (hn .same))) (ltb end (length s)) refl
 
-    module _ {p : Items} {at₂ : ℕ} (hp : At L sort.Service at s (placed.Found p at₂)) where
-      pub load-bad₂ : At L sort.Row at₂ s placed.Malformed → Bodies L (aLoad L (drop at s)) s body.Malformed
-      unfolding aLoad
-      load-bad₂ h = body-bad (rw (← (hp .same), ← (h .same)))
+    pub load-is : (p c g n : ListAt) → At L sort.Service at s p → At L sort.Row (p .next) s c → At L sort.Row (c .next) s g → At L sort.Row (g .next) s n
+        → Bodies L (aLoad L (drop at s)) s (loadOf (length s) p c g n)
+    load-is p c g n hp hc hg hn = load-by (p .list) (c .list) (g .list) (n .list) hp hc hg hn
 
-      module _ {c : Items} {at₃ : ℕ} (hc : At L sort.Row at₂ s (placed.Found c at₃)) where
-        pub load-bad₃ : At L sort.Row at₃ s placed.Malformed → Bodies L (aLoad L (drop at s)) s body.Malformed
-        unfolding aLoad
-        load-bad₃ h = body-bad (rw (← (hp .same), ← (hc .same), ← (h .same)))
-
-        module _ {g : Items} {at₄ : ℕ} (hg : At L sort.Row at₃ s (placed.Found g at₄)) where
-          pub load-bad₄ : At L sort.Row at₄ s placed.Malformed → Bodies L (aLoad L (drop at s)) s body.Malformed
-          unfolding aLoad
-          load-bad₄ h = body-bad (rw (← (hp .same), ← (hc .same), ← (hg .same), ← (h .same)))
-
-          module _ {n : Items} {end : ℕ} (hn : At L sort.Row at₄ s (placed.Found n end)) where
-            load-got : aLoad L (drop at s) ≡ got (kindOf s (Load p c g n)) (drop end s)
-            unfolding aLoad
-            load-got = rw (← (hp .same), ← (hc .same), ← (hg .same), ← (hn .same))
-
-            pub load-left : end < length s → Bodies L (aLoad L (drop at s)) s body.Malformed
-            load-left m = body-left s load-got m
-
-            pub load-good : length s ≤ end → Bodies L (aLoad L (drop at s)) s (body.Whole (Load p c g n))
-            load-good m = body-whole s (Load p c g n) (hp .fits .1, hc .fits .1, hg .fits .1, hn .fits .1) load-got m
-
-  module _ (s : List ℕ) {at : ℕ} where
-    pub alone-bad : Served at s service.Malformed → Bodies L (change L 4 (drop at s)) s body.Malformed
-    unfolding change
-    alone-bad h = body-bad (rw (← (h .same)))
-
-    pub service-short : Served at s service.Malformed → Bodies L (aService L (drop at s)) s body.Malformed
+    -- a service and its callers
+    service-by : (t : Service) (l : Placed) {at₂ end : ℕ} → Served at s (record { service = t; next = at₂ }) → At L sort.Caller at₂ s (record { list = l; next = end })
+        → Bodies L (aService L (drop at s)) s (serviceBy (length s) end t l)
     unfolding aService
-    service-short h = body-bad (rw (← (h .same)))
+    service-by service.Malformed l ht hl = body-bad (rw (← (ht .same)))
+    service-by (service.Found t) placed.Malformed ht hl = body-bad (rw (← (ht .same), ← (hl .same)))
+    service-by (service.Found t) (placed.Found l) {end = end} ht hl = ends end s (AddService t l) (hl .fits) (rw (← (ht .same), ← (hl .same))) (ltb end (length s)) refl
 
-    module _ {x : Tokens} (g : Served at s (service.Found x)) where
-      -- a service alone
-      alone-got : change L 4 (drop at s) ≡ got (kindOf s (RemoveService x)) (drop (at + 2) s)
+    pub service-is : (t : TokensAt) (l : ListAt) → Served at s t → At L sort.Caller (t .next) s l → Bodies L (aService L (drop at s)) s (serviceOf (length s) t l)
+    service-is t l ht hl = service-by (t .service) (l .list) ht hl
+
+    -- a service alone
+    module _ {t : TokensAt} (h : Served at s t) where
+      pub alone-bad : t .service ≡ service.Malformed → Bodies L (change L 4 (drop at s)) s body.Malformed
       unfolding change
-      alone-got = rw (← (g .same))
+      alone-bad e = body-bad (rw (← (h .same), e))
 
-      pub alone-left : at + 2 < length s → Bodies L (change L 4 (drop at s)) s body.Malformed
-      alone-left m = body-left s alone-got m
+      module _ {x : Tokens} (e : t .service ≡ service.Found x) where
+        alone-got : change L 4 (drop at s) ≡ got (kindOf s (RemoveService x)) (drop (t .next) s)
+        unfolding change
+        alone-got = rw (← (h .same), e)
 
-      pub alone-good : length s ≤ at + 2 → Bodies L (change L 4 (drop at s)) s (body.Whole (RemoveService x))
-      alone-good m = body-whole s (RemoveService x) tt alone-got m
+        pub alone-left : t .next < length s → Bodies L (change L 4 (drop at s)) s body.Malformed
+        alone-left m = body-left s alone-got m
 
-      -- a service and its callers
-      pub service-bad : At L sort.Caller (at + 2) s placed.Malformed → Bodies L (aService L (drop at s)) s body.Malformed
-      unfolding aService
-      service-bad h = body-bad (rw (← (g .same), ← (h .same)))
-
-      module _ {i : Items} {end : ℕ} (h : At L sort.Caller (at + 2) s (placed.Found i end)) where
-        service-got : aService L (drop at s) ≡ got (kindOf s (AddService x i)) (drop end s)
-        unfolding aService
-        service-got = rw (← (g .same), ← (h .same))
-
-        pub service-left : end < length s → Bodies L (aService L (drop at s)) s body.Malformed
-        service-left m = body-left s service-got m
-
-        pub service-good : length s ≤ end → Bodies L (aService L (drop at s)) s (body.Whole (AddService x i))
-        service-good m = body-whole s (AddService x i) (h .fits .1) service-got m
+        pub alone-good : length s ≤ t .next → Bodies L (change L 4 (drop at s)) s (body.Whole (RemoveService x))
+        alone-good m = body-whole s (RemoveService x) tt alone-got m
 
   -- one row
   change-row : (k : ℕ) (t : List ℕ) → 5 ≤ k → k ≤ 10 → change L k t ≡ andThen (aRow t) (λ r u. got (rowChange k r) u)

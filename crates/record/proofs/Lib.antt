@@ -6,3 +6,6 @@ pub mod Taken
 pub mod Loops
 pub mod Alike
 pub mod Improper
+mod Answers
+mod Held
+mod Listing

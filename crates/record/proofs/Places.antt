@@ -14,44 +14,30 @@ use Rattle.record.specs.Meaning.{Good, Takes, Lists, Places, Served, Aid
 use Rattle.record.specs.declared.Took.the-variants.{Bytes, Malformed}
 use Rattle.record.specs.declared.Listed.{Listed}
 use Rattle.record.specs.declared.Listed.the-variants as listed
-use Rattle.record.specs.declared.Placed.{Placed}
 use Rattle.record.specs.declared.Placed.the-variants as placed
-use Rattle.record.specs.declared.Service.{Service}
 use Rattle.record.specs.declared.Service.the-variants as service
 use Rattle.record.specs.declared.Tokens.{Tokens}
 use Rattle.record.specs.declared.Aid.{Aid}
-use Rattle.record.specs.declared.Items.{Items}
 use Rattle.record.proofs.Fronts.{rest, AidFront, aid-fits, aid-good, TokensFront, tokens-good, tokens-fit, tokens-two, took-bad}
 
 -- a list that list_end found in the part from at on
 module _ {A : Type 0} (p : Reader A) (q : Reader (List A)) (s : List ℕ) (at : ℕ) where
-  pub placed-bad : {r : Listed} → r ≡ listed.Malformed → Lists p q (take (length s - at) (drop at s)) r → Places p q at s placed.Malformed
-  placed-bad e h =
+  pub placed-bad : {r : Listed} → at ≤ length s → r ≡ listed.Malformed → Lists p q (take (length s - at) (drop at s)) r → Places p q at s (record { list = placed.Malformed; next = at })
+  placed-bad l e h =
       let g : Lists p q (drop at s) listed.Malformed = rw (e, rest at s) at h in
-      record { fits = tt; same = g .same }
+      record { inside = l; fits = tt; same = g .same }
 
   pub list-found : {r : Listed} {b c n : ℕ} → r ≡ listed.Found b c n → Lists p q (take (length s - at) (drop at s)) r → Lists p q (drop at s) (listed.Found b c n)
   list-found e h = rw (e, rest at s) at h
 
   pub placed-good : {b c n : ℕ} → at ≤ length s → Lists p q (drop at s) (listed.Found b c n)
-      → Places p q at s (placed.Found (record { at = at + b; count = c }) (at + n))
+      → Places p q at s (record { list = placed.Found (record { at = at + b; count = c }); next = at + n })
   placed-good {b} {c} {n} l g =
       record {
-        fits = (
-          omega (arith, g .fits .1, length-drop at s),
-          record { inside = omega (arith, g .fits .0, g .fits .1, length-drop at s); good = rw (drop-drop b at s) at (g .fits .2) },
-        );
+        inside = omega (arith, g .fits .1, length-drop at s);
+        fits = record { inside = omega (arith, g .fits .0, g .fits .1, length-drop at s); good = rw (drop-drop b at s) at (g .fits .2) };
         same = rw (drop-drop b at s, drop-drop n at s) at (g .same);
       }
-
--- what list_at found, where its answer is known
-pub found : {A : Type 0} {p : Reader A} {q : Reader (List A)} {at : ℕ} {s : List ℕ} {r : Placed} {i : Items} {n : ℕ}
-    → r ≡ placed.Found i n → Places p q at s r → Places p q at s (placed.Found i n)
-found e h = rw e at h
-
-pub lost : {A : Type 0} {p : Reader A} {q : Reader (List A)} {at : ℕ} {s : List ℕ} {r : Placed}
-    → r ≡ placed.Malformed → Places p q at s r → Places p q at s placed.Malformed
-lost e h = rw e at h
 
 -- the tokens at a position
 pub tokens-here : (at : ℕ) (s : List ℕ) → TokensFront (drop at s)
@@ -60,19 +46,16 @@ tokens-here at s h =
     tokens-good (drop at s) h
     ∙ rw (getD-drop at s 0 0, getD-drop at s 1 0, drop-drop 2 at s, add-zero at)
 
-pub served-bad : {at : ℕ} {s : List ℕ} → Takes tokens (drop at s) Malformed → Served at s service.Malformed
-served-bad h = record { fits = tt; same = sym (took-bad h) }
+pub served-bad : {at : ℕ} {s : List ℕ} → at ≤ length s → Takes tokens (drop at s) Malformed → Served at s (record { service = service.Malformed; next = at })
+served-bad l h = record { inside = l; same = sym (took-bad h) }
 
 pub served-two : (at : ℕ) (s : List ℕ) {n : ℕ} → at ≤ length s → Takes tokens (drop at s) (Bytes n) → at + 2 ≤ length s
 served-two at s l h = omega (arith, tokens-two h .1 .long, length-drop at s)
 
 pub served-good : {at n : ℕ} {s : List ℕ} {x : Tokens} → at ≤ length s → Takes tokens (drop at s) (Bytes n)
-    → tokOf x ≡ tokAt s at → Served at s (service.Found x)
+    → tokOf x ≡ tokAt s at → Served at s (record { service = service.Found x; next = at + 2 })
 served-good {at} {s = s} l h e =
-    record { fits = served-two at s l h; same = rw (← e) at (sym (tokens-here at s (tokens-two h .1))) }
-
-pub serves : {at : ℕ} {s : List ℕ} {r : Service} {x : Tokens} → r ≡ service.Found x → Served at s r → Served at s (service.Found x)
-serves e h = rw e at h
+    record { inside = served-two at s l h; same = rw (← e) at (sym (tokens-here at s (tokens-two h .1))) }
 
 -- a row that stands at the front of t
 pub record RowFits (t : List ℕ) : Type 0 where

@@ -4,7 +4,7 @@ use mathlib.Core.Path.{_≡_}
 use mathlib.Core.Bool.{cond}
 use mathlib.Core.List.{List, [], _∷_}
 use mathlib.Core.Option.{Option, none, some}
-use lib.Dec.{eqb}
+use lib.Dec.{eqb, ltb}
 use lib.ListN.{length, take, drop, getD}
 use Rattle.policy.specs.Contract.{Aid as Bytes, Tok, Row}
 use Rattle.policy.specs.Layout.{Layout}
@@ -30,8 +30,10 @@ use Rattle.record.specs.declared.Read.the-variants as read
 use Rattle.record.specs.declared.Record.{Record}
 use Rattle.record.specs.declared.Placed.{Placed}
 use Rattle.record.specs.declared.Placed.the-variants as placed
+use Rattle.record.specs.declared.ListAt.{ListAt}
 use Rattle.record.specs.declared.Service.{Service}
 use Rattle.record.specs.declared.Service.the-variants as service
+use Rattle.record.specs.declared.TokensAt.{TokensAt}
 use Rattle.record.specs.declared.RowAt.{RowAt}
 use Rattle.record.specs.declared.steps.RowStep.{RowStep}
 use Rattle.record.specs.declared.steps.AidStep.{AidStep}
@@ -175,31 +177,28 @@ KindFits s (AddNeed a t) = AidFits s a
 KindFits s (RemoveNeed a t) = AidFits s a
 
 -- ---- parts at a position of the record s
-abbrev pub placedOf : {A : Type 0} → Reader A → List ℕ → Placed → Got (List A)
-placedOf p s (placed.Found i n) = got (itemsIn p s i) (drop n s)
-placedOf p s placed.Malformed = bad
+abbrev pub placedOf : {A : Type 0} → Reader A → List ℕ → ℕ → Placed → Got (List A)
+placedOf p s n (placed.Found i) = got (itemsIn p s i) (drop n s)
+placedOf p s n placed.Malformed = bad
 
 abbrev pub PlacedFits : {A : Type 0} → Reader A → List ℕ → Placed → Type 0
-PlacedFits p s (placed.Found i n) = (n ≤ length s) × Stands p s i
+PlacedFits p s (placed.Found i) = Stands p s i
 PlacedFits p s placed.Malformed = Unit {0}
 
--- r is the list that q reads at a position
-pub record Places {A : Type 0} (p : Reader A) (q : Reader (List A)) (at : ℕ) (s : List ℕ) (r : Placed) : Type 0 where
-  pub fits : PlacedFits p s r
-  pub same : placedOf p s r ≡ q (drop at s)
+-- r is the list that q reads at a position, and the position after it
+pub record Places {A : Type 0} (p : Reader A) (q : Reader (List A)) (at : ℕ) (s : List ℕ) (r : ListAt) : Type 0 where
+  pub inside : r .next ≤ length s
+  pub fits : PlacedFits p s (r .list)
+  pub same : placedOf p s (r .next) (r .list) ≡ q (drop at s)
 
-abbrev pub servedOf : ℕ → List ℕ → Service → Got Tok
-servedOf at s (service.Found t) = got (tokOf t) (drop (at + 2) s)
-servedOf at s service.Malformed = bad
+abbrev pub servedOf : List ℕ → ℕ → Service → Got Tok
+servedOf s n (service.Found t) = got (tokOf t) (drop n s)
+servedOf s n service.Malformed = bad
 
-abbrev pub ServedFits : ℕ → List ℕ → Service → Type 0
-ServedFits at s (service.Found t) = at + 2 ≤ length s
-ServedFits at s service.Malformed = Unit {0}
-
--- r is the tokens at a position
-pub record Served (at : ℕ) (s : List ℕ) (r : Service) : Type 0 where
-  pub fits : ServedFits at s r
-  pub same : servedOf at s r ≡ tokens (drop at s)
+-- r is the tokens at a position, and the position after them
+pub record Served (at : ℕ) (s : List ℕ) (r : TokensAt) : Type 0 where
+  pub inside : r .next ≤ length s
+  pub same : servedOf s (r .next) (r .service) ≡ tokens (drop at s)
 
 -- r is the row at a position
 pub record RowStands (at : ℕ) (s : List ℕ) (r : RowAt) : Type 0 where
@@ -246,6 +245,29 @@ BodyFits s body.Malformed = Unit {0}
 pub record Bodies (L : Layout) (g : Got Change) (s : List ℕ) (r : Body) : Type 0 where
   pub fits : BodyFits s r
   pub same : bodyOf s r ≡ whole g
+
+-- the body of k where the part that was read last ends at end of len bytes
+abbrev pub endsAt : ℕ → ℕ → Kind → Body
+endsAt len end k = cond (ltb end len) body.Malformed (body.Whole k)
+
+-- four lists, each read after the one before it, as a load, and a service and its callers; Malformed where one is, or bytes are left over
+abbrev pub loadBy : ℕ → ℕ → Placed → Placed → Placed → Placed → Body
+loadBy len end (placed.Found p) (placed.Found c) (placed.Found g) (placed.Found n) = endsAt len end (Load p c g n)
+loadBy len end (placed.Found p) (placed.Found c) (placed.Found g) placed.Malformed = body.Malformed
+loadBy len end (placed.Found p) (placed.Found c) placed.Malformed n = body.Malformed
+loadBy len end (placed.Found p) placed.Malformed g n = body.Malformed
+loadBy len end placed.Malformed c g n = body.Malformed
+
+abbrev pub loadOf : ℕ → ListAt → ListAt → ListAt → ListAt → Body
+loadOf len p c g n = loadBy len (n .next) (p .list) (c .list) (g .list) (n .list)
+
+abbrev pub serviceBy : ℕ → ℕ → Service → Placed → Body
+serviceBy len end (service.Found t) (placed.Found l) = endsAt len end (AddService t l)
+serviceBy len end (service.Found t) placed.Malformed = body.Malformed
+serviceBy len end service.Malformed l = body.Malformed
+
+abbrev pub serviceOf : ℕ → TokensAt → ListAt → Body
+serviceOf len t l = serviceBy len (l .next) (t .service) (l .list)
 
 abbrev pub recordOf : List ℕ → Record → Request
 recordOf s r = record { aid = aidIn s (r .aid); change = kindOf s (r .kind) }

@@ -2,9 +2,9 @@
 ghost use mathlib.Core.Path.{_≡_};
 ghost use Prim.Native.Nat.{_+_, _-_, _≤_, _<_};
 ghost use lib.ListN.{length, drop};
-ghost use Rattle.policy.specs.Record.{aid, tokens, aRow, many, aLoad, aService, change, firstAid};
+ghost use Rattle.policy.specs.Record.{aid, tokens, aRow, many, change, firstAid};
 ghost use Rattle.geometry.specs.Geometry.{layoutOf};
-ghost use Rattle.record.specs.Meaning.{AidFits, aidIn, Takes, reader, widthOf, mostOf, listReader, Counts, Lists, Places, Served, Good, RowStands, tokOf, tokAt, Bodies, rowKind, Parses};
+ghost use Rattle.record.specs.Meaning.{AidFits, aidIn, Takes, reader, widthOf, mostOf, listReader, Counts, Lists, Places, Served, Good, RowStands, tokOf, tokAt, Bodies, loadOf, serviceOf, rowKind, Parses};
 use geometry::Card;
 
 pub mod proper;
@@ -96,16 +96,28 @@ pub enum Body {
     Malformed,
 }
 
-// A list at a position: its things, and the position after it.
+// The things of a list, or that it is malformed.
 pub enum Placed {
-    Found { items: Items, next: usize },
+    Found(Items),
     Malformed,
 }
 
-// The tokens at a position.
+// A list at a position, and the position after it; where it is malformed, a reader stays where it is.
+pub struct ListAt {
+    pub list: Placed,
+    pub next: usize,
+}
+
+// The tokens of a service, or that bytes are missing.
 pub enum Service {
     Found(Tokens),
     Malformed,
+}
+
+// The tokens at a position, and the position after them; where bytes are missing, a reader stays where it is.
+pub struct TokensAt {
+    pub service: Service,
+    pub next: usize,
 }
 
 // A row at a position: the other end's AID, the tokens, and the position after it.
@@ -232,61 +244,20 @@ fn list_end(part: &[u8], c: Card, sort: Sort) -> Listed
 }
 
 // The list at a position of the record.
-fn list_at(rec: &[u8], at: usize, c: Card, sort: Sort) -> Placed
+fn list_at(rec: &[u8], at: usize, c: Card, sort: Sort) -> ListAt
     requires { ⌜ at ≤ length (now rec) ⌝ }
     ensures { λ r. ⌜ Places (reader sort) (listReader (layoutOf c) sort) at (now (rec .entry)) r ⌝ }
 {
     let Listed::Found { start, count, size } = list_end(&rec[at..], c, sort) else {
-        return Placed::Malformed;
+        return ListAt {
+            list: Placed::Malformed,
+            next: at,
+        };
     };
     let first = at + start;
     let next = at + size;
-    let items = Items { at: first, count };
-    Placed::Found { items, next }
-}
-
-// A load's four lists, from a position to the record's end.
-fn read_load(rec: &[u8], at: usize, c: Card) -> Body
-    requires { ⌜ at ≤ length (now rec) ⌝ }
-    ensures { λ r. ⌜ Bodies (layoutOf c) (aLoad (layoutOf c) (drop at (now (rec .entry)))) (now (rec .entry)) r ⌝ }
-{
-    let Placed::Found {
-        items: provides,
-        next: calls_at,
-    } = reader::read_list(rec, at, c, Sort::Service)
-    else {
-        return Body::Malformed;
-    };
-    let Placed::Found {
-        items: calls,
-        next: grants_at,
-    } = reader::read_list(rec, calls_at, c, Sort::Row)
-    else {
-        return Body::Malformed;
-    };
-    let Placed::Found {
-        items: grants,
-        next: needs_at,
-    } = reader::read_list(rec, grants_at, c, Sort::Row)
-    else {
-        return Body::Malformed;
-    };
-    let Placed::Found {
-        items: needs,
-        next: end,
-    } = reader::read_list(rec, needs_at, c, Sort::Row)
-    else {
-        return Body::Malformed;
-    };
-    if end < rec.len() {
-        return Body::Malformed;
-    }
-    Body::Whole(Kind::Load {
-        provides,
-        calls,
-        grants,
-        needs,
-    })
+    let list = Placed::Found(Items { at: first, count });
+    ListAt { list, next }
 }
 
 // The tokens at a position of the record.
@@ -301,32 +272,65 @@ fn tokens_at(rec: &[u8], at: usize) -> Tokens
 }
 
 // The tokens at a position of the record, or that none stand there.
-fn read_tokens(rec: &[u8], at: usize) -> Service
+fn read_tokens(rec: &[u8], at: usize) -> TokensAt
     requires { ⌜ at ≤ length (now rec) ⌝ }
     ensures { λ r. ⌜ Served at (now (rec .entry)) r ⌝ }
 {
     let Took::Bytes(_) = tokens_end(&rec[at..]) else {
-        return Service::Malformed;
+        return TokensAt {
+            service: Service::Malformed,
+            next: at,
+        };
     };
-    Service::Found(tokens_at(rec, at))
+    let service = Service::Found(tokens_at(rec, at));
+    let next = at + 2;
+    TokensAt { service, next }
 }
 
-// A service and its callers, from a position to the record's end.
-fn read_add_service(rec: &[u8], at: usize, c: Card) -> Body
-    requires { ⌜ at ≤ length (now rec) ⌝ }
-    ensures { λ r. ⌜ Bodies (layoutOf c) (aService (layoutOf c) (drop at (now (rec .entry)))) (now (rec .entry)) r ⌝ }
+// A load of four lists, each read after the one before it, with no bytes left over.
+fn load_of(rec: &[u8], p: ListAt, q: ListAt, g: ListAt, n: ListAt) -> Body
+    ensures { λ r. ⌜ r ≡ loadOf (length (now (rec .entry))) p q g n ⌝ }
 {
-    let Service::Found(tokens) = read_tokens(rec, at) else {
+    let first = p.list;
+    let second = q.list;
+    let third = g.list;
+    let fourth = n.list;
+    let Placed::Found(provides) = first else {
         return Body::Malformed;
     };
-    let Placed::Found {
-        items: callers,
-        next: end,
-    } = reader::read_list(rec, at + 2, c, Sort::Caller)
-    else {
+    let Placed::Found(calls) = second else {
         return Body::Malformed;
     };
-    if end < rec.len() {
+    let Placed::Found(grants) = third else {
+        return Body::Malformed;
+    };
+    let Placed::Found(needs) = fourth else {
+        return Body::Malformed;
+    };
+    if n.next < rec.len() {
+        return Body::Malformed;
+    }
+    Body::Whole(Kind::Load {
+        provides,
+        calls,
+        grants,
+        needs,
+    })
+}
+
+// A service and the list of its callers, read after it, with no bytes left over.
+fn service_of(rec: &[u8], s: TokensAt, l: ListAt) -> Body
+    ensures { λ r. ⌜ r ≡ serviceOf (length (now (rec .entry))) s l ⌝ }
+{
+    let service = s.service;
+    let list = l.list;
+    let Service::Found(tokens) = service else {
+        return Body::Malformed;
+    };
+    let Placed::Found(callers) = list else {
+        return Body::Malformed;
+    };
+    if l.next < rec.len() {
         return Body::Malformed;
     }
     Body::Whole(Kind::AddService(tokens, callers))
@@ -337,10 +341,12 @@ fn read_remove_service(rec: &[u8], at: usize, c: Card) -> Body
     requires { ⌜ at ≤ length (now rec) ⌝ }
     ensures { λ r. ⌜ Bodies (layoutOf c) (change (layoutOf c) 4 (drop at (now (rec .entry)))) (now (rec .entry)) r ⌝ }
 {
-    let Service::Found(tokens) = read_tokens(rec, at) else {
+    let r = read_tokens(rec, at);
+    let service = r.service;
+    let Service::Found(tokens) = service else {
         return Body::Malformed;
     };
-    if at + 2 < rec.len() {
+    if r.next < rec.len() {
         return Body::Malformed;
     }
     Body::Whole(Kind::RemoveService(tokens))
@@ -398,14 +404,14 @@ fn read_body(rec: &[u8], at: usize, c: Card, kind: u8) -> Body
     ensures { λ r. ⌜ Bodies (layoutOf c) (change (layoutOf c) kind (drop at (now (rec .entry)))) (now (rec .entry)) r ⌝ }
 {
     match kind {
-        1 => read_load(rec, at, c),
+        1 => reader::read_load(rec, at, c),
         2 => {
             if at < rec.len() {
                 return Body::Malformed;
             }
             Body::Whole(Kind::Remove)
         }
-        3 => read_add_service(rec, at, c),
+        3 => reader::read_add_service(rec, at, c),
         4 => read_remove_service(rec, at, c),
         _ => {
             if kind < 5 {

@@ -27,8 +27,8 @@ enum-told c = search needs
 
 returns : tie.Need-returns
 returns c =
-    let a = c .before .before .before .before .before .args in
-    placed-bad _ _ (now (a .rec)) (a .at) (c .enum-told .given .1) (c .before .before .list-end .ensures)
+    let a = c .before .before .before .before .before in
+    placed-bad _ _ (now (a .args .rec)) (a .args .at) (a .pre) (c .enum-told .given .1) (c .before .before .list-end .ensures)
 
 add-first : tie.Need-add-first
 add-first c =

@@ -25,12 +25,17 @@ enum-told-2 : tie.Need-enum-told-2
 enum-told-2 c = search needs
 
 returns : tie.Need-returns
-returns c = let a = c .before .before .before .before .before .args in served-bad (at-part (now (a .rec)) (a .at) (c .enum-told2 .given .1) (c .before .before .tokens-end .ensures))
+returns c =
+    let a = c .before .before .before .before .before in
+    served-bad (a .pre) (at-part (now (a .args .rec)) (a .args .at) (c .enum-told2 .given .1) (c .before .before .tokens-end .ensures))
 
 tokens-at-requires : tie.Need-tokens-at-requires
 tokens-at-requires c κs =
     let a = c .before .before .before .before .before in
     served-two (a .args .at) (now (a .args .rec)) (a .pre) (at-part (now (a .args .rec)) (a .args .at) (c .enum-told .given .1) (c .before .before .tokens-end .ensures))
+
+add-next : tie.Need-add-next
+add-next c = search needs
 
 returns-2 : tie.Need-returns-2
 returns-2 c =
@@ -49,4 +54,5 @@ read-tokens-spec =
     enum-told-2
     returns
     tokens-at-requires
+    add-next
     returns-2)

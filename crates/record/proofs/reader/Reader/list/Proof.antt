@@ -51,13 +51,13 @@ use Rattle.geometry.proofs.Card.Laws as K′
 use Rattle.record.specs.Meaning.{Places, reader, listReader}
 use Rattle.record.specs.declared.reader.Reader.{Reader}
 use Rattle.record.specs.declared.Sort.{Sort}
-use Rattle.record.specs.declared.Placed.{Placed}
+use Rattle.record.specs.declared.ListAt.{ListAt}
 use Rattle.record.proofs.reader.Reader as T
 use Rattle.record.proofs.reader.Reader.Laws as T′
 use Rattle.record.proofs.Sort as O
 use Rattle.record.proofs.Sort.Laws as O′
-use Rattle.record.proofs.Placed as S
-use Rattle.record.proofs.Placed.Laws as S′
+use Rattle.record.proofs.ListAt as S
+use Rattle.record.proofs.ListAt.Laws as S′
 use Rattle.record.proofs.list_at as step
 use Rattle.record.proofs.list_at.Symbol as step-def
 use Rattle.record.proofs.list_at.Symbol.{name as #record·list-at}
@@ -76,8 +76,8 @@ stayed = (stay-none B yes, (stay-none (λ _. K.the-row) yes, (stay-none (λ _. O
 
 module _ {M : Type 1} (𝓤 : URA M) (H : Heap 𝓤) (A : Atoms 𝓤) (mem : Memory → SProp 𝓤) (run : Routine → Fun 𝓤) where
   -- the contract that the proof cites
-  abbrev ListAt : Contract 𝓤
-  ListAt = tripleOf 𝓤 H A step.signature (step.spec 𝓤 H A mem run)
+  abbrev StepOf : Contract 𝓤
+  StepOf = tripleOf 𝓤 H A step.signature (step.spec 𝓤 H A mem run)
 
 module _ {M : Type 1} (𝓤 : URA M) (H : Heap 𝓤) (A : Atoms 𝓤) (W : Given 𝓤 H A) (mem : Memory → SProp 𝓤) (run : Routine → Fun 𝓤) (κ : Lft) (q : Share) (d : Reader) (c : Card) (k : Sort) where
   abbrev mach : Val
@@ -93,7 +93,7 @@ module _ {M : Type 1} (𝓤 : URA M) (H : Heap 𝓤) (A : Atoms 𝓤) (W : Given
   abbrev kv : Val
   kv = EL.val O.the-type O′.the-laws k
 
-  abbrev Found : Placed → Type 0
+  abbrev Found : ListAt → Type 0
   Found r = Places (reader k) (listReader (layoutOf c) k) (d .at) (now (d .src)) r
 
   abbrev Arg : Type 0
@@ -125,37 +125,37 @@ module _ {M : Type 1} (𝓤 : URA M) (H : Heap 𝓤) (A : Atoms 𝓤) (W : Given
   abbrev passed : Vals step.signature (κ, tt)
   passed = (v ∷ [], (vint w64 (d .at) ∷ [], (cv ∷ [], (kv ∷ [], tt))))
 
-  abbrev to : ListAt 𝓤 H A mem run .Ghost
+  abbrev to : StepOf 𝓤 H A mem run .Ghost
   to = (((κ, tt), (q, tt), tt, (d .src, (d .at, (c, (k, tt)))), passed), tt)
 
   module _ (fits : d .at < 2 ^ 64) (is-c : Is K.the-row c (cv ∷ [])) (is-k : Is O.the-row k (kv ∷ [])) where
-    goes : d .at ≤ length (now (d .src)) → ent 𝓤 (⋆ 𝓤 H A ((‵ (flft κ q) ⊛ ‵ ftrue) ∷ ‵ (ShrSlice (named 0) κ u8 .own (d .src) (v ∷ [])) ∷ [])) (ListAt 𝓤 H A mem run .pre to)
+    goes : d .at ≤ length (now (d .src)) → ent 𝓤 (⋆ 𝓤 H A ((‵ (flft κ q) ⊛ ‵ ftrue) ∷ ‵ (ShrSlice (named 0) κ u8 .own (d .src) (v ∷ [])) ∷ [])) (StepOf 𝓤 H A mem run .pre to)
     goes within =
         qed W ((‵ (flft κ q) ⊛ ‵ ftrue) ∷ ‵ (ShrSlice (named 0) κ u8 .own (d .src) (v ∷ [])) ∷ []) ∵ says ! within $ frame ! $
         nothing ! $ owned ! O.the-row (Is O.the-row) (EL.makes O.the-type (tt, (tt, (tt, tt))) 𝓤 H A) k _ is-k $ fjoin ! $ owned ! K.the-row (Is K.the-row) (EL.makes K.the-type (tt, tt) 𝓤 H A) c _ is-c $ fjoin ! $
         owned ! usize (Is usize) (uint-makes 𝓤 H A W w64) (d .at) _ (refl, fits) $ fjoin ! $ move ! (1 ∷ 0 ∷ []) $ fjoin ! $ done !
 
     -- what the struct owns gives what the callee asks, and is kept
-    apart : d .at ≤ length (now (d .src)) → ent 𝓤 (onEntry 𝓤 H A list.signature (κ, tt) (q, tt) a vals) (sep 𝓤 (ListAt 𝓤 H A mem run .pre to) (sem 𝓤 H A Own))
+    apart : d .at ≤ length (now (d .src)) → ent 𝓤 (onEntry 𝓤 H A list.signature (κ, tt) (q, tt) a vals) (sep 𝓤 (StepOf 𝓤 H A mem run .pre to) (sem 𝓤 H A Own))
     apart within =
         qed W ((‵ (flft κ q) ⊛ ‵ ftrue) ∷ ‵ (owns (B (κ, tt) ∷ K.the-row ∷ O.the-row ∷ []) a vals) ∷ []) ∵
         move ! (1 ∷ []) $ fsplit ! $ move ! (1 ∷ []) $ drop ! $ use1 W (‵ Own ⊛ ‵ Own) (LL.copy D (T′.the-copy (namedLft 1 0 tt (κ, tt))) 𝓤 H A W .twice d (mach ∷ [])) $ split ! $
         use1 W (given (mach ∷ [] ≡ mach ∷ []) (‵ (all-own (D .parts) L vd))) (own-open 𝓤 H A W D L vd mach) $ learn ! (λ _. use1 W (‵ (ownAt (D .parts) L 0 (d .src)) ⊛ ‵ (rest (D .parts) L 0 vd)) (own-out 𝓤 H A W (D .parts) L 0 vd) $ split ! $
         -- [what src owns; what at owns; what the struct owns; the token]
-        move ! (1 ∷ []) $ drop ! $ move ! (2 ∷ 0 ∷ []) $ use2 W (raw (ListAt 𝓤 H A mem run .pre to)) (goes within) $ frame ! $ done !)
+        move ! (1 ∷ []) $ drop ! $ move ! (2 ∷ 0 ∷ []) $ use2 W (raw (StepOf 𝓤 H A mem run .pre to)) (goes within) $ frame ! $ done !)
 
     -- of the callee's `ensured`, the clause alone: it has no `&mut`, so what is said of last values is dropped
-    said : (r : Placed) → ent 𝓤 (ensured 𝓤 H A step.ended (step.clauses 𝓤 H A mem run) (κ, tt) (d .src, (d .at, (c, (k, tt)))) tt r) (fact 𝓤 (Found r))
+    said : (r : ListAt) → ent 𝓤 (ensured 𝓤 H A step.ended (step.clauses 𝓤 H A mem run) (κ, tt) (d .src, (d .at, (c, (k, tt)))) tt r) (fact 𝓤 (Found r))
     said r = exE 𝓤 _ (λ ws. snd∗ 𝓤 (sem 𝓤 H A (lasts step.ended (κ, tt) (d .src, (d .at, (c, (k, tt)))) ws)) (fact 𝓤 (Found r)))
 
-    exits : (r : Placed) (u : Val) → Found r → ent 𝓤 (⋆ 𝓤 H A (‵ (S.the-row .own r (u ∷ [])) ∷ (‵ (flft κ q) ⊛ ‵ ftrue) ∷ ‵ Own ∷ [])) (Post u)
+    exits : (r : ListAt) (u : Val) → Found r → ent 𝓤 (⋆ 𝓤 H A (‵ (S.the-row .own r (u ∷ [])) ∷ (‵ (flft κ q) ⊛ ‵ ftrue) ∷ ‵ Own ∷ [])) (Post u)
     exits r u e =
         qed W (‵ (S.the-row .own r (u ∷ [])) ∷ (‵ (flft κ q) ⊛ ‵ ftrue) ∷ ‵ Own ∷ []) ∵
         suffices ! _ (ends-at 𝓤 H A list.ended stayed (list.clauses 𝓤 H A mem run) W (((κ, tt), (q, tt), tt, a, vals), tt) u r (tt, (tt, (tt, tt))) (tt, (tt, (tt, tt)))) $ says ! e $
         move ! (1 ∷ []) $ frame ! $ nothing ! $ owned ! O.the-row (Is O.the-row) (EL.makes O.the-type (tt, (tt, (tt, tt))) 𝓤 H A) k _ is-k $ fjoin ! $ owned ! K.the-row (Is K.the-row) (EL.makes K.the-type (tt, tt) 𝓤 H A) c _ is-c $ fjoin ! $
         move ! (2 ∷ 0 ∷ []) $ fjoin ! $ frame ! $ done !
 
-    module _ (C : Calls 𝓤 H) (Λ : Loops 𝓤 H) (fm : FmC 𝓤 H (W .laws) C) (known : Triple 𝓤 (C #record·list-at) (ListAt 𝓤 H A mem run)) where
+    module _ (C : Calls 𝓤 H) (Λ : Loops 𝓤 H) (fm : FmC 𝓤 H (W .laws) C) (known : Triple 𝓤 (C #record·list-at) (StepOf 𝓤 H A mem run)) where
       walk : Holds (hasTy (T′.mir (named 0)) mach) × WT mach → d .at ≤ length (now (d .src)) → ent 𝓤 (onEntry 𝓤 H A list.signature (κ, tt) (q, tt) a vals) (WpFn 𝓤 H C Λ code.function (mach ∷ cv ∷ kv ∷ []) Post)
       walk wt within =
           qed W (raw (onEntry 𝓤 H A list.signature (κ, tt) (q, tt) a vals) ∷ []) ∵ enter ! C Λ code.function (mach ∷ cv ∷ kv ∷ []) _ $
@@ -164,19 +164,19 @@ module _ {M : Type 1} (𝓤 : URA M) (H : Heap 𝓤) (A : Atoms 𝓤) (W : Given
           -- [_5; …; _4; …; _3; …; _2; …; _1; …; room for _0; …; what is had at entry]
           assigns ! (of-opd ! (load ! (from ! (fld ! refl (stop !))) (look-in ! 8 (sub ! 0 refl (whole !))))) (from ! (stop !)) (init ! 2 refl (tt, wt .1 .0)) $
           assigns ! (of-opd ! (load ! (from ! (fld ! refl (stop !))) (look-in ! 8 (sub ! 1 refl (whole !))))) (from ! (stop !)) (init ! 0 refl (tt, wt .1 .1 .0)) $
-          move ! (12 ∷ []) $ use1 W (raw (ListAt 𝓤 H A mem run .pre to) ⊛ ‵ Own) (apart within) $ split ! $
-          calls-at ! fm (ListAt 𝓤 H A mem run) known to
+          move ! (12 ∷ []) $ use1 W (raw (StepOf 𝓤 H A mem run .pre to) ⊛ ‵ Own) (apart within) $ split ! $
+          calls-at ! fm (StepOf 𝓤 H A mem run) known to
           (and-then ! (load ! (from ! (stop !)) (look ! 4 refl)) (and-then ! (load ! (from ! (stop !)) (look ! 2 refl)) (and-then ! (load ! (from ! (stop !)) (look ! 8 refl)) (and-then ! (load ! (from ! (stop !)) (look ! 6 refl)) (no-more !))))) (λ u.
-          use1 W (later (some (λ (r : Placed). ((‵ (flft κ q) ⊛ ‵ ftrue) ⊛ ‵ (S.the-row .own r (u ∷ []))) ⊛ raw (ensured 𝓤 H A step.ended (step.clauses 𝓤 H A mem run) (κ, tt) (d .src, (d .at, (c, (k, tt)))) tt r)))) (id⊢ 𝓤 _) $ await ! tt $ pick ! (λ r.
+          use1 W (later (some (λ (r : ListAt). ((‵ (flft κ q) ⊛ ‵ ftrue) ⊛ ‵ (S.the-row .own r (u ∷ []))) ⊛ raw (ensured 𝓤 H A step.ended (step.clauses 𝓤 H A mem run) (κ, tt) (d .src, (d .at, (c, (k, tt)))) tt r)))) (id⊢ 𝓤 _) $ await ! tt $ pick ! (λ r.
           split ! $ move ! (1 ∷ []) $ use1 W (raw (fact 𝓤 (Found r))) (said r) $ heard ! (Found r) (λ e. split ! $ move ! (1 ∷ []) $
           -- [the result; the token; what the struct owns; _5; …; _4; …; _3; …; _2; …; _1; …; room for _0; …]
           peeks ! S.the-row (Is S.the-row) (shows 𝓤 H A S.the-row) r (u ∷ []) (λ is.
-          land ! (from ! (stop !)) (init ! 13 refl (EL.lawful S.the-type S′.the-laws 𝓤 H A W tt .typed r _ is .0)) $
+          land ! (from ! (stop !)) (init ! 13 refl (LL.lawful S.the-type S′.the-laws 𝓤 H A W .typed r _ is .0)) $
           returns ! (look ! 13 refl) $ forget ! 3 refl $ forget ! 5 refl $ forget ! 7 refl $ forget ! 9 refl $ forget ! 11 refl $ forget ! 13 refl $
           move ! (13 ∷ 14 ∷ []) $ free1 ! $ move ! (11 ∷ 12 ∷ []) $ free1 ! $ move ! (9 ∷ 10 ∷ []) $ free1 ! $ move ! (7 ∷ 8 ∷ []) $ free1 ! $ move ! (5 ∷ 6 ∷ []) $ free1 ! $ move ! (3 ∷ 4 ∷ []) $ free1 ! $ free0 ! $ by ! (exits r u e)))))))))))
 
 module _ {M : Type 1} (𝓤 : URA M) (H : Heap 𝓤) (A : Atoms 𝓤) (W : Given 𝓤 H A) (mem : Memory → SProp 𝓤) (run : Routine → Fun 𝓤) where
-  list-walks : (C : Calls 𝓤 H) (Λ : Loops 𝓤 H) → FmC 𝓤 H (W .laws) C → Triple 𝓤 (C #record·list-at) (ListAt 𝓤 H A mem run)
+  list-walks : (C : Calls 𝓤 H) (Λ : Loops 𝓤 H) → FmC 𝓤 H (W .laws) C → Triple 𝓤 (C #record·list-at) (StepOf 𝓤 H A mem run)
       → Walks 𝓤 H A list.ended stayed (WpFn 𝓤 H C Λ code.function) (list.clauses 𝓤 H A mem run)
   list-walks C Λ fm known = walked 𝓤 H A list.ended stayed (list.clauses 𝓤 H A mem run) (WpFn 𝓤 H C Λ code.function)
       (λ κs. (LL.vals (T.the-type (namedLft 1 0 tt κs)) (T′.the-laws (namedLft 1 0 tt κs)), (EL.vals K.the-type K′.the-laws, (EL.vals O.the-type O′.the-laws, tt))))
@@ -186,7 +186,7 @@ module _ {M : Type 1} (𝓤 : URA M) (H : Heap 𝓤) (A : Atoms 𝓤) (W : Given
       walk 𝓤 H A W mem run (κs .0) (qs .0) (a .0) (a .1 .0) (a .1 .1 .0) (wt .1 .1 .0 .fits) (are .1 .0) (are .1 .1 .0) C Λ fm known wt within))
 
 list-meets : {M : Type 1} (𝓤 : URA M) (H : Heap 𝓤) (A : Atoms 𝓤) (W : Given 𝓤 H A) (mem : Memory → SProp 𝓤) (run : Routine → Fun 𝓤) (𝓣 : Tables 𝓤 H)
-    → Triple 𝓤 (𝓣 .C #record·list-at) (ListAt 𝓤 H A mem run)
+    → Triple 𝓤 (𝓣 .C #record·list-at) (StepOf 𝓤 H A mem run)
     → Meets 𝓤 H A list.signature (WpFn 𝓤 H (𝓣 .C) (𝓣 .Λ) code.function) (list.spec 𝓤 H A mem run)
 list-meets 𝓤 H A W mem run 𝓣 known-step =
     walk-meets 𝓤 H A list.ended stayed W (goes-none 𝓤 H A W 1 B yes (λ κs x f. refl), (goes-none 𝓤 H A W 1 (λ _. K.the-row) yes (λ κs x f. refl), (goes-none 𝓤 H A W 1 (λ _. O.the-row) yes (λ κs x f. refl), tt))) (list.clauses 𝓤 H A mem run)
@@ -198,4 +198,4 @@ list-spec 𝓤 H 𝓜 𝓖 𝓡 =
     entered 𝓤 H (tripleOf 𝓤 H (𝓖 .A) list.signature (list.spec 𝓤 H (𝓖 .A) (𝓜 .mem) (𝓡 .run)))
     (tables 𝓤 H 𝓜 𝓡 code.env .C) (tables 𝓤 H 𝓜 𝓡 code.env .Λ) #reader·list code.function (code.unfolded 𝓤 H 𝓜 𝓡)
     (list-meets 𝓤 H (𝓖 .A) (givenOf 𝓤 H 𝓜 𝓖) (𝓜 .mem) (𝓡 .run) (tablesOf 𝓤 H 𝓜 (tables 𝓤 H 𝓜 𝓡 code.env))
-    (cited 𝓤 H (ListAt 𝓤 H (𝓖 .A) (𝓜 .mem) (𝓡 .run)) 𝓜 𝓡 code.env #record·list-at step-def.routine code.calls-record·list-at (step-thm.met 𝓤 H 𝓜 𝓖 𝓡)))
+    (cited 𝓤 H (StepOf 𝓤 H (𝓖 .A) (𝓜 .mem) (𝓡 .run)) 𝓜 𝓡 code.env #record·list-at step-def.routine code.calls-record·list-at (step-thm.met 𝓤 H 𝓜 𝓖 𝓡)))
