@@ -1,4 +1,5 @@
--- What a `Reader` owns: for the walks, by hand, of the functions that take one or make one. It is Copy, so that what it is taken apart into, or made of, is kept beside it.
+-- What a `Reader` owns, and the machine values of what is passed beside one: for the walks, by hand, of the functions that take one or make one.
+-- A `Reader` is Copy, so that it is kept beside what it is taken apart into, and what it is made of beside it.
 -- Assumes nothing.
 use mathlib.Core.Path.{_≡_, refl}
 use Prim.Native.Nat.{_<_, _^_}
@@ -20,13 +21,39 @@ use denote.Builtin.{u8, usize}
 use denote.Signature.{namedLft}
 use denote.Slice.{sliceVal, ShrSlice, shr-slice-copy}
 use denote.Steps.{owned, nothing}
+use denote.Enum.Laws as EL
 use denote.Struct.Declared.{Declared}
 use denote.Struct.Laws as LL
 use denote.Struct.Rest.{all-own, ownAt, rest, own-open, own-out, own-shut}
 use denote.Struct.Values.{Values}
+use Rattle.geometry.specs.declared.Card.{Card}
+use Rattle.geometry.proofs.Card as K
+use Rattle.geometry.proofs.Card.Laws as K′
 use Rattle.record.specs.declared.reader.Reader.{Reader}
+use Rattle.record.specs.declared.Sort.{Sort}
+use Rattle.record.specs.declared.ListAt.{ListAt}
+use Rattle.record.specs.declared.TokensAt.{TokensAt}
+use Rattle.record.proofs.Sort as O
+use Rattle.record.proofs.Sort.Laws as O′
+use Rattle.record.proofs.ListAt as I
+use Rattle.record.proofs.ListAt.Laws as I′
+use Rattle.record.proofs.TokensAt as S
+use Rattle.record.proofs.TokensAt.Laws as S′
 use Rattle.record.proofs.reader.Reader as T
 use Rattle.record.proofs.reader.Reader.Laws as T′
+
+-- the machine values of a card, of a sort, and of a list and tokens that were read
+abbrev pub card : Card → Val
+card c = EL.val K.the-type K′.the-laws c
+
+abbrev pub kind : Sort → Val
+kind k = EL.val O.the-type O′.the-laws k
+
+abbrev pub list : ListAt → Val
+list r = LL.val I.the-type I′.the-laws r
+
+abbrev pub tokens : TokensAt → Val
+tokens r = LL.val S.the-type S′.the-laws r
 
 -- the struct's type, over the signature's lifetimes
 abbrev pub B : Lfts 1 → RattleType

@@ -1,7 +1,7 @@
 -- Loops over the things of a list, one by one: what is still to come decides. Assumes nothing.
 use Prim.Native.Nat.{ℕ, _+_, _≤_}
 use mathlib.Core.Path.{_≡_, refl, sym, _∙_}
-use mathlib.Core.Bool.{Bool, true, false, _&&_, _||_, and-true, or-false, and-assoc, or-assoc}
+use mathlib.Core.Bool.{Bool, true, false}
 use mathlib.Core.List.{List, [], _∷_}
 use native.Mathlib.Omega.{arith}
 use lib.ListN.{length}
@@ -48,20 +48,6 @@ module _ {A : Type 0} {p : Reader A} {s : List ℕ} {todo rest : Items} (t : A �
 
   pub exists-next : Todo p s todo (exists t) b → r ≡ false → Todo p s rest (exists t) b
   exists-next h e = todo-next h u (exists t) (rw (sym q ∙ e))
-
-  -- a loop over all of them, with what was found so far
-  pub all-next : (a : Bool) → Todo p s todo (λ l. a && every t l) b → Todo p s rest (λ l. (a && r) && every t l) b
-  all-next a h = todo-next h u (λ l. (a && r) && every t l) (rw (← q) (sym (and-assoc a r (every t (itemsIn p s rest)))))
-
-  pub any-next : (a : Bool) → Todo p s todo (λ l. a || exists t l) b → Todo p s rest (λ l. (a || r) || exists t l) b
-  any-next a h = todo-next h u (λ l. (a || r) || exists t l) (rw (← q) (sym (or-assoc a r (exists t (itemsIn p s rest)))))
-
-module _ {A : Type 0} {p : Reader A} {s : List ℕ} {todo : Items} (t : A → Bool) {b : Bool} (a : Bool) where
-  pub all-end : Todo p s todo (λ l. a && every t l) b → todo .count ≤ 0 → a ≡ b
-  all-end h l = sym (and-true a) ∙ todo-end h l
-
-  pub any-end : Todo p s todo (λ l. a || exists t l) b → todo .count ≤ 0 → a ≡ b
-  any-end h l = sym (or-false a) ∙ todo-end h l
 
 -- how many pass
 module _ {A : Type 0} {p : Reader A} {s : List ℕ} {todo rest : Items} (t : A → Bool) {b : ℕ} (n : ℕ) {x : A} (u : Uncons p s todo x rest) where

@@ -1,12 +1,12 @@
 -- The first of a list's things, and the others. Assumes nothing.
 use Prim.Native.Nat.{ℕ, suc, zero, _+_, _-_, _≤_, _<_}
-use mathlib.Core.Path.{_≡_, refl, ap}
+use mathlib.Core.Path.{_≡_, refl}
 use mathlib.Core.List.{List, [], _∷_}
 use native.Mathlib.Omega.{arith}
 use native.Mathlib.Numerals.{sub-one}
 use lib.ListN.{length, drop, getD, length-drop}
 use Rattle.policy.specs.Record.{Got, got, bad, Reader, andThen, aid, tokens, aRow, many}
-use Rattle.record.specs.Meaning.{Good, valueOf, itemsOf, itemsIn, Stands, RowStands, Uncons, UnconsRow, UnconsAid, UnconsTokens, tokOf, tokAt}
+use Rattle.record.specs.Meaning.{Good, valueOf, itemsOf, Stands, RowStands, Uncons, UnconsRow, UnconsAid, UnconsTokens, tokOf, tokAt}
 use Rattle.record.specs.declared.Tokens.{Tokens}
 use Rattle.record.specs.declared.Items.{Items}
 use Rattle.record.specs.declared.RowAt.{RowAt}
@@ -34,17 +34,6 @@ many-rest p zero t l h e = absurd (omega arith)
 many-rest p (suc k) t {u} {a} l h e =
     let g : Good (many p k u) = good-cons a (many p k u) (rw e at h) in
     (rw (sub-one (suc k)) g, rw (e, sub-one (suc k)) (value-cons a (many p k u) g))
-
-many-length : {A : Type 0} (p : Reader A) (k : ℕ) (t : List ℕ) → Good (many p k t) → length (itemsOf p k t) ≡ k
-many-length p zero t h = refl
-many-length p (suc k) t h =
-    let f = good-first (p t) _ h in
-    let m = rw (sub-one (suc k)) at (many-rest p (suc k) t (omega arith) h (f .2)) in
-    rw (m .1) (ap suc (many-length p k (f .1) (m .0)))
-
--- the things of a list are as many as its count
-pub items-length : {A : Type 0} {p : Reader A} {s : List ℕ} {i : Items} → Stands p s i → length (itemsIn p s i) ≡ i .count
-items-length {p = p} {s} {i} h = many-length p (i .count) (drop (i .at) s) (h .good)
 
 uncons : {A : Type 0} {p : Reader A} {s : List ℕ} {i : Items} {a : A} {next : ℕ} → Stands p s i → 0 < i .count → next ≤ length s
     → p (drop (i .at) s) ≡ got a (drop next s) → Uncons p s i a (record { at = next; count = i .count - 1 })
