@@ -288,26 +288,26 @@ fn read_tokens(rec: &[u8], at: usize) -> TokensAt
 }
 
 // A load of four lists, each read after the one before it, with no bytes left over.
-fn load_of(rec: &[u8], p: ListAt, q: ListAt, g: ListAt, n: ListAt) -> Body
-    ensures { λ r. ⌜ r ≡ loadOf (length (now (rec .entry))) p q g n ⌝ }
+fn load_of(rec: &[u8], first: ListAt, second: ListAt, third: ListAt, last: ListAt) -> Body
+    ensures { λ r. ⌜ r ≡ loadOf (length (now (rec .entry))) first second third last ⌝ }
 {
-    let first = p.list;
-    let second = q.list;
-    let third = g.list;
-    let fourth = n.list;
-    let Placed::Found(provides) = first else {
+    let p = first.list;
+    let q = second.list;
+    let g = third.list;
+    let n = last.list;
+    let Placed::Found(provides) = p else {
         return Body::Malformed;
     };
-    let Placed::Found(calls) = second else {
+    let Placed::Found(calls) = q else {
         return Body::Malformed;
     };
-    let Placed::Found(grants) = third else {
+    let Placed::Found(grants) = g else {
         return Body::Malformed;
     };
-    let Placed::Found(needs) = fourth else {
+    let Placed::Found(needs) = n else {
         return Body::Malformed;
     };
-    if n.next < rec.len() {
+    if last.next < rec.len() {
         return Body::Malformed;
     }
     Body::Whole(Kind::Load {
@@ -319,18 +319,18 @@ fn load_of(rec: &[u8], p: ListAt, q: ListAt, g: ListAt, n: ListAt) -> Body
 }
 
 // A service and the list of its callers, read after it, with no bytes left over.
-fn service_of(rec: &[u8], s: TokensAt, l: ListAt) -> Body
-    ensures { λ r. ⌜ r ≡ serviceOf (length (now (rec .entry))) s l ⌝ }
+fn service_of(rec: &[u8], first: TokensAt, last: ListAt) -> Body
+    ensures { λ r. ⌜ r ≡ serviceOf (length (now (rec .entry))) first last ⌝ }
 {
-    let service = s.service;
-    let list = l.list;
+    let service = first.service;
+    let list = last.list;
     let Service::Found(tokens) = service else {
         return Body::Malformed;
     };
     let Placed::Found(callers) = list else {
         return Body::Malformed;
     };
-    if l.next < rec.len() {
+    if last.next < rec.len() {
         return Body::Malformed;
     }
     Body::Whole(Kind::AddService(tokens, callers))
