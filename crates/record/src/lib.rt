@@ -341,12 +341,12 @@ fn read_remove_service(rec: &[u8], at: usize, c: Card) -> Body
     requires { ⌜ at ≤ length (now rec) ⌝ }
     ensures { λ r. ⌜ Bodies (layoutOf c) (change (layoutOf c) 4 (drop at (now (rec .entry)))) (now (rec .entry)) r ⌝ }
 {
-    let r = read_tokens(rec, at);
-    let service = r.service;
+    let t = read_tokens(rec, at);
+    let service = t.service;
     let Service::Found(tokens) = service else {
         return Body::Malformed;
     };
-    if r.next < rec.len() {
+    if t.next < rec.len() {
         return Body::Malformed;
     }
     Body::Whole(Kind::RemoveService(tokens))
