@@ -7,12 +7,10 @@ use mathlib.Core.Bool.{Bool, true, false, not, _&&_, _||_, cond, and-true, or-fa
 use mathlib.Core.List.{List, [], _∷_, _++_, append-nil}
 use mathlib.Core.List.{List·Memᴰ as In, List·Memᴰ·head as here, List·Memᴰ·tail as there}
 use mathlib.Core.Option.{Option, none, some}
-use lib.ListN.{length, length-append}
 use borrow.Author.Needs.{needs}
-use mir.Syntax.{Width}
-use mir.Val.{boolByte, Fits}
 use Rattle.policy.specs.Lists.{every, exists, keep, first, from, upto, orElse}
-use Rattle.policy.proofs.Sets.{T-true, T-false, true-T, false-T, every-in, in-every, exists-in, in-exists, from-in, upto-in, in-upto}
+use borrow.Author.Tests.{not-true, not-false}
+use Rattle.policy.proofs.Sets.{T-true, T-false, true-T, false-T, every-in, in-every, exists-in, in-exists, keep-ext, from-in, upto-in, in-upto}
 
 -- ---- the numbers below n and d more; one more
 from-split : (i n d : ℕ) → from i (n + d) ≡ from i n ++ from (i + n) d
@@ -26,7 +24,7 @@ pub upto-split : (n d : ℕ) → upto (n + d) ≡ upto n ++ from n d
 upto-split n d = from-split 0 n d ∙ ap (λ (x : ℕ). upto n ++ from x d) (zero-add n)
 
 module _ {A : Type 0} (f : A → Bool) where
-  every-append : (l m : List A) → every f (l ++ m) ≡ every f l && every f m
+  pub every-append : (l m : List A) → every f (l ++ m) ≡ every f l && every f m
   every-append [] m = refl
   every-append (x ∷ l) m = ap (λ (b : Bool). f x && b) (every-append l m) ∙ sym (and-assoc (f x) (every f l) (every f m))
 
@@ -55,81 +53,13 @@ module _ (f : ℕ → Bool) (i : ℕ) where
   every-snoc : every f (upto (i + 1)) ≡ every f (upto i) && f i
   every-snoc = ap (every f) (upto-split i 1) ∙ every-append f (upto i) (i ∷ []) ∙ ap (λ (b : Bool). every f (upto i) && b) (and-true (f i))
 
-  exists-snoc : exists f (upto (i + 1)) ≡ exists f (upto i) || f i
+  pub exists-snoc : exists f (upto (i + 1)) ≡ exists f (upto i) || f i
   exists-snoc = ap (exists f) (upto-split i 1) ∙ exists-append f (upto i) (i ∷ []) ∙ ap (λ (b : Bool). exists f (upto i) || b) (or-false (f i))
-
-  count-snoc : length (keep f (upto (i + 1))) ≡ length (keep f (upto i)) + boolByte (f i)
-  count-snoc = ap (λ (l : List ℕ). length (keep f l)) (upto-split i 1) ∙ ap length (keep-append f (upto i) (i ∷ [])) ∙ length-append (keep f (upto i)) (keep f (i ∷ [])) ∙ ap (λ (n : ℕ). length (keep f (upto i)) + n) (go (f i))
-    where
-      go : (b : Bool) → length (cond b (i ∷ []) []) ≡ boolByte b
-      go true = refl
-      go false = refl
 
   first-snoc : first f (upto (i + 1)) ≡ orElse (first f (upto i)) (cond (f i) (some i) none) some
   first-snoc = ap (first f) (upto-split i 1) ∙ first-append f (upto i) (i ∷ [])
 
--- ---- a loop that gathers the answer in a flag
-module _ (f : ℕ → Bool) where
-  pub every-start : true ≡ every f (upto 0)
-  every-start = refl
-
-  pub every-turn : (i : ℕ) {b r : Bool} → b ≡ every f (upto i) → r ≡ f i → b && r ≡ every f (upto (i + 1))
-  every-turn i p q = ap₂ _&&_ p q ∙ sym (every-snoc f i)
-
-  pub every-end : (n i : ℕ) {b : Bool} → b ≡ every f (upto i) → i ≤ n → n ≤ i → b ≡ every f (upto n)
-  every-end n i p h l = let e : i ≡ n = omega arith in p ∙ ap (λ (x : ℕ). every f (upto x)) e
-
-  -- the same where the loop's end m is a local that is n
-  pub every-end-at : (n m i : ℕ) {b : Bool} → b ≡ every f (upto i) → i ≤ m → m ≤ i → m ≡ n → b ≡ every f (upto n)
-  every-end-at n m i p h l e = every-end n i p (omega arith) (omega arith)
-
-  pub exists-start : false ≡ exists f (upto 0)
-  exists-start = refl
-
-  pub exists-turn : (i : ℕ) {b r : Bool} → b ≡ exists f (upto i) → r ≡ f i → b || r ≡ exists f (upto (i + 1))
-  exists-turn i p q = ap₂ _||_ p q ∙ sym (exists-snoc f i)
-
-  pub exists-end : (n i : ℕ) {b : Bool} → b ≡ exists f (upto i) → i ≤ n → n ≤ i → b ≡ exists f (upto n)
-  exists-end n i p h l = let e : i ≡ n = omega arith in p ∙ ap (λ (x : ℕ). exists f (upto x)) e
-
-  pub exists-end-at : (n m i : ℕ) {b : Bool} → b ≡ exists f (upto i) → i ≤ m → m ≤ i → m ≡ n → b ≡ exists f (upto n)
-  exists-end-at n m i p h l e = exists-end n i p (omega arith) (omega arith)
-
-  -- how many pass, where a turn adds `t as usize`
-  pub count-start : 0 ≡ length (keep f (upto 0))
-  count-start = refl
-
-  pub count-turn : (i : ℕ) {m : ℕ} {r : Bool} → m ≡ length (keep f (upto i)) → r ≡ f i → m + boolByte r ≡ length (keep f (upto (i + 1)))
-  count-turn i p q = ap₂ (λ (x : ℕ) (b : Bool). x + boolByte b) p q ∙ sym (count-snoc f i)
-
-  pub count-end : (n i m : ℕ) → m ≡ length (keep f (upto i)) → i ≤ n → n ≤ i → m ≡ length (keep f (upto n))
-  count-end n i m p h l = let e : i ≡ n = omega arith in p ∙ ap (λ (x : ℕ). length (keep f (upto x))) e
-
-  pub count-end-at : (n k i m : ℕ) → m ≡ length (keep f (upto i)) → i ≤ k → k ≤ i → k ≡ n → m ≡ length (keep f (upto n))
-  count-end-at n k i m p h l e = count-end n i m p (omega arith) (omega arith)
-
-byte-le : (b : Bool) → boolByte b ≤ 1
-byte-le true = omega arith
-byte-le false = omega arith
-
-pub count-room : (m i : ℕ) (r : Bool) → m ≤ i → m + boolByte r ≤ i + 1
-count-room m i r h = omega (arith, byte-le r)
-
-pub count-fits : (w : Width) (m i n : ℕ) (r : Bool) → m ≤ i → i < n → Fits w n → Fits w (m + boolByte r)
-count-fits w m i n r h l t = let b = t .fits in record { fits = omega (arith, byte-le r) }
-
--- what a loop that gathers a flag leaves: `search loops` at each need
-pub ruleset loops = (every-start, every-turn, every-end, every-end-at, exists-start, exists-turn, exists-end, exists-end-at, count-start, count-turn, count-room, count-fits, count-end, count-end-at, needs)
-
 -- ---- a loop that leaves early: r is what a call ensures to be f i, and the branch tells what r is
-not-on : (r : Bool) → not r ≡ false → r ≡ true
-not-on true e = refl
-not-on false e = sym e
-
-not-off : (r : Bool) → not r ≡ true → r ≡ false
-not-off true e = sym e
-not-off false e = refl
-
 module _ (f : ℕ → Bool) where
   pub every-at : (n k : ℕ) → every f (upto n) ≡ true → k < n → f k ≡ true
   every-at n k p h = T-true (f k) (every-in f (upto n) (true-T p) (in-upto n k h))
@@ -142,10 +72,10 @@ module _ (f : ℕ → Bool) where
   every-none = refl
 
   pub every-more : (i : ℕ) {r : Bool} → every f (upto i) ≡ true → r ≡ f i → not r ≡ false → every f (upto (i + 1)) ≡ true
-  every-more i {r} p e q = every-snoc f i ∙ ap₂ _&&_ p (sym e ∙ not-on r q)
+  every-more i {r} p e q = every-snoc f i ∙ ap₂ _&&_ p (sym e ∙ not-false r q)
 
   pub every-fails : (n i : ℕ) {r : Bool} → r ≡ f i → not r ≡ true → i < n → false ≡ every f (upto n)
-  every-fails n i {r} e q h = sym (T-false (every f (upto n)) (λ t. false-T (sym e ∙ not-off r q) (every-in f (upto n) t (in-upto n i h))))
+  every-fails n i {r} e q h = sym (T-false (every f (upto n)) (λ t. false-T (sym e ∙ not-true r q) (every-in f (upto n) t (in-upto n i h))))
 
   pub every-done : (n i : ℕ) → every f (upto i) ≡ true → n ≤ i → true ≡ every f (upto n)
   every-done n i p h = sym (every-intro n (λ k l. every-at i k p (omega arith)))
@@ -215,38 +145,14 @@ pub ruleset early = (every-none, every-more, every-fails, every-done, every-fail
 
 -- ---- tests that agree on a list, or fail on all of it
 module _ {A : Type 0} (f g : A → Bool) where
-  pub every-ext : (l : List A) → ((x : A) → In x l → f x ≡ g x) → every f l ≡ every g l
-  every-ext [] e = refl
-  every-ext (y ∷ l) e = ap₂ _&&_ (e y (here refl)) (every-ext l (λ x m. e x (there m)))
-
-  pub exists-ext : (l : List A) → ((x : A) → In x l → f x ≡ g x) → exists f l ≡ exists g l
-  exists-ext [] e = refl
-  exists-ext (y ∷ l) e = ap₂ _||_ (e y (here refl)) (exists-ext l (λ x m. e x (there m)))
-
-  pub keep-ext : (l : List A) → ((x : A) → In x l → f x ≡ g x) → keep f l ≡ keep g l
-  keep-ext [] e = refl
-  keep-ext (y ∷ l) e = ap₂ (λ (b : Bool) (k : List A). cond b (y ∷ k) k) (e y (here refl)) (keep-ext l (λ x m. e x (there m)))
-
   pub first-ext : (l : List A) → ((x : A) → In x l → f x ≡ g x) → first f l ≡ first g l
   first-ext [] e = refl
   first-ext (y ∷ l) e = ap₂ (λ (b : Bool) (o : Option A). cond b (some y) o) (e y (here refl)) (first-ext l (λ x m. e x (there m)))
 
 module _ {A : Type 0} where
-  every-all : (l : List A) → every (λ x. true) l ≡ true
-  every-all [] = refl
-  every-all (x ∷ l) = every-all l
-
-  exists-no : (l : List A) → exists (λ x. false) l ≡ false
-  exists-no [] = refl
-  exists-no (x ∷ l) = exists-no l
-
   keep-no : (l : List A) → keep (λ x. false) l ≡ []
   keep-no [] = refl
   keep-no (x ∷ l) = keep-no l
-
-  first-no : (l : List A) → first (λ x. false) l ≡ none
-  first-no [] = refl
-  first-no (x ∷ l) = first-no l
 
 -- ---- a test over the numbers below m that tells nothing past n is the test over those below n
 module _ (f : ℕ → Bool) (n m : ℕ) (h : n ≤ m) where
@@ -259,29 +165,10 @@ module _ (f : ℕ → Bool) (n m : ℕ) (h : n ≤ m) where
   agree : (b : Bool) → ((k : ℕ) → n ≤ k → f k ≡ b) → (k : ℕ) → In k past → f k ≡ b
   agree b e k i = e k (from-in n (m - n) i .0)
 
-  pub every-narrow : ((k : ℕ) → n ≤ k → f k ≡ true) → every f (upto m) ≡ every f (upto n)
-  every-narrow e =
-      ap (every f) upto-parts ∙ every-append f (upto n) past
-      ∙ ap (λ (b : Bool). every f (upto n) && b) (every-ext f (λ k. true) past (agree true e) ∙ every-all past) ∙ and-true (every f (upto n))
-
-  pub exists-narrow : ((k : ℕ) → n ≤ k → f k ≡ false) → exists f (upto m) ≡ exists f (upto n)
-  exists-narrow e =
-      ap (exists f) upto-parts ∙ exists-append f (upto n) past
-      ∙ ap (λ (b : Bool). exists f (upto n) || b) (exists-ext f (λ k. false) past (agree false e) ∙ exists-no past) ∙ or-false (exists f (upto n))
-
   pub keep-narrow : ((k : ℕ) → n ≤ k → f k ≡ false) → keep f (upto m) ≡ keep f (upto n)
   keep-narrow e =
       ap (keep f) upto-parts ∙ keep-append f (upto n) past
       ∙ ap (λ (l : List ℕ). keep f (upto n) ++ l) (keep-ext f (λ k. false) past (agree false e) ∙ keep-no past) ∙ append-nil (keep f (upto n))
-
-  pub first-narrow : ((k : ℕ) → n ≤ k → f k ≡ false) → first f (upto m) ≡ first f (upto n)
-  first-narrow e =
-      ap (first f) upto-parts ∙ first-append f (upto n) past
-      ∙ ap (λ (o : Option ℕ). orElse (first f (upto n)) o some) (first-ext f (λ k. false) past (agree false e) ∙ first-no past) ∙ same (first f (upto n))
-    where
-      same : (o : Option ℕ) → orElse o none some ≡ o
-      same none = refl
-      same (some k) = refl
 
   -- where every number past n passes, the first below m is the first below n, and n where none is
   pub first-past : ((k : ℕ) → n ≤ k → f k ≡ true) → orElse (first f (upto m)) m (λ k. k) ≡ orElse (first f (upto n)) n (λ k. k)

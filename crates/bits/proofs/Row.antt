@@ -1,33 +1,25 @@
 -- Laws of rows of bits, for any number of bits: each is an induction on the bits, lowest first, over `step0` and `stepS`. Assumes nothing.
 use Prim.Native.Nat.{ℕ, zero, suc, _+_, _-_, _*_, _/_, _%_, _^_, _≤_, _<_, min, max}
 use native.Mathlib.Omega.{arith}
-use native.Mathlib.Nat.{le-of-suc-le-suc, not-suc-le-zero, zero-lt-suc, mod-lt, pow-suc, div-one, one-mul, lt-of-lt-of-le}
-use native.Mathlib.Numerals.{one-add}
+use native.Mathlib.Nat.{le-of-suc-le-suc, not-suc-le-zero, zero-lt-suc, mod-lt, pow-suc, one-mul, lt-of-lt-of-le}
 use mathlib.Core.Path.{_≡_, refl, sym, ap, ap₂, _∙_}
 use mathlib.Core.Logic.{_⊎_, inl, inr}
-use mathlib.Core.Bool.{Bool, true, false, _&&_, _||_, not, cond, or-comm, and-comm, and-false}
+use mathlib.Core.Bool.{Bool, true, false, _&&_, _||_, not, cond, or-comm, and-comm}
 use mathlib.Core.List.{List, _∷_}
 use mathlib.Core.Option.{Option, some}
 use lib.Dec.{eqb, eqb→eq, eqb·zero-suc, eqb·suc-zero, eqb·suc-suc}
 use lib.ListN.{length}
 use lib.Arith.{lt-one}
-use lib.Pow.{pow-mono, shr-shr, shl-exact, pow-lt, ones-sub-lt}
+use lib.Pow.{pow-mono, shl-exact, pow-lt, ones-sub-lt}
 use lib.Bits.{bitAnd, bitOr, and-step, or-step, or-lt, and-lt}
 use lib.Count.{ones, ones-step, trailingZeros, under}
-use borrow.Author.Tests.{eq-eqb, ne-eqb}
+use borrow.Author.Tests.{eq-eqb}
 use Rattle.policy.specs.Lists.{implies, every, keep, first, from, upto, orElse}
 use Rattle.policy.specs.Tables.{bit, rowOf}
 use Rattle.policy.proofs.Sets.{T-eq, T-true, true-T, upto-in}
 use Rattle.policy.proofs.Pieces.{in-or-off}
-use Rattle.bits.proofs.Loops.{every-at, every-intro, first-ext, every-narrow, keep-narrow, first-narrow, first-past}
-
-bit-low : (r : ℕ) → bit r zero ≡ eqb (r % 2) 1
-unfolding bit
-bit-low r = ap (λ (x : ℕ). eqb (x % 2) 1) (div-one r)
-
-bit-rest : (r k : ℕ) → bit r (suc k) ≡ bit (r / 2) k
-unfolding bit
-bit-rest r k = ap (λ (x : ℕ). eqb (x % 2) 1) (ap (λ (m : ℕ). r / 2 ^ m) (sym (one-add k)) ∙ sym (shr-shr r 1 k))
+use Rattle.policy.proofs.Bits.{bit-low, bit-rest, bit-none, bit-rowOf, rowOf-lt}
+use Rattle.bits.proofs.Loops.{every-at, every-intro, first-ext, keep-narrow, first-past}
 
 -- a number made of its lowest bit c and the rest y
 step0 : (x y c : ℕ) → x ≡ y * 2 + c → c < 2 → bit x zero ≡ eqb c 1
@@ -38,10 +30,6 @@ stepS x y c k e h = let q : x / 2 ≡ y = omega arith in bit-rest x k ∙ ap (λ
 
 low2 : (x : ℕ) → x % 2 < 2
 low2 x = mod-lt x (zero-lt-suc 1)
-
-pub bit-none : (k : ℕ) → bit zero k ≡ false
-bit-none zero = step0 zero zero zero refl (zero-lt-suc 1)
-bit-none (suc k) = stepS zero zero zero k refl (zero-lt-suc 1) ∙ bit-none k
 
 -- past the row's n bits there is none
 pub bit-past : (n r k : ℕ) → r < 2 ^ n → n ≤ k → bit r k ≡ false
@@ -68,30 +56,6 @@ bit-ext (suc n) a b h l e =
     omega arith
 
 -- ---- the row of a test
-pub rowOf-lt : (n : ℕ) (f : ℕ → Bool) → rowOf n f < 2 ^ n
-unfolding rowOf
-rowOf-lt zero f = zero-lt-suc 0
-rowOf-lt (suc n) f = go (f zero) (rowOf-lt n (λ k. f (suc k)))
-  where
-    go : (b : Bool) → rowOf n (λ k. f (suc k)) < 2 ^ n → rowOf n (λ k. f (suc k)) * 2 + cond b 1 0 < 2 ^ suc n
-    go true h = omega (arith, pow-suc 2 n)
-    go false h = omega (arith, pow-suc 2 n)
-
-cond-lt : (b : Bool) → cond b 1 0 < 2
-cond-lt true = omega arith
-cond-lt false = omega arith
-
-cond-is : (b : Bool) → eqb (cond b 1 0) 1 ≡ b
-cond-is true = refl
-cond-is false = refl
-
-pub bit-rowOf : (n : ℕ) (f : ℕ → Bool) (k : ℕ) → k < n → bit (rowOf n f) k ≡ f k
-unfolding rowOf
-bit-rowOf zero f k h = absurd (not-suc-le-zero h)
-bit-rowOf (suc n) f zero h = step0 _ (rowOf n (λ j. f (suc j))) (cond (f zero) 1 0) refl (cond-lt (f zero)) ∙ cond-is (f zero)
-bit-rowOf (suc n) f (suc k) h =
-    stepS _ (rowOf n (λ j. f (suc j))) (cond (f zero) 1 0) k refl (cond-lt (f zero)) ∙ bit-rowOf n (λ j. f (suc j)) k (le-of-suc-le-suc h)
-
 -- what has the test's bits is the test's row
 pub row-is : (n x : ℕ) (f : ℕ → Bool) → x < 2 ^ n → ((k : ℕ) → k < n → bit x k ≡ f k) → x ≡ rowOf n f
 row-is n x f h e = bit-ext n x (rowOf n f) h (rowOf-lt n f) (λ k l. e k l ∙ sym (bit-rowOf n f k l))
@@ -243,28 +207,17 @@ module _ (n m r : ℕ) (h : n ≤ m) (l : r < 2 ^ n) where
   pub keep-row : keep (bit r) (upto m) ≡ keep (bit r) (upto n)
   keep-row = keep-narrow (bit r) n m h (λ k q. bit-past n r k l q)
 
-  pub first-row : first (bit r) (upto m) ≡ first (bit r) (upto n)
-  first-row = first-narrow (bit r) n m h (λ k q. bit-past n r k l q)
-
-  pub subset-row : (b : ℕ) → every (λ k. implies (bit r k) (bit b k)) (upto m) ≡ every (λ k. implies (bit r k) (bit b k)) (upto n)
-  subset-row b = every-narrow (λ k. implies (bit r k) (bit b k)) n m h (λ k q. ap (λ (x : Bool). implies x (bit b k)) (bit-past n r k l q))
-
   pub lowest-row : orElse (first (λ k. not (bit r k)) (upto m)) m (λ k. k) ≡ orElse (first (λ k. not (bit r k)) (upto n)) n (λ k. k)
   lowest-row = first-past (λ k. not (bit r k)) n m h (λ k q. ap not (bit-past n r k l q))
 
--- the row of a test that passes at none past n
-pub rowOf-narrow : (n m : ℕ) (f : ℕ → Bool) → n ≤ m → ((k : ℕ) → n ≤ k → f k ≡ false) → rowOf m f ≡ rowOf n f
-rowOf-narrow n m f h e =
-    sym (row-is m (rowOf n f) f (lt-of-lt-of-le (rowOf-lt n f) (pow-mono h)) (λ k q. go k (in-or-off k n)))
-  where
-    go : (k : ℕ) → (k < n) ⊎ (n ≤ k) → bit (rowOf n f) k ≡ f k
-    go k (inl q) = bit-rowOf n f k q
-    go k (inr q) = bit-past n (rowOf n f) k (rowOf-lt n f) q ∙ sym (e k q)
+-- a test that passes at none from n on: the bits of its row, and its row in a wider word
+module _ (n : ℕ) (f : ℕ → Bool) (off : (k : ℕ) → n ≤ k → f k ≡ false) where
+  pub bits-row : (k : ℕ) → bit (rowOf n f) k ≡ f k
+  bits-row k = go (in-or-off k n)
+    where
+      go : (k < n) ⊎ (n ≤ k) → bit (rowOf n f) k ≡ f k
+      go (inl p) = bit-rowOf n f k p
+      go (inr p) = bit-past n (rowOf n f) k (rowOf-lt n f) p ∙ sym (off k p)
 
--- a bit set or cleared in a row of n bits gives a row of n bits
-module _ (n m r k : ℕ) (h : n ≤ m) (l : r < 2 ^ n) where
-  pub with-row : k < n → rowOf m (λ j. eqb j k || bit r j) ≡ rowOf n (λ j. eqb j k || bit r j)
-  with-row q = rowOf-narrow n m (λ j. eqb j k || bit r j) h (λ j p. ap₂ _||_ (ne-eqb j k (λ e. absurd (omega arith))) (bit-past n r j l p))
-
-  pub without-row : rowOf m (λ j. not (eqb j k) && bit r j) ≡ rowOf n (λ j. not (eqb j k) && bit r j)
-  without-row = rowOf-narrow n m (λ j. not (eqb j k) && bit r j) h (λ j p. ap (λ (b : Bool). not (eqb j k) && b) (bit-past n r j l p) ∙ and-false (not (eqb j k)))
+  pub row-narrow : (m : ℕ) → n ≤ m → rowOf m f ≡ rowOf n f
+  row-narrow m h = sym (row-is m (rowOf n f) f (lt-of-lt-of-le (rowOf-lt n f) (pow-mono h)) (λ k _. bits-row k))

@@ -2,7 +2,7 @@
 use Prim.Native.Nat.{ℕ, _+_, _*_, _^_, _≤_, _<_}
 use native.Mathlib.Omega.{arith}
 use native.Mathlib.Nat.{lt-of-lt-of-le}
-use mathlib.Core.Path.{_≡_, refl}
+use mathlib.Core.Path.{_≡_}
 use borrow.Author.Needs.{needs}
 use Rattle.policy.specs.Layout.{LayoutOk, usedAt, unmetAt, waitingAt, size}
 use Rattle.policy.proofs.Theorems.{small-ok}
@@ -43,13 +43,6 @@ pub entry-in : (c : Card) (t : Table) (i j : ℕ) → i < layoutOf c .packages �
 entry-in Small Calls i j h l = omega arith
 entry-in Small Grants i j h l = omega arith
 entry-in Small Needs i j h l = omega arith
-
--- the two lists end the image
-pub unmet-end : (c : Card) → unmetAt (layoutOf c) + (1 + layoutOf c .capacity * 20) ≡ waitingAt (layoutOf c)
-unmet-end c = refl
-
-pub waiting-end : (c : Card) → waitingAt (layoutOf c) + (1 + layoutOf c .capacity * 19) ≡ size (layoutOf c)
-waiting-end c = refl
 
 -- row r of a list
 pub unmet-in : (c : Card) (r : ℕ) → r < layoutOf c .capacity → unmetAt (layoutOf c) + (1 + r * 20) + 20 ≤ size (layoutOf c)

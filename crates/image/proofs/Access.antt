@@ -1,31 +1,28 @@
 -- What stands at each place of a laid image.
-use Prim.Native.Nat.{ℕ, zero, suc, _+_, _*_, _-_, _^_, _≤_, _<_}
+use Prim.Native.Nat.{ℕ, suc, _+_, _*_, _-_, _^_, _≤_, _<_}
 use native.Mathlib.Omega.{arith}
-use native.Mathlib.Nat.{add-assoc, le-trans, le-of-lt, le-of-suc-le-suc, not-suc-le-zero}
+use native.Mathlib.Nat.{add-assoc, le-trans, le-of-lt}
 use mathlib.Core.Path.{_≡_, refl, sym, ap, _∙_, subst}
 use mathlib.Core.Bool.{Bool}
 use mathlib.Core.List.{List, [], _∷_, _++_}
-use mathlib.Core.List.{List·Memᴰ as In, List·Memᴰ·head as here, List·Memᴰ·tail as there, Memᴰ·append-left as in-left}
+use mathlib.Core.List.{List·Memᴰ as In, Memᴰ·append-left as in-left}
 use lib.ListN.{length, getD, take, drop, replicate}
 use lib.Seq.{split-at, length-take-le}
 use Rattle.policy.specs.Lists.{flat}
 use Rattle.policy.specs.Contract.{Aid}
 use Rattle.policy.specs.Layout.{Layout, LayoutOk, unmetSize, waitingSize, usedAt, unmetAt, waitingAt}
 use Rattle.policy.specs.Tables.{Tables, Unmet, Waiting, rowOf, readNumber, writeAid, writeUnmet, writeWaiting, writeList, writeBits, decode, encode}
+use Rattle.policy.proofs.Sets.{in-row}
 use Rattle.policy.proofs.Bits.{length-bits, read-number, rowOf-lt}
+use Rattle.policy.proofs.RoundTrip.{length-unmets, length-waitings}
 use Rattle.policy.proofs.Pieces.{length-aid, length-unmet, length-waiting}
 use Rattle.geometry.specs.declared.Table.{Table}
 use Rattle.geometry.specs.Geometry.{aidAt, tokAt, provAt, entryAt}
 use Rattle.image.specs.Laid.{tableOf, Laid, withUnmet, withWaiting}
 use Rattle.image.proofs.Swap.{Swap, swap-read, swap-byte, segment-byte, swap-cast, swap-skip, swap-head, swap-among}
-use Rattle.image.proofs.Places.{length-unmets, length-waitings, swap-used, swap-aid, swap-tok, swap-row, swap-entry, swap-unmet, swap-waiting}
+use Rattle.image.proofs.Places.{swap-used, swap-aid, swap-tok, swap-row, swap-entry, swap-unmet, swap-waiting}
 
 -- ---- row r of a list
-in-get : {A : Type 0} (l : List A) (r : ℕ) (d : A) → r < length l → In (getD l r d) l
-in-get [] r d h = absurd (not-suc-le-zero h)
-in-get (x ∷ l) zero d h = here refl
-in-get (x ∷ l) (suc r) d h = there (in-get l r d (le-of-suc-le-suc h))
-
 module _ (L : Layout) {A : Type 0} (g : A → List ℕ) (w : ℕ) (l : List A) (wide : (x : A) → In x l → length (g x) ≡ w) {a b : List ℕ} {off : ℕ} where
   list-row : (r : ℕ) (d : A) → r < length l → Swap a b off (writeList L g w l) (writeList L g w l) → Swap a b (off + (1 + r * w)) (g (getD l r d)) (g (getD l r d))
   list-row r d lt h =
@@ -109,7 +106,7 @@ module _ (L : Layout) (lo : LayoutOk L) {img : List ℕ} (h : Laid L img) where
     unmet-tail = u .tok .itf ∷ u .tok .mth ∷ u .caller ∷ []
 
     pub callee-short : length (getD (t .unmet) r d .callee) ≤ 16
-    callee-short = h .room .unmet-short u (in-get (t .unmet) r d p)
+    callee-short = h .room .unmet-short u (in-row (t .unmet) r d p)
 
     at-unmet : Swap (encode L t) (encode L (withUnmet (t .unmet) t)) (unmetAt L + (1 + r * unmetSize)) (writeUnmet u) (writeUnmet u)
     at-unmet = list-row L writeUnmet unmetSize (t .unmet) (λ v i. length-unmet v (h .room .unmet-short v i)) r d p (swap-unmet L lo t (h .room) (t .unmet))
@@ -144,7 +141,7 @@ module _ (L : Layout) (lo : LayoutOk L) {img : List ℕ} (h : Laid L img) where
     waiting-tail = v .callee ∷ v .service ∷ []
 
     pub caller-short : length (getD (t .waiting) r d .caller) ≤ 16
-    caller-short = h .room .waiting-short v (in-get (t .waiting) r d p)
+    caller-short = h .room .waiting-short v (in-row (t .waiting) r d p)
 
     at-waiting : Swap (encode L t) (encode L (withWaiting (t .waiting) t)) (waitingAt L + (1 + r * waitingSize)) (writeWaiting v) (writeWaiting v)
     at-waiting = list-row L writeWaiting waitingSize (t .waiting) (λ x i. length-waiting x (h .room .waiting-short x i)) r d p (swap-waiting L lo t (h .room) (t .waiting))

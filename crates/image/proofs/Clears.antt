@@ -3,7 +3,7 @@ use Prim.Native.Nat.{ℕ, _+_, _≤_, _<_}
 use native.Mathlib.Omega.{arith}
 use mathlib.Core.Path.{_≡_, refl, sym, ap, _∙_, subst}
 use mathlib.Core.Logic.{_⊎_, inl, inr}
-use mathlib.Core.Bool.{Bool, true, false, not, _&&_, _||_, cond}
+use mathlib.Core.Bool.{Bool, true, false, not, _&&_, _||_, cond, and-true}
 use mathlib.Core.List.{List}
 use lib.Dec.{T, eqb, eqb-refl}
 use lib.ListN.{length}
@@ -16,8 +16,8 @@ use Rattle.policy.specs.Tables.{Tables, noTok, bit, decode}
 use Rattle.policy.specs.Draft.{put3}
 use Rattle.policy.proofs.Sets.{T-eq, and-l, and-r, and-i, or-l, or-r, or-e, exists-in, in-exists, in-upto}
 use Rattle.policy.proofs.Pieces.{in-or-off}
-use Rattle.bits.proofs.Row.{bit-none}
-use Rattle.bits.proofs.Loops.{exists-turn}
+use Rattle.policy.proofs.Bits.{bit-none}
+use Rattle.bits.proofs.Loops.{exists-snoc}
 use Rattle.geometry.specs.declared.Card.{Card}
 use Rattle.geometry.specs.declared.Table.{Table}
 use Rattle.geometry.specs.declared.Table.the-variants.{Calls, Grants, Needs}
@@ -62,14 +62,10 @@ off false false = refl
 
 module _ (p : ℕ → Bits) (b : Bits) where
   cleared-none : clearedBy p 0 b ≡ b
-  cleared-none = λ i x y z. go (b x y z) i
-    where
-      go : (a : Bool) → a && true ≡ a
-      go true = refl
-      go false = refl
+  cleared-none = λ i x y z. and-true (b x y z) i
 
   cleared-more : (m : ℕ) → (λ (x y z : ℕ). clearedBy p m b x y z && not (p m x y z)) ≡ clearedBy p (m + 1) b
-  cleared-more m = λ i x y z. (less (b x y z) (exists (λ k. p k x y z) (upto m)) (p m x y z) ∙ ap (λ (e : Bool). b x y z && not e) (exists-turn (λ k. p k x y z) m refl refl)) i
+  cleared-more m = λ i x y z. (less (b x y z) (exists (λ k. p k x y z) (upto m)) (p m x y z) ∙ ap (λ (e : Bool). b x y z && not e) (sym (exists-snoc (λ k. p k x y z) m))) i
 
   -- all n turns clear the bits of q
   cleared-all : (q : Bits) (n : ℕ) → ((k x y z : ℕ) → T (p k x y z) → T (q x y z)) → ((x y z : ℕ) → T (b x y z) → T (q x y z) → (k : ℕ) × (k < n) × T (p k x y z))
@@ -207,7 +203,7 @@ module _ (L : Layout) (n : ℕ) where
   toks-turn m t {img} {img′} h w =
       subst (λ (f : ℕ → ℕ → Tok). Wrote L img′ (withToks f t))
       (λ r x y. (join (exists (λ k. eqb x n && eqb y k) (upto m)) (eqb x n && eqb y m) (t .tok x y)
-      ∙ ap (λ (b : Bool). cond b noTok (t .tok x y)) (exists-turn (λ k. eqb x n && eqb y k) m refl refl)) r)
+      ∙ ap (λ (b : Bool). cond b noTok (t .tok x y)) (sym (exists-snoc (λ k. eqb x n && eqb y k) m))) r)
       (wrote-then L (withTok n m noTok) h w)
     where
       join : (p q : Bool) (s : Tok) → cond q noTok (cond p noTok s) ≡ cond (p || q) noTok s

@@ -2,34 +2,22 @@
 use Prim.Native.Nat.{ℕ, _+_, _*_, _≤_, _<_}
 use native.Mathlib.Omega.{arith}
 use mathlib.Core.Path.{_≡_, sym, ap, ap₂, _∙_, subst}
-use mathlib.Core.Logic.{_⊎_, inl, inr}
 use mathlib.Core.List.{List, [], _∷_, _++_}
-use mathlib.Core.List.{List·Memᴰ as In, List·Memᴰ·cases-cons as in-cons, List·Memᴰ·not-nil as in-nil, List·Memᴰ·append-cases as in-append}
+use mathlib.Core.List.{List·Memᴰ as In}
 use lib.ListN.{length, getD, take, drop, length-append}
 use Rattle.policy.specs.Contract.{Aid}
 use Rattle.policy.specs.Layout.{Layout}
 use Rattle.policy.specs.Tables.{Tables, writeList}
-use Rattle.rows.specs.Area.{IsArea, HasRoom, keepRows, appended, dropped}
-use Rattle.rows.proofs.Lists.{kept-in, kept-short, list-length, list-is, list-count, list-room, list-append, list-drop}
+use Rattle.rows.specs.Area.{over, IsArea, HasRoom, keepRows, appended, dropped}
+use Rattle.policy.proofs.Sets.{each-snoc}
+use Rattle.policy.proofs.Pieces.{length-list}
+use Rattle.rows.proofs.Area.{kept-short}
+use Rattle.rows.proofs.Lists.{kept-in, list-is, list-count, list-room, list-append, list-drop}
 use Rattle.rows.proofs.Over.{lent}
 use Rattle.geometry.specs.declared.Card.{Card}
 use Rattle.geometry.specs.Geometry.{layoutOf}
 use Rattle.geometry.proofs.Bounds.{limits}
-use Rattle.image.specs.Laid.{over}
 use Rattle.image.specs.Wrote.{Wrote}
-
--- ---- a list and one element more
--- what holds of the elements, and of the new one, holds of both
-in-more : {A : Type 0} (P : A → Type 0) (l : List A) (x : A) → ((y : A) → In y l → P y) → P x → (y : A) → In y (l ++ (x ∷ [])) → P y
-in-more P l x h p y m = go (in-append l m)
-  where
-    last : (y ≡ x) ⊎ In y [] → P y
-    last (inl e) = subst P (sym e) p
-    last (inr n) = absurd (in-nil n)
-
-    go : In y l ⊎ In y (x ∷ []) → P y
-    go (inl n) = h y n
-    go (inr n) = last (in-cons n)
 
 fits-more : {A : Type 0} (l : List A) (x : A) {n : ℕ} → length l < n → length (l ++ (x ∷ [])) ≤ n
 fits-more l x h = rw (length-append l (x ∷ [])) (omega arith)
@@ -66,7 +54,7 @@ module _ (c : Card) {img : List ℕ} {A : Type 0} {f : A → List ℕ} {w place 
   replaced m k s e =
       subst (λ (z : List ℕ). Wrote L z (after m))
       (sym (ap (λ (z : List ℕ). take at img ++ (z ++ drop n (drop at img))) e
-      ∙ lent at n (writeList L f w m) img (list-length L f w m (λ x i. o .wide x (s x i)) k ∙ sym b) ∙ ap (λ (z : ℕ). over z (writeList L f w m) img) a))
+      ∙ lent at n (writeList L f w m) img (length-list L f w m (λ x i. o .wide x (s x i)) k ∙ sym b) ∙ ap (λ (z : ℕ). over z (writeList L f w m) img) a))
       (o .wrote m k s)
 
   -- rows dropped by `rows::drop_rows`
@@ -81,4 +69,4 @@ module _ (c : Card) {img : List ℕ} {A : Type 0} {f : A → List ℕ} {w place 
 
     pub rows-appended : {new : List ℕ} → new ≡ appended w (f x) (take n (drop at img)) → Wrote L (take at img ++ (new ++ drop n (drop at img))) (after (l ++ (x ∷ [])))
     rows-appended e =
-        replaced (l ++ (x ∷ [])) (fits-more l x room) (in-more (λ y. length (aid y) ≤ 16) l x (o .short) s) (e ∙ list-append L f w l wide (o .few) part is x (o .wide x s) room)
+        replaced (l ++ (x ∷ [])) (fits-more l x room) (each-snoc {P = λ y. length (aid y) ≤ 16} l x (o .short) s) (e ∙ list-append L f w l wide (o .few) part is x (o .wide x s) room)

@@ -1,28 +1,21 @@
 -- Bytes replaced in place, in the forms in which code writes them; and one bit changed, as an entry or a row.
-use Prim.Native.Nat.{ℕ, _+_, _≤_, _<_}
-use native.Mathlib.Omega.{arith}
+use Prim.Native.Nat.{ℕ, _+_, _<_}
 use native.Mathlib.Numerals.{add-one}
 use mathlib.Core.Path.{_≡_, refl, sym, ap, _∙_}
 use mathlib.Core.Bool.{Bool, true, false, _&&_, cond}
 use mathlib.Core.List.{List, [], _∷_, _++_}
 use lib.Dec.{T, eqb, eqb→eq}
-use lib.ListN.{length, set, take, drop, length-append, length-drop}
-use lib.Seq.{set-split, length-take-le}
+use lib.ListN.{length, set, take, drop}
+use lib.Seq.{set-split}
 use Rattle.policy.specs.Layout.{Layout}
 use Rattle.policy.specs.Tables.{rowOf, writeNumber, writeBits}
 use Rattle.policy.specs.Draft.{put, put2, put3}
 use Rattle.policy.proofs.Bits.{length-bits}
 use Rattle.policy.proofs.Written.{number-append}
-use Rattle.image.specs.Laid.{over}
+use Rattle.rows.specs.Area.{over}
 use Rattle.image.proofs.Places.{both}
 
 -- ---- the forms of code
-pub over-length : (at : ℕ) (new img : List ℕ) → at + length new ≤ length img → length (over at new img) ≡ length img
-over-length at new img h =
-    let p : at ≤ length img = omega arith in
-    length-append (take at img) (new ++ drop (at + length new) img)
-    ∙ rw (length-append new (drop (at + length new) img), length-take-le at img p, length-drop (at + length new) img) (omega arith)
-
 -- one byte
 pub over-byte : (at x : ℕ) (img : List ℕ) → at < length img → set img at x ≡ over at (x ∷ []) img
 over-byte at x img h = set-split img at x h ∙ ap (λ (z : ℕ). take at img ++ (x ∷ drop z img)) (sym (add-one at))

@@ -1,33 +1,23 @@
 -- The image of tables and that of the same tables with one part changed differ at that part's place only.
-use Prim.Native.Nat.{ℕ, _+_, _*_, _<_}
-use native.Mathlib.Omega.{arith}
-use mathlib.Core.Path.{_≡_, refl, sym, ap, _∙_}
-use mathlib.Core.Bool.{Bool, true, false, _&&_, cond}
+use Prim.Native.Nat.{ℕ, _<_}
+use mathlib.Core.Path.{_≡_, refl, sym, ap}
+use mathlib.Core.Bool.{Bool, _&&_, cond}
 use mathlib.Core.List.{List, _++_}
 use lib.Dec.{T, eqb, eqb→eq, eqb-refl}
-use lib.ListN.{length}
 use Rattle.policy.specs.Lists.{flat, upto}
 use Rattle.policy.specs.Contract.{Aid, Tok}
-use Rattle.policy.specs.Layout.{Layout, LayoutOk, aidSize, unmetSize, waitingSize, usedAt, aidsAt, tokensAt, providesAt, callsAt, grantsAt, needsAt, unmetAt, waitingAt, size}
-use Rattle.policy.specs.Tables.{Tables, Unmet, Waiting, writeAid, writeTok, readUnmet, writeUnmet, readWaiting, writeWaiting, writeList, writeBits, writeTable, encode}
-use Rattle.policy.proofs.Sets.{and-l, and-r, and-i}
+use Rattle.policy.specs.Layout.{Layout, LayoutOk, aidSize, unmetSize, waitingSize, usedAt, aidsAt, tokensAt, providesAt, callsAt, grantsAt, needsAt, unmetAt, waitingAt}
+use Rattle.policy.specs.Tables.{Tables, Unmet, Waiting, writeAid, writeTok, writeUnmet, writeWaiting, writeList, writeBits, writeTable, encode}
+use Rattle.policy.proofs.Sets.{and-l, and-r, and-i, cond-true, cond-false}
 use Rattle.policy.proofs.Bits.{length-bits, writeLine, length-line, length-lines}
-use Rattle.policy.proofs.Pieces.{length-table, length-list, length-aid, length-unmet, length-waiting}
-use Rattle.policy.proofs.RoundTrip.{long}
+use Rattle.policy.proofs.Pieces.{length-aid}
+use Rattle.policy.proofs.Formed.{Room}
+use Rattle.policy.proofs.RoundTrip.{length-aids, length-tokens, length-unmets}
 use Rattle.geometry.specs.declared.Table.{Table}
 use Rattle.geometry.specs.declared.Table.the-variants.{Calls, Grants, Needs}
 use Rattle.geometry.specs.Geometry.{aidAt, tokAt, provAt, tableAt, entryAt}
-use Rattle.image.specs.Laid.{tableOf, Room, withUsed, withAid, withTok, withProvides, withTable, withEntry, withUnmet, withWaiting}
+use Rattle.image.specs.Laid.{tableOf, withUsed, withAid, withTok, withProvides, withTable, withEntry, withUnmet, withWaiting}
 use Rattle.image.proofs.Swap.{Swap, swap-cast, swap-after, swap-skip, swap-head, swap-upto, swap-grid}
-
--- ---- a choice whose test is known
-cond-yes : {A : Type 0} (c : Bool) (x y : A) → T c → cond c x y ≡ x
-cond-yes true x y t = refl
-cond-yes false x y t = absurd t
-
-cond-no : {A : Type 0} (c : Bool) (x y : A) → (T c → ⊥) → cond c x y ≡ y
-cond-no true x y f = absurd (f tt)
-cond-no false x y f = refl
 
 at-both : (i j : ℕ) → T (eqb i i && eqb j j)
 at-both i j = and-i (eqb i i) (eqb j j) (eqb-refl i) (eqb-refl j)
@@ -87,30 +77,6 @@ module _ (L : Layout) where
     after-used = Aids ++ after-aids
 
   module _ (lo : LayoutOk L) (t : Tables) (room : Room L t) where
-    length-aids : length (Aids t) ≡ n * aidSize
-    length-aids = length-table (λ i. writeAid (t .aid i)) aidSize n (λ i p. length-aid (t .aid i) (room .aid-short i))
-
-    pub length-line-tokens : (j : ℕ) → length (Tokens (t .tok) j) ≡ m * 2
-    length-line-tokens j = length-table (λ k. writeTok (t .tok j k)) 2 m (λ k q. refl)
-
-    length-tokens : length (Toks t) ≡ n * (m * 2)
-    length-tokens = length-table (Tokens (t .tok)) (m * 2) n (λ j p. length-line-tokens j)
-
-    pub length-unmets : length (Unmets t) ≡ 1 + L .capacity * unmetSize
-    length-unmets = length-list L readUnmet writeUnmet unmetSize (t .unmet) (λ u i. length-unmet u (room .unmet-short u i)) (room .unmet-fits)
-
-    pub length-waitings : length (Waitings t) ≡ 1 + L .capacity * waitingSize
-    length-waitings = length-list L readWaiting writeWaiting waitingSize (t .waiting) (λ v i. length-waiting v (room .waiting-short v i)) (room .waiting-fits)
-
-    pub length-image : length (encode L t) ≡ size L
-    unfolding encode
-    length-image =
-        long (L .header) (Used t ++ after-used t) (lo .header-size) (long (Used t) (after-used t) (length-bits L n (t .used)) (long (Aids t) (after-aids t) length-aids
-        (long (Toks t) (after-tokens t) length-tokens (long (writeLine L (t .provides)) (after-provides t) (length-line L (t .provides))
-        (long (writeTable L (t .calls)) (after-calls t) (length-lines L (t .calls)) (long (writeTable L (t .grants)) (after-grants t) (length-lines L (t .grants))
-        (long (writeTable L (t .needs)) (after-needs t) (length-lines L (t .needs)) (long (Unmets t) (Waitings t) length-unmets length-waitings))))))))
-        ∙ omega arith
-
     -- ---- images that are equal before a place
     abbrev To : (List ℕ → List ℕ) → ℕ → Type 0
     To before off = (r r′ : List ℕ) → Swap (before r) (before r′) off r r′
@@ -149,10 +115,10 @@ module _ (L : Layout) where
     to-aids r r′ = swap-skip (Used t) r r′ (length-bits L n (t .used)) (to-used (Used t ++ r) (Used t ++ r′))
 
     to-tokens : To with-aids (tokensAt L)
-    to-tokens r r′ = swap-skip (Aids t) r r′ length-aids (to-aids (Aids t ++ r) (Aids t ++ r′))
+    to-tokens r r′ = swap-skip (Aids t) r r′ (length-aids L lo t room) (to-aids (Aids t ++ r) (Aids t ++ r′))
 
     to-provides : To with-tokens (providesAt L)
-    to-provides r r′ = swap-skip (Toks t) r r′ length-tokens (to-tokens (Toks t ++ r) (Toks t ++ r′))
+    to-provides r r′ = swap-skip (Toks t) r r′ (length-tokens L lo t room) (to-tokens (Toks t ++ r) (Toks t ++ r′))
 
     to-calls : To with-provides (callsAt L)
     to-calls r r′ = let p = writeLine L (t .provides) in swap-skip p r r′ (length-line L (t .provides)) (to-provides (p ++ r) (p ++ r′))
@@ -167,7 +133,7 @@ module _ (L : Layout) where
     to-unmet r r′ = let p = writeTable L (t .needs) in swap-skip p r r′ (length-lines L (t .needs)) (to-needs (p ++ r) (p ++ r′))
 
     to-waiting : To with-unmet (waitingAt L)
-    to-waiting r r′ = swap-skip (Unmets t) r r′ length-unmets (to-unmet (Unmets t ++ r) (Unmets t ++ r′))
+    to-waiting r r′ = swap-skip (Unmets t) r r′ (length-unmets L lo t room) (to-unmet (Unmets t ++ r) (Unmets t ++ r′))
 
     -- ---- each part of the image, and other bytes in its place
     part : {before : List ℕ → List ℕ} {off : ℕ} → To before off → (s r rest : List ℕ) → Swap (before (s ++ rest)) (before (r ++ rest)) off s r
@@ -209,24 +175,24 @@ module _ (L : Layout) where
     swap-aid k a lt =
         let f : ℕ → Aid = λ x. cond (eqb x k) a (t .aid x) in
         swap-cast (swap-upto (λ i. writeAid (t .aid i)) (λ i. writeAid (f i)) aidSize n k lt (λ i p. length-aid (t .aid i) (room .aid-short i))
-        (λ i ne. ap writeAid (sym (cond-no (eqb i k) a (t .aid i) (λ e. ne (eqb→eq i k e))))) (swap-aids (flat (λ i. writeAid (f i)) (upto n))))
-        refl refl (ap writeAid (cond-yes (eqb k k) a (t .aid k) (eqb-refl k)))
+        (λ i ne. ap writeAid (sym (cond-false (eqb i k) a (t .aid i) (λ e. ne (eqb→eq i k e))))) (swap-aids (flat (λ i. writeAid (f i)) (upto n))))
+        refl refl (ap writeAid (cond-true (eqb k k) a (t .aid k) (eqb-refl k)))
 
     pub swap-tok : (j k : ℕ) (s : Tok) → j < n → k < m → Swap (encode L t) (encode L (withTok j k s t)) (tokAt L j k) (writeTok (t .tok j k)) (writeTok s)
     unfolding encode
     swap-tok j k s p q =
         let f : ℕ → ℕ → Tok = λ x y. cond (eqb x j && eqb y k) s (t .tok x y) in
         swap-cast (swap-grid (λ x y. writeTok (t .tok x y)) (λ x y. writeTok (f x y)) 2 n m j k p q (λ x y. refl)
-        (λ x y ne. ap writeTok (sym (cond-no (eqb x j && eqb y k) s (t .tok x y) (λ e. ne (both x y j k e))))) (swap-tokens (flat (Tokens f) (upto n))))
-        refl refl (ap writeTok (cond-yes (eqb j j && eqb k k) s (t .tok j k) (at-both j k)))
+        (λ x y ne. ap writeTok (sym (cond-false (eqb x j && eqb y k) s (t .tok x y) (λ e. ne (both x y j k e))))) (swap-tokens (flat (Tokens f) (upto n))))
+        refl refl (ap writeTok (cond-true (eqb j j && eqb k k) s (t .tok j k) (at-both j k)))
 
     pub swap-row : (j : ℕ) (f : ℕ → Bool) → j < n → Swap (encode L t) (encode L (withProvides j f t)) (provAt L j) (writeBits L m (t .provides j)) (writeBits L m f)
     unfolding encode
     swap-row j f p =
         let g : ℕ → ℕ → Bool = λ x y. cond (eqb x j) (f y) (t .provides x y) in
         swap-cast (swap-upto (λ x. writeBits L m (t .provides x)) (λ x. writeBits L m (g x)) w n j p (λ x q. length-bits L m (t .provides x))
-        (λ x ne. ap (writeBits L m) (λ i y. sym (cond-no (eqb x j) (f y) (t .provides x y) (λ e. ne (eqb→eq x j e))) i)) (swap-provides (writeLine L g)))
-        refl refl (ap (writeBits L m) (λ i y. cond-yes (eqb j j) (f y) (t .provides j y) (eqb-refl j) i))
+        (λ x ne. ap (writeBits L m) (λ i y. sym (cond-false (eqb x j) (f y) (t .provides x y) (λ e. ne (eqb→eq x j e))) i)) (swap-provides (writeLine L g)))
+        refl refl (ap (writeBits L m) (λ i y. cond-true (eqb j j) (f y) (t .provides j y) (eqb-refl j) i))
 
     pub swap-entry : (tb : Table) (i j : ℕ) (f : ℕ → Bool) → i < n → j < n
         → Swap (encode L t) (encode L (withEntry tb i j f t)) (entryAt L tb i j) (writeBits L m (tableOf tb t i j)) (writeBits L m f)
@@ -234,5 +200,5 @@ module _ (L : Layout) where
         let b : ℕ → ℕ → ℕ → Bool = tableOf tb t in
         let g : ℕ → ℕ → ℕ → Bool = λ x y z. cond (eqb x i && eqb y j) (f z) (b x y z) in
         swap-cast (swap-grid (λ x y. writeBits L m (b x y)) (λ x y. writeBits L m (g x y)) w n n i j p q (λ x y. length-bits L m (b x y))
-        (λ x y ne. ap (writeBits L m) (λ r z. sym (cond-no (eqb x i && eqb y j) (f z) (b x y z) (λ e. ne (both x y i j e))) r)) (swap-table tb g))
-        refl refl (ap (writeBits L m) (λ r z. cond-yes (eqb i i && eqb j j) (f z) (b i j z) (at-both i j) r))
+        (λ x y ne. ap (writeBits L m) (λ r z. sym (cond-false (eqb x i && eqb y j) (f z) (b x y z) (λ e. ne (both x y i j e))) r)) (swap-table tb g))
+        refl refl (ap (writeBits L m) (λ r z. cond-true (eqb i i && eqb j j) (f z) (b i j z) (at-both i j) r))

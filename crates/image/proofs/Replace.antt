@@ -8,14 +8,17 @@ use lib.Dec.{T}
 use lib.ListN.{length}
 use Rattle.policy.specs.Contract.{Aid, Tok}
 use Rattle.policy.specs.Layout.{Layout, LayoutOk, unmetSize, waitingSize, usedAt, unmetAt, waitingAt}
-use Rattle.policy.specs.Tables.{Tables, Unmet, Waiting, readUnmet, readWaiting, writeAid, writeTok, writeUnmet, writeWaiting, writeList, writeBits, decode, encode}
+use Rattle.policy.specs.Tables.{Tables, Unmet, Waiting, writeAid, writeTok, writeUnmet, writeWaiting, writeList, writeBits, decode, encode}
 use Rattle.policy.proofs.Bits.{length-bits}
 use Rattle.policy.proofs.Pieces.{length-list, length-aid, length-unmet, length-waiting}
+use Rattle.policy.proofs.Formed.{Room}
+use Rattle.policy.proofs.RoundTrip.{length-unmets, length-waitings}
 use Rattle.geometry.specs.declared.Table.{Table}
 use Rattle.geometry.specs.Geometry.{aidAt, tokAt, provAt, entryAt}
-use Rattle.image.specs.Laid.{tableOf, Room, Laid, over, withUsed, withAid, withTok, withProvides, withEntry, withUnmet, withWaiting}
+use Rattle.rows.specs.Area.{over}
+use Rattle.image.specs.Laid.{tableOf, Laid, withUsed, withAid, withTok, withProvides, withEntry, withUnmet, withWaiting}
 use Rattle.image.proofs.Swap.{Swap, swap-write}
-use Rattle.image.proofs.Places.{length-unmets, length-waitings, swap-used, swap-aid, swap-tok, swap-row, swap-entry, swap-unmet, swap-waiting}
+use Rattle.image.proofs.Places.{swap-used, swap-aid, swap-tok, swap-row, swap-entry, swap-unmet, swap-waiting}
 use Rattle.image.proofs.Laid.{laid-of, decode-of, room-used, room-aid, room-tok, room-provides, room-entry, room-unmet, room-waiting}
 
 module _ (L : Layout) (lo : LayoutOk L) (t : Tables) (room : Room L t) {img : List ℕ} (e : img ≡ encode L t) where
@@ -40,11 +43,11 @@ module _ (L : Layout) (lo : LayoutOk L) (t : Tables) (room : Room L t) {img : Li
 
   pub encode-unmet : (l : List Unmet) → length l ≤ L .capacity → ((u : Unmet) → In u l → length (u .callee) ≤ 16)
       → encode L (withUnmet l t) ≡ over (unmetAt L) (writeList L writeUnmet unmetSize l) img
-  encode-unmet l p h = write (swap-unmet L lo t room l) (length-unmets L lo t room) (length-list L readUnmet writeUnmet unmetSize l (λ u i. length-unmet u (h u i)) p)
+  encode-unmet l p h = write (swap-unmet L lo t room l) (length-unmets L lo t room) (length-list L writeUnmet unmetSize l (λ u i. length-unmet u (h u i)) p)
 
   pub encode-waiting : (l : List Waiting) → length l ≤ L .capacity → ((v : Waiting) → In v l → length (v .caller) ≤ 16)
       → encode L (withWaiting l t) ≡ over (waitingAt L) (writeList L writeWaiting waitingSize l) img
-  encode-waiting l p h = write (swap-waiting L lo t room l) (length-waitings L lo t room) (length-list L readWaiting writeWaiting waitingSize l (λ v i. length-waiting v (h v i)) p)
+  encode-waiting l p h = write (swap-waiting L lo t room l) (length-waitings L lo t room) (length-list L writeWaiting waitingSize l (λ v i. length-waiting v (h v i)) p)
 
 -- ---- an image that holds the tables t: what several writes, one after another, keep
 pub record Holds (L : Layout) (img : List ℕ) (t : Tables) : Type 0 where

@@ -1,17 +1,17 @@
 -- Rows of n bits, in words of 16: their numbers, and one bit changed as `bits` changes it.
 use Prim.Native.Nat.{ℕ, _^_, _≤_, _<_}
-use native.Mathlib.Nat.{lt-of-lt-of-le, not-le-of-lt}
+use native.Mathlib.Nat.{not-le-of-lt}
 use mathlib.Core.Path.{_≡_, refl, sym, ap, _∙_, subst}
 use mathlib.Core.Logic.{_⊎_, inl, inr}
 use mathlib.Core.Bool.{Bool, true, false, not, _&&_, _||_, cond}
 use lib.Dec.{T, eqb}
-use lib.Pow.{pow-mono}
 use borrow.Author.Tests.{ne-eqb}
 use Rattle.policy.specs.Tables.{bit, rowOf}
 use Rattle.policy.specs.Draft.{put}
 use Rattle.policy.proofs.Sets.{false-T}
 use Rattle.policy.proofs.Pieces.{in-or-off}
-use Rattle.bits.proofs.Row.{row-is, bit-past, bit-rowOf, rowOf-lt}
+use Rattle.policy.proofs.Bits.{rowOf-lt}
+use Rattle.bits.proofs.Row.{row-is, bit-past, bits-row, row-narrow}
 
 pub row-bits : (n row : ℕ) → row < 2 ^ n → row ≡ rowOf n (bit row)
 row-bits n row h = row-is n row (bit row) h (λ k l. refl)
@@ -29,18 +29,6 @@ ends-in n f off z s = go (in-or-off z n)
 
 pub bit-in : (n row : ℕ) → row < 2 ^ n → (z : ℕ) → T (bit row z) → z < n
 bit-in n row h = ends-in n (bit row) (λ z p. bit-past n row z h p)
-
-module _ (n : ℕ) (f : ℕ → Bool) (off : Ends n f) where
-  bits-row : (z : ℕ) → bit (rowOf n f) z ≡ f z
-  bits-row z = go (in-or-off z n)
-    where
-      go : (z < n) ⊎ (n ≤ z) → bit (rowOf n f) z ≡ f z
-      go (inl p) = bit-rowOf n f z p
-      go (inr p) = bit-past n (rowOf n f) z (rowOf-lt n f) p ∙ sym (off z p)
-
-  -- the same row in a wider word
-  row-narrow : (m : ℕ) → n ≤ m → rowOf m f ≡ rowOf n f
-  row-narrow m h = sym (row-is m (rowOf n f) f (lt-of-lt-of-le (rowOf-lt n f) (pow-mono h)) (λ z l. bits-row z))
 
 -- ---- bit k of a row changed to v
 module _ (n : ℕ) (f : ℕ → Bool) (off : Ends n f) (k : ℕ) (l : k < n) (v : Bool) where

@@ -1,17 +1,17 @@
 -- Two lists of bytes that differ in one segment only: where it stands in both, and so what is read there and what is written there.
-use Prim.Native.Nat.{ℕ, zero, suc, _+_, _*_, _-_, _<_}
+use Prim.Native.Nat.{ℕ, suc, _+_, _*_, _-_, _<_}
 use native.Mathlib.Omega.{arith}
-use native.Mathlib.Nat.{le-of-suc-le-suc, not-suc-le-zero, zero-add, add-assoc, lt-trans, lt-irrefl}
+use native.Mathlib.Nat.{add-assoc, lt-trans, lt-irrefl}
 use mathlib.Core.Path.{_≡_, refl, sym, ap, _∙_, subst}
 use mathlib.Core.List.{List, [], _∷_, _++_, append-assoc, append-nil}
-use mathlib.Core.List.{List·Memᴰ as In, List·Memᴰ·head as here, List·Memᴰ·tail as there}
+use mathlib.Core.List.{List·Memᴰ as In}
 use lib.ListN.{length, getD, take, drop, length-append}
 use lib.Seq.{take-at, drop-at, getD-at, getD-take, getD-drop, drop-drop}
 use Rattle.policy.specs.Lists.{flat, from, upto}
-use Rattle.policy.proofs.Sets.{from-in, upto-in}
-use Rattle.policy.proofs.Sets.{length-from}
+use Rattle.policy.proofs.Sets.{flat-append, flat-ext, length-from, from-in, upto-in}
 use Rattle.policy.proofs.Pieces.{length-flat, length-table}
-use Rattle.image.specs.Laid.{over}
+use Rattle.bits.proofs.Loops.{upto-split}
+use Rattle.rows.specs.Area.{over}
 
 -- a has s from `off` on, b has s′ there, and for the rest they are equal
 pub record Swap (a b : List ℕ) (off : ℕ) (s s′ : List ℕ) : Type 0 where
@@ -88,35 +88,18 @@ module _ {a b : List ℕ} {off : ℕ} where
       seam z = ap (λ (y : List ℕ). h .front ++ y) (append-assoc z r (h .back))
 
 -- ---- one of many parts of w bytes each
-module _ {A : Type 0} (f : A → List ℕ) where
-  pub flat-append : (xs ys : List A) → flat f (xs ++ ys) ≡ flat f xs ++ flat f ys
-  flat-append [] ys = refl
-  flat-append (x ∷ xs) ys = ap (λ (z : List ℕ). f x ++ z) (flat-append xs ys) ∙ sym (append-assoc (f x) (flat f xs) (flat f ys))
-
-  flat-same : (g : A → List ℕ) (l : List A) → ((x : A) → In x l → f x ≡ g x) → flat f l ≡ flat g l
-  flat-same g [] h = refl
-  flat-same g (x ∷ l) h = λ i. h x (here refl) i ++ flat-same g l (λ y m. h y (there m)) i
-
 module _ {A : Type 0} (f g : A → List ℕ) (w : ℕ) (xs : List A) (u v : A) (ys : List A) {a b : List ℕ} {off : ℕ} where
   pub swap-among : ((x : A) → In x xs → length (f x) ≡ w) → ((x : A) → In x xs → f x ≡ g x) → ((y : A) → In y ys → f y ≡ g y)
       → Swap a b off (flat f (xs ++ (u ∷ ys))) (flat g (xs ++ (v ∷ ys))) → Swap a b (off + length xs * w) (f u) (g v)
   swap-among wide before after h =
       swap-head (f u) (g v) (flat f ys) (swap-skip (flat f xs) (f u ++ flat f ys) (g v ++ flat f ys) (length-flat f w xs wide) (swap-cast h refl (flat-append f xs (u ∷ ys))
-      (flat-append g xs (v ∷ ys) ∙ λ i. sym (flat-same f g xs before) i ++ (g v ++ sym (flat-same f g ys after) i))))
-
--- the numbers below n, around k
-from-split : (i n k : ℕ) → k < n → from i n ≡ from i k ++ ((i + k) ∷ from (suc (i + k)) (n - suc k))
-from-split i zero k h = absurd (not-suc-le-zero h)
-from-split i (suc n) zero h = let e : i + 0 ≡ i = omega arith in let q : suc n - 1 ≡ n = omega arith in rw (e, q) refl
-from-split i (suc n) (suc k) h =
-    let e : i + suc k ≡ suc i + k = omega arith in
-    let q : suc n - suc (suc k) ≡ n - suc k = omega arith in
-    rw (e, q) (λ z. i ∷ from-split (suc i) n k (le-of-suc-le-suc h) z)
+      (flat-append g xs (v ∷ ys) ∙ λ i. sym (flat-ext f g xs before) i ++ (g v ++ sym (flat-ext f g ys after) i))))
 
 module _ (f g : ℕ → List ℕ) (w n k : ℕ) {a b : List ℕ} {off : ℕ} where
   pub swap-upto : k < n → ((i : ℕ) → i < n → length (f i) ≡ w) → ((i : ℕ) → (i ≡ k → ⊥) → f i ≡ g i) → Swap a b off (flat f (upto n)) (flat g (upto n)) → Swap a b (off + k * w) (f k) (g k)
   swap-upto lt wide same h =
-      let e : upto n ≡ upto k ++ (k ∷ from (suc k) (n - suc k)) = rw zero-add at (from-split 0 n k lt) in
+      let d : n ≡ k + suc (n - suc k) = omega arith in
+      let e : upto n ≡ upto k ++ (k ∷ from (suc k) (n - suc k)) = ap upto d ∙ upto-split k (suc (n - suc k)) in
       let q : Swap a b (off + length (upto k) * w) (f k) (g k) =
       swap-among f g w (upto k) k k (from (suc k) (n - suc k)) (λ i m. wide i (lt-trans (upto-in k m) lt)) (λ i m. same i (λ z. lt-irrefl k (subst (λ (y : ℕ). y < k) z (upto-in k m))))
       (λ i m. same i (λ z. lt-irrefl k (subst (λ (y : ℕ). k < y) z (from-in (suc k) (n - suc k) m .0)))) (swap-cast h refl (ap (flat f) e) (ap (flat g) e)) in
@@ -128,5 +111,5 @@ module _ (f g : ℕ → ℕ → List ℕ) (w n m i j : ℕ) {a b : List ℕ} {of
       → Swap a b off (flat (λ x. flat (f x) (upto m)) (upto n)) (flat (λ x. flat (g x) (upto m)) (upto n)) → Swap a b (off + (i * (m * w) + j * w)) (f i j) (g i j)
   swap-grid p q wide same h =
       let line = swap-upto (λ x. flat (f x) (upto m)) (λ x. flat (g x) (upto m)) (m * w) n i p (λ x r. length-table (f x) w m (λ y s. wide x y))
-      (λ x ne. flat-same (f x) (g x) (upto m) (λ y _. same x y (λ e. ne (e .0)))) h in
+      (λ x ne. flat-ext (f x) (g x) (upto m) (λ y _. same x y (λ e. ne (e .0)))) h in
       swap-cast (swap-upto (f i) (g i) w m j q (λ y s. wide i y) (λ y ne. same i y (λ e. ne (e .1))) line) (add-assoc off (i * (m * w)) (j * w)) refl refl

@@ -13,26 +13,27 @@ use Rattle.policy.specs.Tables.{Tables, bit, rowOf, readNumber, writeNumber, wr
 use Rattle.policy.specs.Draft.{put, put2, put3}
 use Rattle.policy.proofs.Sets.{T-false}
 use Rattle.policy.proofs.Pieces.{length-aid, length-unmet, length-waiting}
-use Rattle.rows.proofs.Over.{over-on, part-at}
-use Rattle.bits.proofs.Row.{rowOf-lt}
+use Rattle.rows.specs.Area.{over}
+use Rattle.rows.proofs.Over.{over-on, part-at, length-over}
+use Rattle.policy.proofs.Bits.{rowOf-lt}
 use Rattle.geometry.specs.declared.Card.{Card}
 use Rattle.geometry.specs.declared.Table.{Table}
 use Rattle.geometry.specs.Geometry.{layoutOf, aidAt, tokAt, provAt, entryAt}
 use Rattle.geometry.proofs.Bounds.{layout-ok, limits, services-row, tok-len, geo}
-use Rattle.image.specs.Laid.{tableOf, Laid, over, withUsed, withAid, withTok, withProvides, withTable, withEntry, withUnmet, withWaiting}
+use Rattle.image.specs.Laid.{tableOf, Laid, withUsed, withAid, withTok, withProvides, withTable, withEntry, withUnmet, withWaiting}
 use Rattle.image.specs.Wrote.{Wrote}
 use Rattle.image.proofs.Laid.{laid-length, entry-in}
 use Rattle.image.proofs.Access.{entry-number, unmet-is, waiting-is}
 use Rattle.image.proofs.Replace.{Holds, laid-holds, holds-laid, holds-decode, holds-used, holds-aid, holds-tok, holds-provides, holds-entry, holds-unmet, holds-waiting}
 use Rattle.image.proofs.Lent.{Rows}
-use Rattle.image.proofs.Over.{over-byte, over-length, over-row, entry-put3, row-put2}
+use Rattle.image.proofs.Over.{over-byte, over-row, entry-put3, row-put2}
 use Rattle.image.proofs.RowBits.{row-bits, bit-in, Ends, ends-in, put-ends, put-is, put-lt, put-bits, bit-set, bit-clear}
 
 -- ---- bytes put one after another
 two-bytes : (at x y : ℕ) (img : List ℕ) → at + 2 ≤ length img → set (set img at x) (at + 1) y ≡ over at (x ∷ y ∷ []) img
 two-bytes at x y img h =
     ap (λ (z : List ℕ). set z (at + 1) y) (over-byte at x img (omega arith))
-    ∙ over-byte (at + 1) y (over at (x ∷ []) img) (rw (over-length at (x ∷ []) img (omega arith)) (omega arith))
+    ∙ over-byte (at + 1) y (over at (x ∷ []) img) (rw (length-over at (x ∷ []) img (omega arith)) (omega arith))
     ∙ over-on at (x ∷ []) img (omega arith) (at + 1) (y ∷ []) refl
 
 -- an AID's place: its length, its bytes, zeros

@@ -1,16 +1,14 @@
--- An image that is what its tables say; bytes replaced in place, and tables with one part changed.
-use Prim.Native.Nat.{ℕ, _+_, _≤_, _<_}
+-- An image that is what its tables say, and tables with one part changed.
+use Prim.Native.Nat.{ℕ}
 use mathlib.Core.Path.{_≡_}
-use mathlib.Core.Logic.{_⊎_}
 use mathlib.Core.Bool.{Bool, _&&_, cond}
-use mathlib.Core.List.{List, [], _++_}
-use mathlib.Core.List.{List·Memᴰ as In}
-use lib.Dec.{T, eqb}
-use lib.ListN.{length, take, drop}
+use mathlib.Core.List.{List}
+use lib.Dec.{eqb}
 use Rattle.policy.specs.Contract.{Aid, Tok}
 use Rattle.policy.specs.Layout.{Layout}
-use Rattle.policy.specs.Tables.{Tables, Unmet, Waiting, noTok, decode, encode}
+use Rattle.policy.specs.Tables.{Tables, Unmet, Waiting, decode, encode}
 use Rattle.policy.specs.Draft.{put, put2, withCalls, withGrants, withNeeds}
+use Rattle.policy.proofs.Formed.{Room}
 use Rattle.geometry.specs.declared.Table.{Table}
 use Rattle.geometry.specs.declared.Table.the-variants.{Calls, Grants, Needs}
 
@@ -20,33 +18,10 @@ tableOf Calls t = t .calls
 tableOf Grants t = t .grants
 tableOf Needs t = t .needs
 
--- its bits stand in range
-abbrev pub BitsIn : Layout → (ℕ → ℕ → ℕ → Bool) → Type 0
-BitsIn L b = (x y z : ℕ) → T (b x y z) → (x < L .packages) × (y < L .packages) × (z < L .services)
-
--- ---- tables that an image of layout L has room for
-pub record Room (L : Layout) (t : Tables) : Type 0 where
-  pub used-in : (n : ℕ) → T (t .used n) → n < L .packages
-  pub aid-short : (n : ℕ) → length (t .aid n) ≤ 16
-  pub aid-off : (n : ℕ) → L .packages ≤ n → t .aid n ≡ []
-  pub tok-off : (j k : ℕ) → (L .packages ≤ j) ⊎ (L .services ≤ k) → t .tok j k ≡ noTok
-  pub provides-in : (j k : ℕ) → T (t .provides j k) → (j < L .packages) × (k < L .services)
-  pub calls-in : BitsIn L (t .calls)
-  pub grants-in : BitsIn L (t .grants)
-  pub needs-in : BitsIn L (t .needs)
-  pub unmet-fits : length (t .unmet) ≤ L .capacity
-  pub unmet-short : (u : Unmet) → In u (t .unmet) → length (u .callee) ≤ 16
-  pub waiting-fits : length (t .waiting) ≤ L .capacity
-  pub waiting-short : (v : Waiting) → In v (t .waiting) → length (v .caller) ≤ 16
-
 -- the image is what its tables say
 pub record Laid (L : Layout) (img : List ℕ) : Type 0 where
   pub laid : encode L (decode L img) ≡ img
   pub room : Room L (decode L img)
-
--- the bytes from `at` on replaced
-abbrev pub over : ℕ → List ℕ → List ℕ → List ℕ
-over at new img = take at img ++ (new ++ drop (at + length new) img)
 
 -- ---- tables with one part changed
 abbrev pub withUsed : (ℕ → Bool) → Tables → Tables

@@ -5,7 +5,7 @@ use native.Mathlib.Nat.{le-of-suc-le-suc, not-suc-le-zero, zero-lt-suc, pow-suc,
 use native.Mathlib.Numerals.{one-add}
 use mathlib.Core.Path.{_≡_, refl, sym, ap, _∙_, subst}
 use mathlib.Core.Logic.{_⊎_, inl, inr}
-use mathlib.Core.Bool.{Bool, true, false, _&&_, cond}
+use mathlib.Core.Bool.{Bool, true, false, _&&_, cond, and-false}
 use mathlib.Core.List.{List, [], _∷_, _++_, map, append-nil}
 use lib.Dec.{T, eqb, ltb, ltb→lt, lt→ltb}
 use lib.ListN.{length, getD}
@@ -18,11 +18,11 @@ use Rattle.policy.proofs.EveryBit.{BitIn}
 use Rattle.policy.proofs.Pieces.{in-or-off, length-table, piece-at, piece-off, read-at, read-off, Zeros}
 
 -- ---- a row of bits
-bit-low : (r : ℕ) → bit r zero ≡ eqb (r % 2) 1
+pub bit-low : (r : ℕ) → bit r zero ≡ eqb (r % 2) 1
 unfolding bit
 bit-low r = ap (λ (x : ℕ). eqb (x % 2) 1) (div-one r)
 
-bit-rest : (r k : ℕ) → bit r (suc k) ≡ bit (r / 2) k
+pub bit-rest : (r k : ℕ) → bit r (suc k) ≡ bit (r / 2) k
 unfolding bit
 bit-rest r k = ap (λ (x : ℕ). eqb (x % 2) 1) (ap (λ (m : ℕ). r / 2 ^ m) (sym (one-add k)) ∙ sym (shr-shr r 1 k))
 
@@ -99,10 +99,6 @@ module _ (L : Layout) where
   -- where no bytes stand, no bit is set
   off : (n : ℕ) (bs : List ℕ) (b : Bool) (k : ℕ) → bs ≡ [] → (T b → ⊥) → bitOf L n bs k ≡ b
   off n bs b k e f = ap (λ (z : List ℕ). bitOf L n z k) e ∙ ap (λ (z : Bool). ltb k n && z) (bit-none k) ∙ and-false (ltb k n) ∙ sym (T-false b f)
-    where
-      and-false : (a : Bool) → a && false ≡ false
-      and-false true = refl
-      and-false false = refl
 
   pub zeros-bits : (n : ℕ) → Zeros (writeBits L n (λ k. false))
   zeros-bits n = subst (λ (z : ℕ). Zeros (writeNumber (L .width) z [])) (sym (rowOf-none n)) (zeros-number (L .width) {bs = []} refl)

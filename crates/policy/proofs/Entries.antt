@@ -3,7 +3,7 @@ use Prim.Native.Nat.{ℕ, zero, suc, _≤_, _<_}
 use native.Mathlib.Omega.{arith}
 use mathlib.Core.Path.{_≡_, refl, _∙_}
 use mathlib.Core.Logic.{_⊎_, inl, inr}
-use mathlib.Core.Bool.{Bool, true, false, not, _&&_, cond}
+use mathlib.Core.Bool.{not, _&&_}
 use mathlib.Core.List.{List, [], _∷_, tail}
 use mathlib.Core.List.{List·Memᴰ as In, List·Memᴰ·head as here, List·Memᴰ·tail as there}
 use mathlib.Core.Option.{Option, none, some}
@@ -21,7 +21,7 @@ use Rattle.policy.specs.Sound.{sound}
 use Rattle.policy.specs.Draft.{look, draft, numberFor}
 use Rattle.policy.specs.Judge.{Out, refusal, tableCauses, judgeCauses, judged, judgeTables, judge, check, writeEmpty, loadRecord, readOut}
 use Rattle.policy.specs.Claims.{IsFirst, RefusesWith, AnswersAlways}
-use Rattle.policy.proofs.Sets.{not-false, every-in, length-keep, length-from, in-from}
+use Rattle.policy.proofs.Sets.{not-false, by-test, every-in, length-keep, length-from, in-from}
 use Rattle.policy.proofs.Answers.{answer-zero, ascends, answer-append-zero, first-is}
 use Rattle.policy.proofs.Formed.{Names}
 use Rattle.policy.proofs.Found.{NumberIs, FreeIs, free-number-is, number-is}

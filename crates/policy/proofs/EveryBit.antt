@@ -23,7 +23,7 @@ module _ (L : Layout) where
     bit-to h i j k c = below-in (f i j) (L .services) (below-in (entry i) (L .packages) (below-in line (L .packages) h i (c .0)) j (c .1)) k (c .2)
 
     bit-back : ((i j k : ℕ) → T (f i j k)) → T (everyBit L f)
-    bit-back h = in-below line (L .packages) (λ i. in-below (entry i) (L .packages) (λ j. in-below (f i j) (L .services) (h i j)))
+    bit-back h = in-below line (L .packages) (λ i _. in-below (entry i) (L .packages) (λ j _. in-below (f i j) (L .services) (λ k _. h i j k)))
 
   -- every bit of a is one of b
   module _ (a b : ℕ → ℕ → ℕ → Bool) where

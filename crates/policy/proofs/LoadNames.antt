@@ -20,7 +20,7 @@ use Rattle.policy.specs.Draft.{Draft, Look, loadedNames, loadAt, draft}
 use Rattle.policy.specs.Judge.{tableCauses}
 use Rattle.policy.specs.History.{FourSets}
 use Rattle.policy.specs.ShortCheck.{shortLoad, shortLook}
-use Rattle.policy.proofs.Sets.{and-l, and-r, not-i, not-e, every-in, distinct→once}
+use Rattle.policy.proofs.Sets.{and-l, and-r, not-i, not-e, in-row, every-in, distinct→once}
 use Rattle.policy.proofs.Equal.{eqAid-of, eqTok→, eqTok-refl, row-path, eqRow→, eqRow-refl, has-tok, has-row}
 use Rattle.policy.proofs.Put.{at-new, at-old, by-number}
 use Rattle.policy.proofs.Formed.{Names, Formed}
@@ -29,11 +29,6 @@ use Rattle.policy.proofs.Reach.{reach-1}
 
 -- ---- elements by their index
 module _ {A : Type 0} (d : A) where
-  getD-in : (l : List A) (y : ℕ) → y < length l → In (getD l y d) l
-  getD-in [] y h = absurd (not-suc-le-zero h)
-  getD-in (x ∷ l) zero h = here refl
-  getD-in (x ∷ l) (suc y) h = there (getD-in l y (le-of-suc-le-suc h))
-
   in-getD : {x : A} {l : List A} → In x l → (y : ℕ) × (y < length l) × (getD l y d ≡ x)
   in-getD (here e) = (zero, suc-le-suc zero-le, sym e)
   in-getD (there m) = let p = in-getD m in (suc (p .0), suc-le-suc (p .1), p .2)
@@ -41,8 +36,8 @@ module _ {A : Type 0} (d : A) where
   getD-inj : (l : List A) → NoRepeat l → (y z : ℕ) → y < length l → z < length l → getD l y d ≡ getD l z d → y ≡ z
   getD-inj [] n y z a b e = absurd (not-suc-le-zero a)
   getD-inj (x ∷ l) n zero zero a b e = refl
-  getD-inj (x ∷ l) n zero (suc z) a b e = absurd (n .0 (in-cast e (getD-in l z (le-of-suc-le-suc b))))
-  getD-inj (x ∷ l) n (suc y) zero a b e = absurd (n .0 (in-cast (sym e) (getD-in l y (le-of-suc-le-suc a))))
+  getD-inj (x ∷ l) n zero (suc z) a b e = absurd (n .0 (in-cast e (in-row l z d (le-of-suc-le-suc b))))
+  getD-inj (x ∷ l) n (suc y) zero a b e = absurd (n .0 (in-cast (sym e) (in-row l y d (le-of-suc-le-suc a))))
   getD-inj (x ∷ l) n (suc y) (suc z) a b e = ap suc (getD-inj l (n .1) y z (le-of-suc-le-suc a) (le-of-suc-le-suc b) e)
 
 -- ---- what a load that causes 3, 4 and 7 let pass finds: a free number m, no package with the AID, and a proper contract
@@ -105,7 +100,7 @@ module _ (L : Layout) (t : Tables) (m : ℕ) (k : Contract) where
 
     -- the tokens of the services of m are those of the contract
     pub tok-in : (y : ℕ) → T (on .provides m y) → In (on .tok m y) (k .provides)
-    tok-in y p = in-cast (loaded .tok-new y) (getD-in noTok (k .provides) y (loaded .prov-is y p))
+    tok-in y p = in-cast (loaded .tok-new y) (in-row (k .provides) y noTok (loaded .prov-is y p))
 
     pub in-tok : {s : Tok} → In s (k .provides) → (y : ℕ) × T (on .provides m y) × (on .tok m y ≡ s)
     in-tok i = let q = in-getD noTok i in (q .0, loaded .prov-new (q .0) (q .1), loaded .tok-new (q .0) ∙ q .2)

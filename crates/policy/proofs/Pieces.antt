@@ -1,7 +1,7 @@
 -- Pieces of one width, written one after another, are read back one by one; the places of AIDs, tokens and rows of lists.
 use Prim.Native.Nat.{ℕ, zero, suc, _+_, _*_, _-_, _≤_, _<_}
 use native.Mathlib.Omega.{arith}
-use native.Mathlib.Nat.{le-of-suc-le-suc, not-suc-le-zero, suc-mul, zero-add, le-trans, le-of-eq, add-mul, add-sub-of-le}
+use native.Mathlib.Nat.{le-of-suc-le-suc, not-suc-le-zero, zero-mul, suc-mul, mul-le-mul-right, zero-add, le-trans, le-of-eq, add-mul, add-sub-of-le}
 use native.Mathlib.Numerals.{one-add}
 use mathlib.Core.Path.{_≡_, refl, sym, ap, _∙_}
 use mathlib.Core.Logic.{_⊎_, inl, inr}
@@ -9,7 +9,7 @@ use mathlib.Core.List.{List, [], _∷_, _++_, map, append-assoc, append-nil}
 use mathlib.Core.List.{List·Memᴰ as In, List·Memᴰ·head as here, List·Memᴰ·tail as there}
 use lib.Dec.{T, leb, leb→le, ltb, ltb→lt, nltb→le}
 use lib.ListN.{length, getD, take, drop, replicate, length-append, length-map, length-replicate, replicate-append-replicate, List·getD-eq-default}
-use lib.Seq.{take-at, drop-at}
+use lib.Seq.{take-at, drop-at, drop-drop}
 use Rattle.policy.specs.Lists.{flat, from, upto}
 use Rattle.policy.specs.Contract.{Aid, validAid}
 use Rattle.policy.specs.Layout.{Layout}
@@ -52,6 +52,17 @@ pub length-pieces : (w n : ℕ) (bs : List ℕ) → length (pieces w n bs) ≡ n
 length-pieces w zero bs = refl
 length-pieces w (suc n) bs = ap suc (length-pieces w n (drop w bs))
 
+-- piece k of n stands k widths on, and ends within them all
+pub piece-part : (w n : ℕ) (l : List ℕ) (k : ℕ) → k < n → getD (pieces w n l) k [] ≡ take w (drop (k * w) l)
+piece-part w zero l k h = absurd (not-suc-le-zero h)
+piece-part w (suc n) l zero h = rw zero-mul
+piece-part w (suc n) l (suc k) h =
+    let e : w + k * w ≡ suc k * w = rw suc-mul (omega arith) in
+    piece-part w n (drop w l) k (le-of-suc-le-suc h) ∙ ap (take w) (drop-drop (k * w) w l ∙ ap (λ (x : ℕ). drop x l) e)
+
+pub row-ends : (k n w : ℕ) → k < n → k * w + w ≤ n * w
+row-ends k n w h = rw (← suc-mul) (mul-le-mul-right w h)
+
 module _ (f : ℕ → List ℕ) (w n : ℕ) (h : (i : ℕ) → i < n → length (f i) ≡ w) where
   pub length-table : length (flat f (upto n)) ≡ n * w
   length-table = length-flat f w (upto n) (λ i m. h i (upto-in n m)) ∙ ap (λ (z : ℕ). z * w) (length-from 0 n)
@@ -78,7 +89,7 @@ module _ (w n : ℕ) (bs : List ℕ) where
     read-off le = List·getD-eq-default (map r (pieces w n bs)) d (le-trans (le-of-eq (length-map (pieces w n bs) r ∙ length-pieces w n bs)) le)
 
 -- ---- a list with its count, and zeros up to its capacity
-module _ (L : Layout) {A : Type 0} (f : List ℕ → A) (g : A → List ℕ) (w : ℕ) (l : List A) (h : (x : A) → In x l → length (g x) ≡ w) where
+module _ (L : Layout) {A : Type 0} (g : A → List ℕ) (w : ℕ) (l : List A) (h : (x : A) → In x l → length (g x) ≡ w) where
   abbrev fill : ℕ
   fill = (L .capacity - length l) * w
 
@@ -87,8 +98,8 @@ module _ (L : Layout) {A : Type 0} (f : List ℕ → A) (g : A → List ℕ) (w 
       let e : length l * w + fill ≡ L .capacity * w = sym (add-mul (length l) (L .capacity - length l) w) ∙ ap (λ (z : ℕ). z * w) (add-sub-of-le le) in
       ap suc (length-append (flat g l) (replicate fill 0) ∙ rw (length-flat g w l h, length-replicate) e) ∙ sym (one-add (L .capacity * w))
 
-  pub read-list : ((x : A) → In x l → f (g x) ≡ x) → (bs rest : List ℕ) → bs ≡ writeList L g w l ++ rest → readList f w bs ≡ l
-  read-list back bs rest q =
+  pub read-list : (f : List ℕ → A) → ((x : A) → In x l → f (g x) ≡ x) → (bs rest : List ℕ) → bs ≡ writeList L g w l ++ rest → readList f w bs ≡ l
+  read-list f back bs rest q =
       ap (readList f w) (q ∙ ap (λ (z : List ℕ). length l ∷ z) (append-assoc (flat g l) (replicate fill 0) rest))
       ∙ ap (map f) (pieces-flat g w l (replicate fill 0 ++ rest) h) ∙ each l back
     where

@@ -1,4 +1,4 @@
--- Tables that fit their image are read back as they were written, for any layout that is ok; and the empty image is that of no package.
+-- Tables that an image has room for are read back as they were written, for any layout that is ok; and the empty image is that of no package.
 use Prim.Native.Nat.{ℕ, _+_, _*_, _-_, _≤_, _<_, zero-le}
 use native.Mathlib.Omega.{arith}
 use native.Mathlib.Nat.{not-le-of-lt}
@@ -6,21 +6,20 @@ use mathlib.Core.Path.{_≡_, refl, sym, ap, _∙_, subst}
 use mathlib.Core.Logic.{_⊎_, inl, inr}
 use mathlib.Core.Bool.{false}
 use mathlib.Core.List.{List, [], _++_, map, append-nil}
-use mathlib.Core.List.{List·Memᴰ as In, List·Memᴰ·not-nil as in-nil}
+use mathlib.Core.List.{List·Memᴰ·not-nil as in-nil}
 use lib.Dec.{T}
 use lib.ListN.{length, getD, take, drop, replicate, length-append}
 use lib.Seq.{take-at, drop-at, drop-drop}
 use Rattle.policy.specs.Lists.{flat, upto}
 use Rattle.policy.specs.Contract.{Aid, Tok}
 use Rattle.policy.specs.Layout.{Layout, LayoutOk, aidSize, unmetSize, waitingSize, usedAt, aidsAt, tokensAt, providesAt, callsAt, grantsAt, needsAt, unmetAt, waitingAt, size}
-use Rattle.policy.specs.Tables.{Tables, Unmet, Waiting, noTok, pieces, readAid, writeAid, readTok, writeTok, readUnmet, writeUnmet, readWaiting, writeWaiting, writeList, bitOf, writeBits}
+use Rattle.policy.specs.Tables.{Tables, noTok, pieces, readAid, writeAid, readTok, writeTok, readUnmet, writeUnmet, readWaiting, writeWaiting, writeList, bitOf, writeBits}
 use Rattle.policy.specs.Tables.{writeTable, decode, encode, emptyImage}
 use Rattle.policy.proofs.Sets.{test}
-use Rattle.policy.proofs.EveryBit.{BitIn}
 use Rattle.policy.proofs.Pieces.{in-or-off, length-table, piece-at, piece-only, read-at, read-off, length-list, read-list, valid-short, length-aid, read-aid, length-unmet, read-unmet}
 use Rattle.policy.proofs.Pieces.{length-waiting, read-waiting, Zeros, zeros-append, zeros-flat, zeros-list}
 use Rattle.policy.proofs.Bits.{length-bits, read-bits, zeros-bits, writeLine, length-line, length-lines, read-line, read-lines}
-use Rattle.policy.proofs.Formed.{Formed, Fitting}
+use Rattle.policy.proofs.Formed.{Formed, Fitting, Room}
 use Rattle.policy.proofs.Facts.{no-rows, place-in, bit-in, need-bits}
 
 -- the next part of an image, after one of b bytes
@@ -28,8 +27,33 @@ past : (img p rest : List ℕ) (a b : ℕ) → length p ≡ b → drop a img ≡
 past img p rest a b e q = sym (drop-drop b a img) ∙ ap (drop b) q ∙ drop-at p rest b e
 
 -- the length of a part and what follows
-pub long : (p rest : List ℕ) {a b : ℕ} → length p ≡ a → length rest ≡ b → length (p ++ rest) ≡ a + b
+long : (p rest : List ℕ) {a b : ℕ} → length p ≡ a → length rest ≡ b → length (p ++ rest) ≡ a + b
 long p rest e q = length-append p rest ∙ λ i. e i + q i
+
+pub in-not-off : {j k n m : ℕ} → (j < n) × (k < m) → (n ≤ j) ⊎ (m ≤ k) → ⊥
+in-not-off h (inl p) = not-le-of-lt (h .0) p
+in-not-off h (inr p) = not-le-of-lt (h .1) p
+
+-- what is formed and fits is in range
+pub formed-room : (L : Layout) (t : Tables) → Formed L t → Fitting L t → Room L t
+formed-room L t fo fi = record {
+  used-in = fo .names .used-lt;
+  aid-short = λ i. short i (test (t .used i));
+  aid-off = λ i p. fo .names .aid-blank i (λ u. not-le-of-lt (fo .names .used-lt i u) p);
+  tok-off = λ j k p. fo .names .tok-blank j k (λ s. in-not-off (place-in L t (fo .names) j k s) p);
+  provides-in = place-in L t (fo .names);
+  calls-in = bit-in L t (fo .names) (fo .calls);
+  grants-in = λ j i k s. let p = bit-in L t (fo .names) (fo .grants) i j k s in (p .1, p .0, p .2);
+  needs-in = bit-in L t (fo .names) (need-bits L t fo);
+  unmet-fits = fi .unmet-fits;
+  unmet-short = λ u i. valid-short (u .callee) (fo .unmet .unmet-valid u i);
+  waiting-fits = fi .waiting-fits;
+  waiting-short = λ v i. valid-short (v .caller) (fo .waiting .wait-valid v i);
+}
+  where
+    short : (i : ℕ) → T (t .used i) ⊎ (T (t .used i) → ⊥) → length (t .aid i) ≤ 16
+    short i (inl u) = valid-short (t .aid i) (fo .names .aid-valid i u)
+    short i (inr f) = subst (λ (z : Aid). length z ≤ 16) (sym (fo .names .aid-blank i f)) zero-le
 
 module _ (L : Layout) (lo : LayoutOk L) where
   abbrev n : ℕ
@@ -45,27 +69,7 @@ module _ (L : Layout) (lo : LayoutOk L) where
   unfolding encode
   header-encode t = take-at (L .header) _ 3 (lo .header-size)
 
-  module _ (t : Tables) (fo : Formed L t) (fi : Fitting L t) where
-    -- ---- what is formed is in range
-    aid-short : (i : ℕ) → length (t .aid i) ≤ 16
-    aid-short i = go (test (t .used i))
-      where
-        go : T (t .used i) ⊎ (T (t .used i) → ⊥) → length (t .aid i) ≤ 16
-        go (inl u) = valid-short (t .aid i) (fo .names .aid-valid i u)
-        go (inr f) = subst (λ (z : Aid). length z ≤ 16) (sym (fo .names .aid-blank i f)) zero-le
-
-    provides-in : (j k : ℕ) → T (t .provides j k) → (j < n) × (k < m)
-    provides-in = place-in L t (fo .names)
-
-    grants-in : (j i k : ℕ) → T (t .grants j i k) → BitIn L j i k
-    grants-in j i k s = let p = bit-in L t (fo .names) (fo .grants) i j k s in (p .1, p .0, p .2)
-
-    unmet-short : (u : Unmet) → In u (t .unmet) → length (u .callee) ≤ 16
-    unmet-short u i = valid-short (u .callee) (fo .unmet .unmet-valid u i)
-
-    waiting-short : (v : Waiting) → In v (t .waiting) → length (v .caller) ≤ 16
-    waiting-short v i = valid-short (v .caller) (fo .waiting .wait-valid v i)
-
+  module _ (t : Tables) (room : Room L t) where
     -- ---- the parts, and what stands after each
     abbrev aids : List ℕ
     aids = flat (λ i. writeAid (t .aid i)) (upto n)
@@ -103,20 +107,20 @@ module _ (L : Layout) (lo : LayoutOk L) where
     abbrev img : List ℕ
     img = L .header ++ from-used
 
-    length-aids : length aids ≡ n * aidSize
-    length-aids = length-table (λ i. writeAid (t .aid i)) aidSize n (λ i p. length-aid (t .aid i) (aid-short i))
+    pub length-aids : length aids ≡ n * aidSize
+    length-aids = length-table (λ i. writeAid (t .aid i)) aidSize n (λ i p. length-aid (t .aid i) (room .aid-short i))
 
     length-line-tokens : (j : ℕ) → j < n → length (tokens j) ≡ m * 2
     length-line-tokens j p = length-table (λ k. writeTok (t .tok j k)) 2 m (λ k q. refl)
 
-    length-tokens : length (flat tokens (upto n)) ≡ n * (m * 2)
+    pub length-tokens : length (flat tokens (upto n)) ≡ n * (m * 2)
     length-tokens = length-table tokens (m * 2) n length-line-tokens
 
-    length-unmets : length (writeList L writeUnmet unmetSize (t .unmet)) ≡ 1 + L .capacity * unmetSize
-    length-unmets = length-list L readUnmet writeUnmet unmetSize (t .unmet) (λ u i. length-unmet u (unmet-short u i)) (fi .unmet-fits)
+    pub length-unmets : length (writeList L writeUnmet unmetSize (t .unmet)) ≡ 1 + L .capacity * unmetSize
+    length-unmets = length-list L writeUnmet unmetSize (t .unmet) (λ u i. length-unmet u (room .unmet-short u i)) (room .unmet-fits)
 
-    length-waitings : length from-waiting ≡ 1 + L .capacity * waitingSize
-    length-waitings = length-list L readWaiting writeWaiting waitingSize (t .waiting) (λ v i. length-waiting v (waiting-short v i)) (fi .waiting-fits)
+    pub length-waitings : length from-waiting ≡ 1 + L .capacity * waitingSize
+    length-waitings = length-list L writeWaiting waitingSize (t .waiting) (λ v i. length-waiting v (room .waiting-short v i)) (room .waiting-fits)
 
     pub length-encode : length (encode L t) ≡ size L
     unfolding encode
@@ -159,7 +163,7 @@ module _ (L : Layout) (lo : LayoutOk L) where
     read-used : (i : ℕ) → bitOf L n (take w (drop (usedAt L) img)) i ≡ t .used i
     read-used i =
         ap (λ (z : List ℕ). bitOf L n z i) (ap (take w) at-used ∙ take-at (writeBits L n (t .used)) from-aids w (length-bits L n (t .used)))
-        ∙ read-bits L n (t .used) (lo .packages-fit) (fo .names .used-lt) i
+        ∙ read-bits L n (t .used) (lo .packages-fit) (room .used-in) i
 
     read-aids : (i : ℕ) → getD (map readAid (pieces aidSize n (drop (aidsAt L) img))) i [] ≡ t .aid i
     read-aids i = go (in-or-off i n)
@@ -170,8 +174,8 @@ module _ (L : Layout) (lo : LayoutOk L) where
         go : (i < n) ⊎ (n ≤ i) → getD (map readAid (pieces aidSize n bs)) i [] ≡ t .aid i
         go (inl p) =
             read-at aidSize n bs readAid [] i p
-            ∙ ap readAid (piece-at (λ i. writeAid (t .aid i)) aidSize n (λ i p. length-aid (t .aid i) (aid-short i)) bs from-tokens at-aids i p) ∙ read-aid (t .aid i)
-        go (inr p) = read-off aidSize n bs readAid [] i p ∙ sym (fo .names .aid-blank i (λ u. not-le-of-lt (fo .names .used-lt i u) p))
+            ∙ ap readAid (piece-at (λ i. writeAid (t .aid i)) aidSize n (λ i p. length-aid (t .aid i) (room .aid-short i)) bs from-tokens at-aids i p) ∙ read-aid (t .aid i)
+        go (inr p) = read-off aidSize n bs readAid [] i p ∙ sym (room .aid-off i p)
 
     abbrev readToks : List ℕ → List Tok
     readToks l = map readTok (pieces 2 m l)
@@ -185,15 +189,12 @@ module _ (L : Layout) (lo : LayoutOk L) where
         line-at : j < n → getD (map readToks (pieces (m * 2) n bs)) j [] ≡ readToks (tokens j)
         line-at p = read-at (m * 2) n bs readToks [] j p ∙ ap readToks (piece-at tokens (m * 2) n length-line-tokens bs from-provides at-tokens j p)
 
-        blank : ((j < n) × (k < m) → ⊥) → noTok ≡ t .tok j k
-        blank f = sym (fo .names .tok-blank j k (λ s. f (provides-in j k s)))
-
         go : (j < n) ⊎ (n ≤ j) → (k < m) ⊎ (m ≤ k) → getD (getD (map readToks (pieces (m * 2) n bs)) j []) k noTok ≡ t .tok j k
         go (inl p) (inl q) =
             ap (λ (z : List Tok). getD z k noTok) (line-at p) ∙ read-at 2 m (tokens j) readTok noTok k q
             ∙ ap readTok (piece-only (λ k. writeTok (t .tok j k)) 2 m (λ k q. refl) k q)
-        go (inl p) (inr q) = ap (λ (z : List Tok). getD z k noTok) (line-at p) ∙ read-off 2 m (tokens j) readTok noTok k q ∙ blank (λ h. not-le-of-lt (h .1) q)
-        go (inr p) _ = ap (λ (z : List Tok). getD z k noTok) (read-off (m * 2) n bs readToks [] j p) ∙ blank (λ h. not-le-of-lt (h .0) p)
+        go (inl p) (inr q) = ap (λ (z : List Tok). getD z k noTok) (line-at p) ∙ read-off 2 m (tokens j) readTok noTok k q ∙ sym (room .tok-off j k (inr q))
+        go (inr p) _ = ap (λ (z : List Tok). getD z k noTok) (read-off (m * 2) n bs readToks [] j p) ∙ sym (room .tok-off j k (inl p))
 
     pub round-trip : decode L (encode L t) ≡ t
     unfolding decode encode
@@ -201,12 +202,12 @@ module _ (L : Layout) (lo : LayoutOk L) where
       used = λ i. read-used i z;
       aid = λ i. read-aids i z;
       tok = λ j k. read-tokens j k z;
-      provides = λ j k. read-line L lo (t .provides) provides-in (drop (providesAt L) img) from-calls at-provides j k z;
-      calls = λ i j k. read-lines L lo (t .calls) (bit-in L t (fo .names) (fo .calls)) (drop (callsAt L) img) from-grants at-calls i j k z;
-      grants = λ j i k. read-lines L lo (t .grants) grants-in (drop (grantsAt L) img) from-needs at-grants j i k z;
-      needs = λ i j k. read-lines L lo (t .needs) (bit-in L t (fo .names) (need-bits L t fo)) (drop (needsAt L) img) from-unmet at-needs i j k z;
-      unmet = read-list L readUnmet writeUnmet unmetSize (t .unmet) (λ u i. length-unmet u (unmet-short u i)) (λ u i. read-unmet u (unmet-short u i)) (drop (unmetAt L) img) from-waiting at-unmet z;
-      waiting = read-list L readWaiting writeWaiting waitingSize (t .waiting) (λ v i. length-waiting v (waiting-short v i)) (λ v i. read-waiting v (waiting-short v i))
+      provides = λ j k. read-line L lo (t .provides) (room .provides-in) (drop (providesAt L) img) from-calls at-provides j k z;
+      calls = λ i j k. read-lines L lo (t .calls) (room .calls-in) (drop (callsAt L) img) from-grants at-calls i j k z;
+      grants = λ j i k. read-lines L lo (t .grants) (room .grants-in) (drop (grantsAt L) img) from-needs at-grants j i k z;
+      needs = λ i j k. read-lines L lo (t .needs) (room .needs-in) (drop (needsAt L) img) from-unmet at-needs i j k z;
+      unmet = read-list L writeUnmet unmetSize (t .unmet) (λ u i. length-unmet u (room .unmet-short u i)) readUnmet (λ u i. read-unmet u (room .unmet-short u i)) (drop (unmetAt L) img) from-waiting at-unmet z;
+      waiting = read-list L writeWaiting waitingSize (t .waiting) (λ v i. length-waiting v (room .waiting-short v i)) readWaiting (λ v i. read-waiting v (room .waiting-short v i))
           (drop (waitingAt L) img) [] (at-waiting ∙ sym (append-nil from-waiting)) z;
     }
 
@@ -264,7 +265,7 @@ empty-encode L lo =
     let each : (f : ℕ → List ℕ) → ((i : ℕ) → Zeros (f i)) → Zeros (flat f (upto (L .packages))) = λ f. zeros-flat f (upto (L .packages)) in
     let line : Zeros (writeLine L (λ j k. false)) = each _ (λ j. zeros-bits L (L .services)) in
     let table : Zeros (writeTable L (λ i j k. false)) = each _ (λ i. line) in
-    zeros-after (L .header) _ (size L) (lo .header-size) (length-encode L lo emptyTables (empty-formed L) (empty-fitting L))
+    zeros-after (L .header) _ (size L) (lo .header-size) (length-encode L lo emptyTables (formed-room L emptyTables (empty-formed L) (empty-fitting L)))
     (zeros-append (zeros-bits L (L .packages)) (zeros-append (each (λ i. writeAid []) (λ i. refl))
     (zeros-append (each (λ j. flat (λ k. writeTok noTok) (upto (L .services))) (λ j. zeros-flat (λ k. writeTok noTok) (upto (L .services)) (λ k. refl)))
     (zeros-append line (zeros-append table (zeros-append table (zeros-append table (zeros-append (zeros-list L writeUnmet unmetSize) (zeros-list L writeWaiting waitingSize)))))))))

@@ -1,16 +1,16 @@
 -- Tests read as facts, and lists as finite sets: membership, repetitions and lengths.
 use Prim.Native.Nat.{ℕ, zero, suc, _+_, _*_, _≤_, _<_, zero-le, suc-le-suc}
 use native.Mathlib.Omega.{arith}
-use native.Mathlib.Nat.{le-antisymm, suc-mul}
+use native.Mathlib.Nat.{le-antisymm, le-of-suc-le-suc, not-suc-le-zero, suc-mul}
 use mathlib.Core.Path.{_≡_, refl, sym, ap, _∙_, subst}
 use mathlib.Core.Logic.{_⊎_, inl, inr, _↔_}
 use mathlib.Core.Bool.{Bool, true, false, not, _&&_, _||_, cond}
-use mathlib.Core.List.{List, [], _∷_, _++_, map}
+use mathlib.Core.List.{List, [], _∷_, _++_, map, append-assoc}
 use mathlib.Core.List.{List·Memᴰ as In, List·Memᴰ·head as here, List·Memᴰ·tail as there, List·Memᴰ·cases-cons as in-cons, List·Memᴰ·not-nil as in-nil}
 use mathlib.Core.List.{Memᴰ·map, Memᴰ·of-map, Memᴰ·append-left as in-left, Memᴰ·append-right as in-right, List·Memᴰ·append-cases as in-append, Memᴰ·cast as in-cast}
 use mathlib.Core.Option.{Option, none, some}
 use lib.Dec.{T, eqb, eqb→eq, eqb-refl}
-use lib.ListN.{length, length-append}
+use lib.ListN.{length, getD, length-append}
 use Rattle.policy.specs.Lists.{implies, every, exists, keep, first, flat, from, upto, isNil, isSome, NoRepeat, distinct, eqBytes}
 
 -- ---- tests
@@ -101,6 +101,10 @@ module _ {A : Type 0} where
   cond-either true v w f = refl
   cond-either false v w f = f (λ t. t)
 
+  pub by-test : (P : A → Type 0) (v w : A) (b : Bool) → (T b → P v) → ((T b → ⊥) → P w) → P (cond b v w)
+  by-test P v w true f g = f tt
+  by-test P v w false f g = g (λ t. t)
+
 pub cond-off : (b c : Bool) → T (cond b false c) → T c × (T b → ⊥)
 cond-off true c t = absurd t
 cond-off false c t = (t, λ u. u)
@@ -184,6 +188,12 @@ module _ {A : Type 0} where
   pub same-length : (xs ys : List A) → NoRepeat xs → NoRepeat ys → ((x : A) → In x xs → In x ys) → ((x : A) → In x ys → In x xs) → length xs ≡ length ys
   same-length xs ys d e f g = le-antisymm (length-le xs ys d f) (length-le ys xs e g)
 
+  -- the element at an index
+  pub in-row : (l : List A) (r : ℕ) (d : A) → r < length l → In (getD l r d) l
+  in-row [] r d h = absurd (not-suc-le-zero h)
+  in-row (x ∷ l) zero d h = here refl
+  in-row (x ∷ l) (suc r) d h = there (in-row l r d (le-of-suc-le-suc h))
+
   -- ---- all, any, keep, find
   module _ (f : A → Bool) where
     at : {x y : A} → x ≡ y → T (f y) → T (f x)
@@ -255,6 +265,10 @@ module _ {A : Type 0} where
         go : (b : Bool) → length (keep f ys) ≤ length ys → length (cond b (y ∷ keep f ys) (keep f ys)) ≤ suc (length ys)
         go true h = suc-le-suc h
         go false h = omega arith
+
+    pub keep-ext : (g : A → Bool) (l : List A) → ((x : A) → In x l → f x ≡ g x) → keep f l ≡ keep g l
+    keep-ext g [] h = refl
+    keep-ext g (x ∷ l) h = λ i. cond (h x (here refl) i) (x ∷ keep-ext g l (λ y m. h y (there m)) i) (keep-ext g l (λ y m. h y (there m)) i)
 
     -- what a search found, and what none found says
     abbrev pub Found : List A → Option A → Type 0
@@ -337,6 +351,18 @@ module _ {A B : Type 0} (f : A → List B) where
       let b = length-flat-le most l (λ y m. h y (there m)) in
       let e = length-append (f x) (flat f l) in
       rw (suc-mul (length l) most) (omega arith)
+
+  pub flat-append : (l m : List A) → flat f (l ++ m) ≡ flat f l ++ flat f m
+  flat-append [] m = refl
+  flat-append (x ∷ l) m = ap (λ (z : List B). f x ++ z) (flat-append l m) ∙ sym (append-assoc (f x) (flat f l) (flat f m))
+
+  pub flat-ext : (g : A → List B) (l : List A) → ((x : A) → In x l → f x ≡ g x) → flat f l ≡ flat g l
+  flat-ext g [] h = refl
+  flat-ext g (x ∷ l) h = λ i. h x (here refl) i ++ flat-ext g l (λ y m. h y (there m)) i
+
+  pub flat-map : {C : Type 0} (g : C → A) (l : List C) → flat f (map g l) ≡ flat (λ x. f (g x)) l
+  flat-map g [] = refl
+  flat-map g (x ∷ l) = ap (λ (z : List B). f (g x) ++ z) (flat-map g l)
 
 module _ {A : Type 0} where
   pub once-append : (l m : List A) → NoRepeat l → NoRepeat m → ((x : A) → In x l → In x m → ⊥) → NoRepeat (l ++ m)
@@ -461,8 +487,8 @@ once-upto n = once-from 0 n
 pub below-in : (f : ℕ → Bool) (n : ℕ) → T (every f (upto n)) → (x : ℕ) → x < n → T (f x)
 below-in f n h x l = every-in f (upto n) h (in-upto n x l)
 
-pub in-below : (f : ℕ → Bool) (n : ℕ) → ((x : ℕ) → T (f x)) → T (every f (upto n))
-in-below f n h = in-every f (upto n) (λ x m. h x)
+pub in-below : (f : ℕ → Bool) (n : ℕ) → ((x : ℕ) → x < n → T (f x)) → T (every f (upto n))
+in-below f n h = in-every f (upto n) (λ x m. h x (upto-in n m))
 
 -- ---- equality tests
 pub eqBytes→ : (a b : List ℕ) → T (eqBytes a b) → a ≡ b

@@ -5,7 +5,7 @@ use mathlib.Core.Path.{_≡_, refl, sym, ap, _∙_, subst}
 use mathlib.Core.Logic.{inl, inr}
 use mathlib.Core.Bool.{Bool, true, false, not, _&&_, cond}
 use mathlib.Core.List.{List, [], _∷_, _++_, map}
-use mathlib.Core.List.{List·Memᴰ as In, List·Memᴰ·head as here, List·Memᴰ·tail as there, Memᴰ·cast as in-cast}
+use mathlib.Core.List.{List·Memᴰ as In, Memᴰ·cast as in-cast}
 use mathlib.Core.Option.{Option, none, some}
 use lib.Dec.{T}
 use lib.ListN.{length, length-append, length-map}
@@ -17,7 +17,7 @@ use Rattle.policy.specs.Tables.{Tables, Unmet, Waiting}
 use Rattle.policy.specs.Lookup.{Place, serviceAt, numberOf, serviceOf, serverOf}
 use Rattle.policy.specs.Draft.{kept, callRow, hasUnmet, hasWaiting, asksFor, addServiceAt, loadedNames, notServed, loadedService, loadAt, look}
 use Rattle.policy.specs.ShortCheck.{count, notInstalled, newcomerRights, nowMet, othersRights, shortLoad, shortAddService}
-use Rattle.policy.proofs.Sets.{T-eq, and-l, and-r, and-i, implies-i, implies-e, every-in, in-every, length-keep}
+use Rattle.policy.proofs.Sets.{T-eq, and-l, and-r, and-i, implies-i, implies-e, every-in, in-every, length-keep, keep-ext}
 use Rattle.policy.proofs.Equal.{eqAid→, eqAid-refl, eqAid-of, eqTok→, eqTok-refl, row-path, has-tok, tok-has, has-row, row-has, has-unmet, unmet-has, has-waiting, waiting-has}
 use Rattle.policy.proofs.Put.{by-number, OldOrNew, old-or-new}
 use Rattle.policy.proofs.EveryBit.{BitIn, among, among-to, among-back}
@@ -30,12 +30,8 @@ use Rattle.policy.proofs.LoadBits.{CallIs, GrantIs, call-is, grant-is}
 use Rattle.policy.proofs.Short.{look-is, fits, fits-as}
 
 module _ {A : Type 0} where
-  keep-same : (f g : A → Bool) (l : List A) → ((x : A) → In x l → f x ≡ g x) → keep f l ≡ keep g l
-  keep-same f g [] h = refl
-  keep-same f g (x ∷ l) h = λ i. cond (h x (here refl) i) (x ∷ keep-same f g l (λ y m. h y (there m)) i) (keep-same f g l (λ y m. h y (there m)) i)
-
   -- nothing is kept of those that do not pass where all pass
-  none-kept : {B : Type 0} (f : A → Bool) (g : A → B) (l : List A) → isNil (map g (keep (λ x. not (f x)) l)) ≡ every f l
+  pub none-kept : {B : Type 0} (f : A → Bool) (g : A → B) (l : List A) → isNil (map g (keep (λ x. not (f x)) l)) ≡ every f l
   none-kept f g [] = refl
   none-kept f g (x ∷ l) = go (f x) (none-kept f g l)
     where
@@ -43,7 +39,7 @@ module _ {A : Type 0} where
       go true h = h
       go false h = refl
 
-  length-kept : {B : Type 0} (l : List B) (g : A → B) (m : List A) → length (l ++ map g m) ≡ length l + length m
+  pub length-kept : {B : Type 0} (l : List B) (g : A → B) (m : List A) → length (l ++ map g m) ≡ length l + length m
   length-kept l g m = length-append l (map g m) ∙ ap (λ (n : ℕ). length l + n) (length-map m g)
 
 -- ---- kind 3
@@ -156,7 +152,7 @@ module _ (L : Layout) (t : Tables) (m : ℕ) (k : Contract) (new : Newcomer L t 
   -- so the same of the newcomer's rows are left off
   left-same : (rs : List Row) → ((r : Row) → In r rs → In r (k .calls)) → keep (notServed L t m k) rs ≡ keep off-card rs
   unfolding off-card
-  left-same rs h = keep-same (notServed L t m k) off-card rs (λ r i. ap (λ (o : Option Place). not (isSome o)) (server-same r (new .calls-other r (h r i))))
+  left-same rs h = keep-ext (notServed L t m k) off-card rs (λ r i. ap (λ (o : Option Place). not (isSome o)) (server-same r (new .calls-other r (h r i))))
 
   -- ---- cause 8: the full look asks a grant for each call bit; the short one for the newcomer's and for those that it meets
   abbrev full : Bool

@@ -1,11 +1,11 @@
 -- Kinds 2 and 4: the short check says what the full look at the draft says.
 use Prim.Native.Nat.{ℕ, zero, suc, _+_}
 use native.Mathlib.Nat.{zero-add, suc-add, le-trans}
-use mathlib.Core.Path.{_≡_, refl, ap, _∙_, subst}
-use mathlib.Core.Bool.{Bool, true, false, not, _&&_, cond}
+use mathlib.Core.Path.{_≡_, refl, sym, ap, _∙_, subst}
+use mathlib.Core.Bool.{Bool, true, false, not, _&&_, cond, and-true}
 use mathlib.Core.List.{List, [], _∷_, map}
 use mathlib.Core.List.{List·Memᴰ as In, Memᴰ·cast as in-cast}
-use lib.Dec.{T, eqb, eqb→eq, eqb-refl}
+use lib.Dec.{T, eqb, eqb→eq, eqb-refl, eqb·suc-zero}
 use lib.ListN.{length, length-append, length-map}
 use Rattle.policy.specs.Lists.{every, keep, isNil}
 use Rattle.policy.specs.Contract.{Tok}
@@ -25,38 +25,33 @@ use Rattle.policy.proofs.KindRemoveService.{dropping as dropping-4}
 use Rattle.policy.proofs.Short.{look-is, fits, fits-as, granted}
 
 -- ---- lengths and counts
-abbrev isZero : ℕ → Bool
-isZero zero = true
-isZero (suc n) = false
+zero-sum : (a b : ℕ) → eqb (a + b) 0 ≡ eqb a 0 && eqb b 0
+zero-sum zero b = ap (λ (n : ℕ). eqb n 0) (zero-add b)
+zero-sum (suc a) b = ap (λ (n : ℕ). eqb n 0) (suc-add a b) ∙ eqb·suc-zero (a + b) ∙ ap (λ (z : Bool). z && eqb b 0) (sym (eqb·suc-zero a))
 
-zero-sum : (a b : ℕ) → isZero (a + b) ≡ isZero a && isZero b
-zero-sum zero b = ap isZero (zero-add b)
-zero-sum (suc a) b = ap isZero (suc-add a b)
-
-nil-length : {A : Type 0} (l : List A) → isNil l ≡ isZero (length l)
+nil-length : {A : Type 0} (l : List A) → isNil l ≡ eqb (length l) 0
 nil-length [] = refl
-nil-length (x ∷ l) = refl
+nil-length (x ∷ l) = sym (eqb·suc-zero (length l))
 
-none-pass : {A : Type 0} (f : A → Bool) (l : List A) → isZero (count f l) ≡ every (λ x. not (f x)) l
+pub none-pass : {A : Type 0} (f : A → Bool) (l : List A) → eqb (count f l) 0 ≡ every (λ x. not (f x)) l
 none-pass f [] = refl
 none-pass f (x ∷ l) = go (f x) (none-pass f l)
   where
-    go : (b : Bool) → isZero (count f l) ≡ every (λ x. not (f x)) l → isZero (length (cond b (x ∷ keep f l) (keep f l))) ≡ not b && every (λ x. not (f x)) l
-    go true ih = refl
+    go : (b : Bool) → eqb (count f l) 0 ≡ every (λ x. not (f x)) l → eqb (length (cond b (x ∷ keep f l) (keep f l))) 0 ≡ not b && every (λ x. not (f x)) l
+    go true ih = eqb·suc-zero (length (keep f l))
     go false ih = ih
 
-none-sum : (f : ℕ → ℕ) (l : List ℕ) → isZero (sum f l) ≡ every (λ i. isZero (f i)) l
+none-sum : (f : ℕ → ℕ) (l : List ℕ) → eqb (sum f l) 0 ≡ every (λ i. eqb (f i) 0) l
 none-sum f [] = refl
-none-sum f (x ∷ l) = zero-sum (f x) (sum f l) ∙ ap (λ (b : Bool). isZero (f x) && b) (none-sum f l)
+none-sum f (x ∷ l) = zero-sum (f x) (sum f l) ∙ ap (λ (b : Bool). eqb (f x) 0 && b) (none-sum f l)
 
-length-pairs : {B : Type 0} (g : ℕ → ℕ → B) (f : ℕ → ℕ → Bool) (l m : List ℕ) → length (pairs g f l m) ≡ sum (λ i. count (f i) l) m
+pub none-pairs : (f : ℕ → ℕ → Bool) (l m : List ℕ) → eqb (sum (λ i. count (f i) l) m) 0 ≡ every (λ i. every (λ k. not (f i k)) l) m
+none-pairs f l m = none-sum (λ i. count (f i) l) m ∙ (λ z. every (λ i. none-pass (f i) l z) m)
+
+pub length-pairs : {B : Type 0} (g : ℕ → ℕ → B) (f : ℕ → ℕ → Bool) (l m : List ℕ) → length (pairs g f l m) ≡ sum (λ i. count (f i) l) m
 length-pairs g f l [] = refl
 length-pairs g f l (i ∷ m) =
     length-append (map (g i) (keep (f i) l)) (pairs g f l m) ∙ (λ z. length-map (keep (f i) l) (g i) z + length-pairs g f l m z)
-
-and-true : (b : Bool) → b && true ≡ b
-and-true true = refl
-and-true false = refl
 
 module _ (L : Layout) (t : Tables) where
   -- ---- how many rows the bits on package j leave
@@ -96,8 +91,7 @@ module _ (L : Layout) (t : Tables) where
       look-removed : (n : ℕ) → T (t .used n) → look L (removeAt L t n) ≡ shortRemove L t n
       look-removed n un = look-is L (removeAt L t n)
           (granted L (removeAt L t n .tables) (lawful-dropped L t (removeAt L t n .tables) n (λ x. true) (keep byOther (t .unmet)) fm (dropping-2 L t fm n un) law))
-          (nil-length (leftBy L t (t .needs) n (λ x. true)) ∙ ap isZero (left-all (t .needs) n) ∙ none-sum (λ i. count (t .needs i n) (places L)) (numbers L)
-          ∙ (λ y. every (λ i. none-pass (t .needs i n) (places L) y) (numbers L)))
+          (nil-length (leftBy L t (t .needs) n (λ x. true)) ∙ ap (λ (x : ℕ). eqb x 0) (left-all (t .needs) n) ∙ none-pairs (λ i. t .needs i n) (places L) (numbers L))
           (fits-as L (length-append (keep byOther (t .unmet)) (leftBy L t (t .calls) n (λ x. true)) ∙ ap (λ (x : ℕ). count byOther (t .unmet) + x) (left-all (t .calls) n)))
           (fits-as L (length-append (keep ofOther (t .waiting)) (pairs waitFor (λ j. t .grants j n) (places L) (numbers L))
           ∙ ap (λ (x : ℕ). count ofOther (t .waiting) + x) (length-pairs waitFor (λ j. t .grants j n) (places L) (numbers L))))
@@ -115,7 +109,7 @@ module _ (L : Layout) (t : Tables) where
       look-dropped : Fitting L t → (j k : ℕ) → T (t .provides j k) → look L (removeServiceAt L t j k) ≡ shortRemoveService L t j k
       look-dropped fit j k pk = look-is L (removeServiceAt L t j k)
           (granted L (removeServiceAt L t j k .tables) (lawful-dropped L t (removeServiceAt L t j k .tables) j (λ x. eqb x k) (t .unmet) fm (dropping-4 L t fm j k pk) law))
-          (nil-length (leftBy L t (t .needs) j (λ x. eqb x k)) ∙ ap isZero (left-one (t .needs) (need-bits L t fm) j k) ∙ none-pass (λ i. t .needs i j k) (numbers L))
+          (nil-length (leftBy L t (t .needs) j (λ x. eqb x k)) ∙ ap (λ (x : ℕ). eqb x 0) (left-one (t .needs) (need-bits L t fm) j k) ∙ none-pass (λ i. t .needs i j k) (numbers L))
           (fits-as L (length-append (t .unmet) (leftBy L t (t .calls) j (λ x. eqb x k)) ∙ ap (λ (x : ℕ). length (t .unmet) + x) (left-one (t .calls) (fm .calls) j k)))
           (fits L (count stays (t .waiting)) (le-trans (length-keep stays (t .waiting)) (fit .waiting-fits)))
         where

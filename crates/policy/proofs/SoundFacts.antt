@@ -171,7 +171,7 @@ module _ (L : Layout) (t : Tables) where
   place-to f h j k a b = below-in (f j) (L .services) (below-in (λ j. every (f j) (places L)) (L .packages) h j a) k b
 
   place-back : (f : ℕ → ℕ → Bool) → ((j k : ℕ) → T (f j k)) → T (everyPlace f)
-  place-back f h = in-below (λ j. every (f j) (places L)) (L .packages) (λ j. in-below (f j) (L .services) (h j))
+  place-back f h = in-below (λ j. every (f j) (places L)) (L .packages) (λ j _. in-below (f j) (L .services) (λ k _. h j k))
 
   names-to : InRange L t → T (aidsOk L t) → T (tokensOk L t) → T (blanksOk L t) → Names L (t .used) (t .aid) (t .tok) (t .provides)
   unfolding aidsOk tokensOk blanksOk
@@ -202,13 +202,13 @@ module _ (L : Layout) (t : Tables) where
 
     tokens-back : T (tokensOk L t)
     unfolding tokensOk
-    tokens-back = in-below toksDiffer (L .packages) (λ j. differ-back eqTok eqTok→ eqTok-refl (t .tok j) (t .provides j) (L .services) (n .tok-inj j))
+    tokens-back = in-below toksDiffer (L .packages) (λ j _. differ-back eqTok eqTok→ eqTok-refl (t .tok j) (t .provides j) (L .services) (n .tok-inj j))
 
     blanks-back : T (blanksOk L t)
     unfolding blanksOk
     blanks-back = and-i (everyNumber aidBlank && everyPlace tokBlank) (everyPlace provUsed)
         (and-i (everyNumber aidBlank) (everyPlace tokBlank)
-        (in-below aidBlank (L .packages) (λ x. blank-back (t .used x) (isNil (t .aid x)) (λ u. is-nil (n .aid-blank x u))))
+        (in-below aidBlank (L .packages) (λ x _. blank-back (t .used x) (isNil (t .aid x)) (λ u. is-nil (n .aid-blank x u))))
         (place-back tokBlank (λ j k. blank-back (t .provides j k) (eqTok (t .tok j k) noTok) (λ p. eqTok-of (n .tok-blank j k p)))))
         (place-back provUsed (λ j k. implies-i (t .provides j k) (t .used j) (n .prov-used j k)))
 

@@ -25,7 +25,7 @@ use Rattle.policy.proofs.Formed.{Formed, Lawful, Fitting, Stands, Valid
 use Rattle.policy.proofs.Facts.{lawful-of}
 use Rattle.policy.proofs.ContractAt.{same-contract, has-contract}
 use Rattle.policy.proofs.ParseFacts.{parse-valid}
-use Rattle.policy.proofs.RoundTrip.{header-encode, length-encode, round-trip}
+use Rattle.policy.proofs.RoundTrip.{formed-room, header-encode, length-encode, round-trip}
 use Rattle.policy.proofs.SoundFacts.{sound-formed, sound-image}
 use Rattle.policy.proofs.Tests.{tests-agree}
 use Rattle.policy.proofs.Verdict.{looks-agree}
@@ -42,9 +42,10 @@ stands-of L img cs f = record {
 
 pub image-stands : (L : Layout) → LayoutOk L → (t : Tables) (cs : List Contract) → Formed L t → Lawful t → Fitting L t → Stands t [] cs → StandsFor L (encode L t) cs
 image-stands L lo t cs g w fit st =
-    let e = round-trip L lo t g fit in
+    let room = formed-room L t g fit in
+    let e = round-trip L lo t room in
     record {
-      is-sound = sound-image L t (length-encode L lo t g fit) (header-encode L lo t) e g w fit;
+      is-sound = sound-image L t (length-encode L lo t room) (header-encode L lo t) e g w fit;
       these = λ c m. let p = st .these c m in
           (p .0, subst (λ (z : Tables). T (z .used (p .0))) (sym e) (p .1), subst (λ (z : Tables). SameContract c (contractAt L z (p .0))) (sym e) (same-contract L t g (p .0) c (p .2)));
       no-others = λ n u. let p = st .no-others n (subst (λ (z : Tables). T (z .used n)) e u) in (p .0, p .1, p .2 ∙ ap (λ (z : Tables). z .aid n) (sym e));

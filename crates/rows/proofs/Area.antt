@@ -1,6 +1,6 @@
 -- Laws of list areas: the bytes of rows one after the other, and what append, remove and drop leave.
 use Prim.Native.Nat.{ℕ, zero, suc, _+_, _-_, _*_, _≤_, _<_, _/_, _%_, _^_}
-use native.Mathlib.Nat.{zero-mul, suc-mul, le-of-suc-le-suc, not-suc-le-zero, sub-zero, zero-sub, suc-sub-suc, mul-le-mul-right, add-zero, zero-div, zero-add}
+use native.Mathlib.Nat.{zero-mul, suc-mul, sub-zero, zero-sub, suc-sub-suc, mul-le-mul-right, add-zero, zero-add}
 use native.Mathlib.Numerals.{one-add, add-one}
 use native.Mathlib.Omega.{arith}
 use mathlib.Core.Path.{_≡_, refl, sym, ap, _∙_}
@@ -8,15 +8,14 @@ use mathlib.Core.Bool.{Bool, true, false, cond}
 use mathlib.Core.List.{List, [], _∷_, _++_, append-assoc, append-nil}
 use borrow.Author.Tests.{eq-eqb, ne-eqb}
 use lib.ListN.{length, getD, take, drop, replicate, set, length-append, length-drop, length-replicate, replicate-append-replicate}
-use lib.Seq.{take-append-seam, take-at, drop-at, drop-append-add, drop-append-seam, drop-drop, length-take-le, take-suc, take-all}
+use lib.Seq.{take-at, drop-at, drop-append-add, drop-append-seam, drop-drop, length-take-le, take-suc, take-all}
 use Rattle.policy.specs.Lists.{flat}
 use Rattle.policy.specs.Tables.{bit, pieces}
+use Rattle.policy.proofs.Sets.{flat-append}
+use Rattle.policy.proofs.Pieces.{length-pieces, piece-part, row-ends}
+use Rattle.policy.proofs.Bits.{bit-none}
 use Rattle.rows.specs.Area.{part, over, areaOf, rowsIn, IsArea, keepFrom, keepRows, appended, dropped}
 use Rattle.rows.proofs.Over.{over-on, part-after, length-over, length-part}
-
--- row k ends where row k + 1 starts, within n rows
-pub row-ends : (k n w : ℕ) → k < n → k * w + w ≤ n * w
-row-ends k n w h = rw (← suc-mul) (mul-le-mul-right w h)
 
 -- ---- rows one after the other
 abbrev pub bytes : List (List ℕ) → List ℕ
@@ -27,10 +26,6 @@ abbrev pub Wide : ℕ → List (List ℕ) → Type 0
 Wide w [] = Unit {0}
 Wide w (r ∷ rs) = (length r ≡ w) × Wide w rs
 
-bytes-append : (rs ss : List (List ℕ)) → bytes (rs ++ ss) ≡ bytes rs ++ bytes ss
-bytes-append [] ss = refl
-bytes-append (r ∷ rs) ss = rw (bytes-append rs ss, append-assoc)
-
 pub bytes-length : (w : ℕ) (rs : List (List ℕ)) → Wide w rs → length (bytes rs) ≡ length rs * w
 bytes-length w [] h = sym (zero-mul w)
 bytes-length w (r ∷ rs) h = rw (length-append, suc-mul) (omega (arith, bytes-length w rs (h .1), h .0))
@@ -40,16 +35,7 @@ wide-take w zero rs h = tt
 wide-take w (suc k) [] h = tt
 wide-take w (suc k) (r ∷ rs) h = (h .0, wide-take w k rs (h .1))
 
-wide-at : (w k : ℕ) (rs : List (List ℕ)) → Wide w rs → k < length rs → length (getD rs k []) ≡ w
-wide-at w k [] h l = absurd (not-suc-le-zero l)
-wide-at w zero (r ∷ rs) h l = h .0
-wide-at w (suc k) (r ∷ rs) h l = wide-at w k rs (h .1) (le-of-suc-le-suc l)
-
 -- ---- rows that an area holds
-pieces-length : (w n : ℕ) (l : List ℕ) → length (pieces w n l) ≡ n
-pieces-length w zero l = refl
-pieces-length w (suc n) l = ap suc (pieces-length w n (drop w l))
-
 pieces-wide : (w n : ℕ) (l : List ℕ) → n * w ≤ length l → Wide w (pieces w n l)
 pieces-wide w zero l h = tt
 pieces-wide w (suc n) l h =
@@ -59,13 +45,6 @@ pieces-wide w (suc n) l h =
 pieces-bytes : (w : ℕ) (rs : List (List ℕ)) (z : List ℕ) → Wide w rs → pieces w (length rs) (bytes rs ++ z) ≡ rs
 pieces-bytes w [] z h = refl
 pieces-bytes w (r ∷ rs) z h = rw (append-assoc, take-at r (bytes rs ++ z) w (h .0), drop-at r (bytes rs ++ z) w (h .0), pieces-bytes w rs z (h .1))
-
-piece-at : (w n : ℕ) (l : List ℕ) (r : ℕ) → r < n → getD (pieces w n l) r [] ≡ part (r * w) w l
-piece-at w zero l r h = absurd (not-suc-le-zero h)
-piece-at w (suc n) l zero h = rw zero-mul
-piece-at w (suc n) l (suc r) h =
-    let e : w + r * w ≡ suc r * w = rw suc-mul (omega arith) in
-    piece-at w n (drop w l) r (le-of-suc-le-suc h) ∙ ap (take w) (drop-drop (r * w) w l ∙ ap (λ (x : ℕ). drop x l) e)
 
 pub area-count : (size : ℕ) (rs : List (List ℕ)) → getD (areaOf size rs) 0 0 ≡ length rs
 unfolding areaOf
@@ -87,7 +66,7 @@ is-area w size rs h k =
 
 pub rows-length : (w : ℕ) (a : List ℕ) → length (rowsIn w a) ≡ getD a 0 0
 unfolding rowsIn
-rows-length w a = pieces-length w (getD a 0 0) (drop 1 a)
+rows-length w a = length-pieces w (getD a 0 0) (drop 1 a)
 
 pub rows-wide : (w : ℕ) (a : List ℕ) → 1 + getD a 0 0 * w ≤ length a → Wide w (rowsIn w a)
 unfolding rowsIn
@@ -95,7 +74,7 @@ rows-wide w a h = pieces-wide w (getD a 0 0) (drop 1 a) (rw length-drop (omega a
 
 pub row-at : (w : ℕ) (a : List ℕ) (r : ℕ) → r < getD a 0 0 → part (1 + r * w) w a ≡ getD (rowsIn w a) r []
 unfolding rowsIn
-row-at w a r h = sym (piece-at w (getD a 0 0) (drop 1 a) r h ∙ ap (take w) (drop-drop (r * w) 1 a))
+row-at w a r h = sym (piece-part w (getD a 0 0) (drop 1 a) r h ∙ ap (take w) (drop-drop (r * w) 1 a))
 
 -- ---- rows by a mask
 module _ {A : Type 0} (mask : ℕ) where
@@ -113,19 +92,15 @@ module _ {A : Type 0} (mask : ℕ) where
       let e : r ≡ 0 + length (take r l) = rw (zero-add, length-take-le r l (omega arith)) refl in
       rw (add-one, take-suc l r d h) (keep-append 0 r (take r l) (getD l r d ∷ []) e)
 
-  length-keep : (k : ℕ) (l : List A) → length (keepFrom k mask l) ≤ length l
-  length-keep k [] = omega arith
-  length-keep k (x ∷ l) = go (bit mask k) (keepFrom (suc k) mask l) (length-keep (suc k) l)
+  pub kept-short : (k : ℕ) (l : List A) → length (keepFrom k mask l) ≤ length l
+  kept-short k [] = omega arith
+  kept-short k (x ∷ l) = go (bit mask k) (keepFrom (suc k) mask l) (kept-short (suc k) l)
     where
       go : (b : Bool) (xs : List A) → length xs ≤ length l → length (cond b xs (x ∷ xs)) ≤ suc (length l)
       go true xs h = omega arith
       go false xs h = omega arith
 
 -- an empty mask takes nothing out
-bit-none : (k : ℕ) → bit 0 k ≡ false
-unfolding bit
-bit-none k = rw zero-div
-
 keep-none : {A : Type 0} (k : ℕ) (l : List A) → keepFrom k 0 l ≡ l
 keep-none k [] = refl
 keep-none k (x ∷ l) = rw (bit-none k, keep-none (suc k) l)
@@ -149,10 +124,6 @@ filled : (n k z m d : ℕ) (f g : List ℕ) → length g + m ≡ length f + d
     → set (over 1 (g ++ replicate m 0) (n ∷ (f ++ replicate z 0))) 0 k ≡ k ∷ (g ++ replicate (m + (z - d)) 0)
 filled n k z m d f g e =
     rw (one-add, length-append, length-replicate, e, drop-append-add, drop-zeros, append-assoc, replicate-append-replicate)
-
--- the third of four parts
-third : (c : ℕ) (p q s t : List ℕ) (i m : ℕ) → i ≡ 1 + (length p + length q) → m ≡ length s → part i m (c ∷ (p ++ (q ++ (s ++ t)))) ≡ s
-third c p q s t i m ei em = rw (ei, em, one-add, drop-append-add, drop-append-seam, take-append-seam)
 
 module _ (w : ℕ) (a : List ℕ) (h : IsArea w a) where
   abbrev n : ℕ
@@ -198,7 +169,7 @@ module _ (w : ℕ) (a : List ℕ) (h : IsArea w a) where
 
     module _ (k : ℕ) (e : k ≡ length (keepRows mask rs)) where
       pub kept-fits : 1 + k * w ≤ 1 + n * w
-      kept-fits = omega (arith, mul-le-mul-right {m = k} {n = n} w (omega (arith, length-keep mask 0 rs, rows-length w a)))
+      kept-fits = omega (arith, mul-le-mul-right {m = k} {n = n} w (omega (arith, kept-short mask 0 rs, rows-length w a)))
 
       pub drop-is : (b : List ℕ) → b ≡ over 1 (bytes (keepRows mask rs)) a → set (over (1 + k * w) (replicate (1 + n * w - (1 + k * w)) 0) b) 0 k ≡ dropped w mask a
       drop-is b eb =
@@ -215,7 +186,7 @@ module _ (w : ℕ) (a : List ℕ) (h : IsArea w a) where
   pub append-is : (row : List ℕ) → length row ≡ w → 1 + n * w + w ≤ length a → set (over (1 + n * w) row a) 0 (n + 1) ≡ appended w row a
   append-is row e room =
       let new : List (List ℕ) = rs ++ (row ∷ []) in
-      let eb : bytes new ≡ bytes rs ++ row = rw (bytes-append, append-nil) in
+      let eb : bytes new ≡ bytes rs ++ row = rw (flat-append, append-nil) in
       let el : length (bytes new) ≡ length (bytes rs) + length row = rw eb (length-append (bytes rs) row) in
       let ec : n + 1 ≡ length new = sym (length-append rs (row ∷ []) ∙ rw rows-length) in
       let es : 1 + n * w ≡ 1 + length (bytes rs) = rw rs-bytes in
@@ -272,7 +243,7 @@ module _ {w mask : ℕ} {a b : List ℕ} {k r : ℕ} (c : Closed w mask a b k r)
       ap (part (1 + r * w) w) (c .is) ∙ part-after 1 (bytes kept) a room (1 + r * w) w (omega (arith, kept-bytes)) ∙ row-at w a r lt in
       let eo : over (1 + k * w) (part (1 + r * w) w b) b ≡ over 1 (bytes (keepRows mask (take (r + 1) all))) a =
       ap (λ (x : List ℕ). over (1 + k * w) x b) ep ∙ ap (over (1 + k * w) (getD all r [])) (c .is)
-      ∙ over-on 1 (bytes kept) a room (1 + k * w) (getD all r []) ek ∙ rw (em, bytes-append, append-nil) in
+      ∙ over-on 1 (bytes kept) a room (1 + k * w) (getD all r []) ek ∙ rw (em, flat-append, append-nil) in
       record {
         area = c .area;
         within = omega arith;

@@ -11,15 +11,12 @@ use lib.ListN.{length, getD, length-append, length-map}
 use Rattle.policy.specs.Lists.{flat}
 use Rattle.policy.specs.Layout.{Layout}
 use Rattle.policy.specs.Tables.{bit, writeList}
-use Rattle.policy.proofs.Sets.{each-snoc}
+use Rattle.policy.proofs.Sets.{each-snoc, flat-map}
+use Rattle.policy.proofs.Pieces.{length-flat, length-list, row-ends}
 use Rattle.rows.specs.Area.{areaOf, rowsIn, IsArea, HasRoom, keepFrom, keepRows, appended, dropped}
-use Rattle.rows.proofs.Area.{row-ends, bytes, Wide, bytes-length, is-area, area-length, rows-area}
+use Rattle.rows.proofs.Area.{Wide, kept-short, is-area, rows-area}
 
 module _ {A : Type 0} (f : A → List ℕ) where
-  bytes-map : (l : List A) → bytes (map f l) ≡ flat f l
-  bytes-map [] = refl
-  bytes-map (x ∷ l) = ap (λ (z : List ℕ). f x ++ z) (bytes-map l)
-
   wide-map : (w : ℕ) (l : List A) → ((x : A) → In x l → length (f x) ≡ w) → Wide w (map f l)
   wide-map w [] h = tt
   wide-map w (x ∷ l) h = (h x (here refl), wide-map w l (λ y m. h y (there m)))
@@ -36,14 +33,6 @@ module _ {A : Type 0} (mask : ℕ) where
       go : (b : Bool) → (In x (keepFrom (suc k) mask l) → In x l) → In x (cond b (keepFrom (suc k) mask l) (y ∷ keepFrom (suc k) mask l)) → In x (y ∷ l)
       go true f i = there (f i)
       go false f i = old f (in-cons i)
-
-  pub kept-short : (k : ℕ) (l : List A) → length (keepFrom k mask l) ≤ length l
-  kept-short k [] = omega arith
-  kept-short k (y ∷ l) = go (bit mask k) (keepFrom (suc k) mask l) (kept-short (suc k) l)
-    where
-      go : (b : Bool) (m : List A) → length m ≤ length l → length (cond b m (y ∷ m)) ≤ suc (length l)
-      go true m h = omega arith
-      go false m h = omega arith
 
   kept-map : (f : A → List ℕ) (k : ℕ) (l : List A) → keepFrom k mask (map f l) ≡ map f (keepFrom k mask l)
   kept-map f k [] = refl
@@ -67,12 +56,9 @@ module _ (L : Layout) {A : Type 0} (f : A → List ℕ) (w : ℕ) where
     unfolding areaOf
     list-area =
         let e : length l * w + (L .capacity - length l) * w ≡ L .capacity * w = sym (add-mul (length l) (L .capacity - length l) w) ∙ ap (λ (z : ℕ). z * w) (add-sub-of-le few) in
-        let b : length (flat f l) ≡ length l * w = ap length (sym (bytes-map f l)) ∙ bytes-length w (map f l) (wide-map f w l wide) ∙ rw length-map in
+        let b : length (flat f l) ≡ length l * w = length-flat f w l wide in
         let z : (L .capacity - length l) * w ≡ size - suc (length (flat f l)) = omega arith in
-        rw (z, length-map, bytes-map)
-
-    pub list-length : length (writeList L f w l) ≡ size
-    list-length = ap length list-area ∙ area-length w size (map f l) (wide-map f w l wide) fits
+        rw (z, length-map, flat-map)
 
     list-rows : rowsIn w (writeList L f w l) ≡ map f l
     list-rows = ap (rowsIn w) list-area ∙ rows-area w size (map f l) (wide-map f w l wide)
@@ -89,7 +75,7 @@ module _ (L : Layout) {A : Type 0} (f : A → List ℕ) (w : ℕ) where
 
     -- the area with other rows
     written : (rs : List (List ℕ)) (m : List A) → ((x : A) → In x m → length (f x) ≡ w) → length m ≤ L .capacity → rs ≡ map f m → areaOf (length a) rs ≡ writeList L f w m
-    written rs m h k e = rw (is, list-length l wide few, e) (sym (list-area m h k))
+    written rs m h k e = rw (is, length-list L f w l wide few, e) (sym (list-area m h k))
 
     -- one element more
     module _ (x : A) (is-wide : length (f x) ≡ w) (room : length l < L .capacity) where
@@ -99,7 +85,7 @@ module _ (L : Layout) {A : Type 0} (f : A → List ℕ) (w : ℕ) where
             area = list-is;
             wide = is-wide;
             below = rw list-count lt;
-            room = rw (list-count, is, list-length l wide few) (omega (arith, row-ends (length l) (L .capacity) w room));
+            room = rw (list-count, is, length-list L f w l wide few) (omega (arith, row-ends (length l) (L .capacity) w room));
           }
 
       pub list-append : appended w (f x) a ≡ writeList L f w (l ++ (x ∷ []))

@@ -1,12 +1,12 @@
 -- Bytes put over a place of a list: loops that copy, a part that was lent, and places one after the other.
 use Prim.Native.Nat.{ℕ, _+_, _-_, _≤_, _<_}
-use native.Mathlib.Nat.{add-assoc, add-zero}
+use native.Mathlib.Nat.{add-assoc}
 use native.Mathlib.Numerals.{add-one}
 use native.Mathlib.Omega.{arith}
 use mathlib.Core.Path.{_≡_, refl, sym, ap, _∙_}
 use mathlib.Core.List.{List, _++_, append-assoc}
-use lib.ListN.{length, getD, take, drop, set, length-append, length-drop, length-set, take-append-drop}
-use lib.Seq.{paste, paste-zero, paste-suc, length-paste-head, take-length, length-take-le, take-at, drop-at, drop-append-add, drop-append-le, take-append-le, drop-drop, getD-append-add, getD-take, getD-drop}
+use lib.ListN.{length, getD, take, drop, set, length-append, length-drop, length-set}
+use lib.Seq.{paste, paste-zero, paste-suc, length-paste-head, take-length, length-take-le, take-at, drop-at, drop-append-add, drop-drop, getD-append-add, getD-take, getD-drop}
 use Rattle.rows.specs.Area.{part, over}
 
 -- ---- a loop that copies the n bytes of s into d from index at on, and has made j turns
@@ -65,15 +65,6 @@ slide-byte d to from n j h k i =
 pub lent : (at n : ℕ) (new l : List ℕ) → length new ≡ n → take at l ++ (new ++ drop n (drop at l)) ≡ over at new l
 lent at n new l e = rw (drop-drop, e)
 
--- bytes between two seams, and a place within the first of two parts
-pub over-seam : (at : ℕ) (new p old q : List ℕ) → length p ≡ at → length old ≡ length new → over at new (p ++ (old ++ q)) ≡ p ++ (new ++ q)
-over-seam at new p old q e f = rw (take-at p (old ++ q) at e, past p (old ++ q) at (length new) e, drop-at old q (length new) f)
-
-part-front : (i n : ℕ) (p q : List ℕ) → i + n ≤ length p → part i n (p ++ q) ≡ part i n p
-part-front i n p q h =
-    let k : n ≤ length (drop i p) = rw length-drop (omega arith) in
-    rw (drop-append-le i p q (omega arith), take-append-le n (drop i p) q k)
-
 module _ (at : ℕ) (x l : List ℕ) (room : at + length x ≤ length l) where
   head-length : length (take at l ++ x) ≡ at + length x
   head-length = length-append (take at l) x ∙ rw (length-take-le at l (omega arith))
@@ -91,23 +82,10 @@ module _ (at : ℕ) (x l : List ℕ) (room : at + length x ≤ length l) where
       let t : take (at + length x) (over at x l) ≡ take at l ++ x = ap (take (at + length x)) regroup ∙ take-at (take at l ++ x) (drop (at + length x) l) (at + length x) head-length in
       rw (e, t, drop-over (length y), length-append, append-assoc (take at l) x, append-assoc x y, add-assoc)
 
-  -- other bytes over the same place
-  pub over-again : (y : List ℕ) → length y ≡ length x → over at y (over at x l) ≡ over at y l
-  over-again y e =
-      let t : take at (over at x l) ≡ take at l = take-at (take at l) (x ++ drop (at + length x) l) at (length-take-le at l (omega arith)) in
-      let d : drop (at + length x) (over at x l) ≡ drop (at + length x) l = rw add-zero at (drop-over 0) in
-      rw (t, e, d)
-
-  -- the place itself; a place before it and one after it are as they were
+  -- the place itself; a place after it is as it was
   pub part-at : (n : ℕ) → length x ≡ n → part at n (over at x l) ≡ x
   part-at n e =
       rw (drop-at (take at l) (x ++ drop (at + length x) l) at (length-take-le at l (omega arith))) (take-at x (drop (at + length x) l) n e)
-
-  pub part-before : (i n : ℕ) → i + n ≤ at → part i n (over at x l) ≡ part i n l
-  part-before i n h =
-      let k : i + n ≤ length (take at l) = rw (length-take-le at l (omega arith)) h in
-      part-front i n (take at l) (x ++ drop (at + length x) l) k
-      ∙ sym (ap (part i n) (sym (take-append-drop at l)) ∙ part-front i n (take at l) (drop at l) k)
 
   pub part-after : (i n : ℕ) → at + length x ≤ i → part i n (over at x l) ≡ part i n l
   part-after i n h =

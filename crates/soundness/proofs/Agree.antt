@@ -7,15 +7,15 @@ use mathlib.Core.List.{List}
 use lib.Dec.{T, eqb, eqb→eq}
 use lib.ListN.{length, take}
 use Rattle.policy.specs.Lists.{eqBytes, keep, upto}
-use Rattle.policy.specs.Layout.{Layout, size, unmetSize, usedAt}
-use Rattle.policy.specs.Tables.{bit, decode, encode, writeUnmet, readUnmet}
+use Rattle.policy.specs.Layout.{Layout, size, usedAt}
+use Rattle.policy.specs.Tables.{bit, decode, encode}
 use Rattle.policy.specs.Lookup.{usedNumbers}
 use Rattle.policy.specs.Sound.{soundTables, sound}
-use Rattle.policy.proofs.Sets.{T-eq, T-false, and-l, and-r, and-i, upto-in, eqBytes→}
+use Rattle.policy.proofs.Sets.{T-eq, T-false, and-l, and-r, and-i, keep-ext, upto-in, eqBytes→}
 use Rattle.policy.proofs.Equal.{eqAid-of, eqb-of}
-use Rattle.policy.proofs.Pieces.{length-aid, length-unmet, length-list}
+use Rattle.policy.proofs.Pieces.{length-aid}
+use Rattle.policy.proofs.RoundTrip.{formed-room, length-unmets}
 use Rattle.policy.proofs.SoundFacts.{sound-formed, sound-lawful, sound-fitting, sound-tables}
-use Rattle.bits.proofs.Loops.{keep-ext}
 use Rattle.bits.proofs.Row.{keep-row}
 use Rattle.geometry.specs.Geometry.{layoutOf}
 use Rattle.geometry.specs.declared.Card.{Card}
@@ -28,7 +28,7 @@ use Rattle.soundness.proofs.Encoded.{Bytes, part-bytes, row-lt}
 use Rattle.soundness.proofs.Lookup.{used-is}
 use Rattle.soundness.proofs.Whole.{Full, Parts, encode-back, encode-parts}
 use Rattle.soundness.proofs.Checked.{check-formed, check-lawful, check-fitting, check-parts}
-use Rattle.soundness.proofs.Passes.{passes, aid-short, valid-short}
+use Rattle.soundness.proofs.Passes.{passes}
 
 pub full : (c : Card) → Full (layoutOf c)
 full Small = record { ok = layout-ok Small; packages-full = refl; services-full = refl; services-low = limits Small .services-low }
@@ -62,8 +62,9 @@ module _ (L : Layout) (lf : Full L) (l : List ℕ) (bytes : Bytes l) (len : leng
       let e = and-l (eqBytes (encode L t) l) (soundTables L t) (and-r (eqb (length l) (size L) && headed) (eqBytes (encode L t) l && soundTables L t) ok) in
       let fo = sound-formed L l ok in
       let fi = sound-fitting L l ok in
-      let parts : Parts L lf l bytes len = encode-parts L lf l bytes len (eqBytes→ (encode L t) l e) (λ i p. length-aid (t .aid i) (aid-short (fo .names) i))
-      (length-list L readUnmet writeUnmet unmetSize (t .unmet) (λ u m. length-unmet u (valid-short (u .callee) (fo .unmet .unmet-valid u m))) (fi .unmet-fits)) in
+      let room = formed-room L t fo fi in
+      let parts : Parts L lf l bytes len = encode-parts L lf l bytes len (eqBytes→ (encode L t) l e) (λ i p. length-aid (t .aid i) (room .aid-short i))
+      (length-unmets L (lf .ok) t room) in
       let p = passes L lf l bytes len fo (sound-lawful L l ok) fi parts in
       and-i (headed && packagesOk L l && linesOk L l && listOk L l Unmet) (listOk L l Waiting)
       (and-i (headed && packagesOk L l && linesOk L l) (listOk L l Unmet) (and-i (headed && packagesOk L l) (linesOk L l) (and-i headed (packagesOk L l) h (p .0)) (p .1)) (p .2)) (p .3)

@@ -14,12 +14,12 @@ use Rattle.policy.specs.Lists.{implies, every, upto, NoRepeat}
 use Rattle.policy.specs.Contract.{Aid, validAid}
 use Rattle.policy.specs.Layout.{Layout, size, aidSize}
 use Rattle.policy.specs.Tables.{Tables, Unmet, Waiting, noTok, bit, readAid, writeAid, readTok, writeTok, readUnmet, writeUnmet, readWaiting, writeWaiting, readList, writeList, decode}
-use Rattle.policy.proofs.Sets.{and-l, and-r, and-i, or-e, implies-e, not-e, test, false-T, map-in, upto-in, once-map, once-upto}
+use Rattle.policy.proofs.Sets.{and-l, and-r, and-i, or-e, implies-e, not-e, test, false-T, map-in, upto-in, once-map, once-upto, below-in}
 use Rattle.policy.proofs.Equal.{eqb-of}
-use Rattle.policy.proofs.Pieces.{in-or-off}
+use Rattle.policy.proofs.Pieces.{in-or-off, row-ends}
 use Rattle.policy.proofs.Formed.{Names, Bits, UnmetRows, WaitingRows, grantBit, Formed, Lawful, Fitting}
 use Rattle.policy.proofs.SoundFacts.{InRange, decode-in}
-use Rattle.bits.proofs.Row.{bit-none}
+use Rattle.policy.proofs.Bits.{bit-none}
 use Rattle.geometry.specs.Geometry.{aidAt, tokAt, entryAt}
 use Rattle.geometry.specs.declared.Table.the-variants.{Calls, Grants, Needs}
 use Rattle.soundness.specs.declared.Kept.{Kept}
@@ -27,11 +27,11 @@ use Rattle.soundness.specs.declared.Kept.the-variants.{Unmet as Unmets, 
 use Rattle.soundness.specs.Check.{byteAt, partAt, zerosAt, sameAt, aidOk, within, rowAt, usedRow, provRow, numberAt, isTok, newTok, tokOk, toksOk, newAid, blankOk, packageOk, packagesOk}
 use Rattle.soundness.specs.Check.{grantOk, pairOk, lineOk, linesOk, isUsed, unserved, unmetOk, isProvided, waitingOk, listAt, rowSize, placeAt, countOf, rowOk, newRow, placeOk, listOk}
 use Rattle.soundness.proofs.Parts.{part-length, part-same, zero-byte, zeros-part, Filled, filled-inj, ok-filled, zeros-blank}
-use Rattle.soundness.proofs.Decoded.{piece-end, used-read, aid-read, aid-off, tok-read, tok-off, list-read}
+use Rattle.soundness.proofs.Decoded.{used-read, aid-read, aid-off, tok-read, tok-off, list-read}
 use Rattle.soundness.proofs.Encoded.{Bytes, tok-back, unmet-back, waiting-back, list-back, length-rows}
 use Rattle.soundness.proofs.Whole.{list-end, Full, Parts}
 use Rattle.soundness.proofs.Tests.{row-low}
-use Rattle.soundness.proofs.Lookup.{below, cond-then, cond-else, tok-bytes, unmet-at, waiting-at, number-same, used-is, prov-is, calls-is, grants-is, needs-is}
+use Rattle.soundness.proofs.Lookup.{cond-then, cond-else, tok-bytes, unmet-at, waiting-at, number-same, used-is, prov-is, calls-is, grants-is, needs-is}
 use Rattle.soundness.proofs.Lookup.{found-used}
 
 -- conjunctions as they stand in the tests
@@ -56,10 +56,10 @@ module _ (L : Layout) (lf : Full L) (l : List ℕ) (bytes : Bytes l) (len : leng
   place i = partAt l (aidAt L i) aidSize
 
   aid-in : (i : ℕ) → i < n → aidAt L i + 17 ≤ length l
-  aid-in i h = let e = piece-end aidSize n i h in omega arith
+  aid-in i h = let e = row-ends i n aidSize h in omega arith
 
   tok-in : (j k : ℕ) → j < n → k < m → tokAt L j k + 2 ≤ length l
-  tok-in j k h p = let a = piece-end (m * 2) n j h in let b = piece-end 2 m k p in omega arith
+  tok-in j k h p = let a = row-ends j n (m * 2) h in let b = row-ends k m 2 p in omega arith
 
   -- tokens that are read alike stand alike
   tok-inj : (a b : ℕ) → a + 2 ≤ length l → b + 2 ≤ length l → readTok (partAt l a 2) ≡ readTok (partAt l b 2) → partAt l a 2 ≡ partAt l b 2
@@ -75,13 +75,13 @@ module _ (L : Layout) (lf : Full L) (l : List ℕ) (bytes : Bytes l) (len : leng
     package-used i u =
         let h = r .used-in i u in
         three (aidOk l (aidAt L i)) (newAid L l i) (toksOk L l i)
-        (cond-then (bit (usedRow L l) i) (aidOk l (aidAt L i) && newAid L l i && toksOk L l i) (blankOk L l i) (subst T (used-is L lf l bytes len i h) u) (below (packageOk L l) n ok i h))
+        (cond-then (bit (usedRow L l) i) (aidOk l (aidAt L i) && newAid L l i && toksOk L l i) (blankOk L l i) (subst T (used-is L lf l bytes len i h) u) (below-in (packageOk L l) n ok i h))
 
     package-blank : (i : ℕ) → i < n → (T (t .used i) → ⊥) → T (zerosAt l (aidAt L i) aidSize) × T (eqb (provRow L l i) 0) × T (zerosAt l (tokAt L i 0) (m * 2))
     unfolding packagesOk packageOk blankOk
     package-blank i h f =
         three (zerosAt l (aidAt L i) aidSize) (eqb (provRow L l i) 0) (zerosAt l (tokAt L i 0) (m * 2))
-        (cond-else (bit (usedRow L l) i) (aidOk l (aidAt L i) && newAid L l i && toksOk L l i) (blankOk L l i) (λ u. f (subst T (sym (used-is L lf l bytes len i h)) u)) (below (packageOk L l) n ok i h))
+        (cond-else (bit (usedRow L l) i) (aidOk l (aidAt L i) && newAid L l i && toksOk L l i) (blankOk L l i) (λ u. f (subst T (sym (used-is L lf l bytes len i h)) u)) (below-in (packageOk L l) n ok i h))
 
     filled-used : (i : ℕ) → T (t .used i) → Filled (place i) × T (validAid (readAid (place i)))
     filled-used i u = ok-filled l (aidAt L i) (aid-in i (r .used-in i u)) (package-used i u .0)
@@ -127,7 +127,7 @@ module _ (L : Layout) (lf : Full L) (l : List ℕ) (bytes : Bytes l) (len : leng
 
     tok-ok : (j k : ℕ) → T (t .used j) → k < m → T (tokOk L l j k)
     unfolding toksOk
-    tok-ok j k u p = below (tokOk L l j) m (package-used j u .2) k p
+    tok-ok j k u p = below-in (tokOk L l j) m (package-used j u .2) k p
 
     zero-tok : (j k : ℕ) → j < n → k < m → byteAt l (tokAt L j k) ≡ 0 → byteAt l (tokAt L j k + 1) ≡ 0 → t .tok j k ≡ noTok
     zero-tok j k h p a b = tok-read L l j k h p ∙ tok-bytes l (tokAt L j k) ∙ λ i. record { itf = a i; mth = b i }
@@ -143,8 +143,8 @@ module _ (L : Layout) (lf : Full L) (l : List ℕ) (bytes : Bytes l) (len : leng
             zero-tok j k h p (ap (byteAt l) (sym e) ∙ zero-byte l (tokAt L j k) 2 (tok-in j k h p) z 0 (omega arith)) (zero-byte l (tokAt L j k) 2 (tok-in j k h p) z 1 (omega arith))
         at h p (inr g) =
             let z = package-blank j h g .2 in
-            let a = piece-end (m * 2) n j h in
-            let b = piece-end 2 m k p in
+            let a = row-ends j n (m * 2) h in
+            let b = row-ends k m 2 p in
             let e : tokAt L j k ≡ tokAt L j 0 + k * 2 = omega arith in
             let e1 : tokAt L j k + 1 ≡ tokAt L j 0 + (k * 2 + 1) = omega arith in
             zero-tok j k h p (ap (byteAt l) e ∙ zero-byte l (tokAt L j 0) (m * 2) (omega arith) z (k * 2) (omega arith))
@@ -164,7 +164,7 @@ module _ (L : Layout) (lf : Full L) (l : List ℕ) (bytes : Bytes l) (len : leng
         (subst T (prov-is L lf l bytes len j k (c .0) (c .1)) s) (tok-ok j k (prov-used j k s) (c .1)) in
         let same = part-same l (tokAt L j k) (tokAt L j q) 2 (tok-inj (tokAt L j k) (tokAt L j q) (tok-in j k (c .0) (c .1)) (tok-in j q (d .0) (d .1))
         (sym (tok-read L l j k (c .0) (c .1)) ∙ e ∙ tok-read L l j q (d .0) (d .1))) in
-        not-e (isTok L l (tokAt L j k) j q) (below (λ k′. not (isTok L l (tokAt L j k) j k′)) k new q h)
+        not-e (isTok L l (tokAt L j k) j q) (below-in (λ k′. not (isTok L l (tokAt L j k) j k′)) k new q h)
         (and-i (bit (provRow L l j) q) (sameAt l (tokAt L j k) (tokAt L j q) 2) (subst T (prov-is L lf l bytes len j q (d .0) (d .1)) o) same)
 
     names : Names L (t .used) (t .aid) (t .tok) (t .provides)
@@ -192,11 +192,11 @@ module _ (L : Layout) (lf : Full L) (l : List ℕ) (bytes : Bytes l) (len : leng
 
       pair-ok : (i j : ℕ) → i < n → j < n → T (within (need i j) (call i j)) × T (within (call i j) (grant i j)) × T (grantOk L l (grant i j) i j)
       unfolding linesOk lineOk pairOk
-      pair-ok i j h q = three (within (need i j) (call i j)) (within (call i j) (grant i j)) (grantOk L l (grant i j) i j) (below (pairOk L l i) n (below (lineOk L l) n lines i h) j q)
+      pair-ok i j h q = three (within (need i j) (call i j)) (within (call i j) (grant i j)) (grantOk L l (grant i j) i j) (below-in (pairOk L l i) n (below-in (lineOk L l) n lines i h) j q)
 
       -- bit k of a row is one of a row that it is within
       within-bit : (a b k : ℕ) → T (within a b) → k < m → T (bit a k) → T (bit b k)
-      within-bit a b k h p = implies-e (bit a k) (bit b k) (below (λ k. implies (bit a k) (bit b k)) 16 h k (let e = lf .services-low in omega arith))
+      within-bit a b k h p = implies-e (bit a k) (bit b k) (below-in (λ k. implies (bit a k) (bit b k)) 16 h k (let e = lf .services-low in omega arith))
 
       abbrev Granted : ℕ → ℕ → ℕ → Type 0
       Granted i j k = T (t .used i) × T (t .provides j k) × (i ≡ j → ⊥)
@@ -251,11 +251,11 @@ module _ (L : Layout) (lf : Full L) (l : List ℕ) (bytes : Bytes l) (len : leng
 
     row-ok : (q : ℕ) → q < count → T (rowOk L l k (placeAt L k q)) × T (newRow L l k q)
     row-ok q p =
-        let h = below (placeOk L l k) count (list-facts .1) q p in
+        let h = below-in (placeOk L l k) count (list-facts .1) q p in
         (and-l (rowOk L l k (placeAt L k q)) (newRow L l k q) h, and-r (rowOk L l k (placeAt L k q)) (newRow L l k q) h)
 
     row-in : (q : ℕ) → q < count → placeAt L k q + rowSize k ≤ length l
-    row-in q p = let a = list-end L l len k in let b = list-facts .0 in let c = piece-end (rowSize k) (L .capacity) q (omega arith) in omega arith
+    row-in q p = let a = list-end L l len k in let b = list-facts .0 in let c = row-ends q (L .capacity) (rowSize k) (omega arith) in omega arith
 
     past-rows : partAt l (placeAt L k count) ((L .capacity - count) * rowSize k) ≡ replicate ((L .capacity - count) * rowSize k) 0
     past-rows =
@@ -286,7 +286,7 @@ module _ (L : Layout) (lf : Full L) (l : List ℕ) (bytes : Bytes l) (len : leng
         where
           new : (x y : ℕ) → x < count → y < count → f (row x) ≡ f (row y) → x < y → ⊥
           new x y a b e h =
-              not-e (sameAt l (placeAt L k y) (placeAt L k x) (rowSize k)) (below (λ q. not (sameAt l (placeAt L k y) (placeAt L k q) (rowSize k))) y (row-ok y b .1) x h)
+              not-e (sameAt l (placeAt L k y) (placeAt L k x) (rowSize k)) (below-in (λ q. not (sameAt l (placeAt L k y) (placeAt L k q) (rowSize k))) y (row-ok y b .1) x h)
               (part-same l (placeAt L k y) (placeAt L k x) (rowSize k) (sym (rows-back y b) ∙ ap g (sym e) ∙ rows-back x a))
 
       rows-fit : length listed ≤ L .capacity
@@ -343,7 +343,7 @@ module _ (L : Layout) (lf : Full L) (l : List ℕ) (bytes : Bytes l) (len : leng
         row-off k s f =
             let c = r .prov-in j k s in
             let same = part-same l (at + 17) (tokAt L j k) 2 (tok-inj (at + 17) (tokAt L j k) (omega arith) (tok-in j k (c .0) (c .1)) (sym f ∙ tok-read L l j k (c .0) (c .1))) in
-            not-e (isTok L l (at + 17) j k) (below (λ k′. not (isTok L l (at + 17) j k′)) m (and-r (not (eqb j caller)) (newTok L l m (at + 17) j) served) k (c .1))
+            not-e (isTok L l (at + 17) j k) (below-in (λ k′. not (isTok L l (at + 17) j k′)) m (and-r (not (eqb j caller)) (newTok L l m (at + 17) j) served) k (c .1))
             (and-i (bit (provRow L l j) k) (sameAt l (at + 17) (tokAt L j k) 2) (subst T (prov-is L lf l bytes len j k (c .0) (c .1)) s) same)
 
     module _ (at : ℕ) (inside : at + 19 ≤ length l) (ok : T (waitingOk L l at)) where

@@ -1,45 +1,39 @@
 -- What the tables of an image hold, by the places of its bytes.
 use Prim.Native.Nat.{ℕ, zero, suc, _+_, _*_, _≤_, _<_}
 use native.Mathlib.Omega.{arith}
-use native.Mathlib.Nat.{le-of-suc-le-suc, not-suc-le-zero, zero-mul, suc-mul, mul-le-mul-right}
+use native.Mathlib.Nat.{not-le-of-lt, suc-mul}
 use mathlib.Core.Path.{_≡_, refl, ap, _∙_}
-use mathlib.Core.Logic.{_⊎_, inl, inr}
+use mathlib.Core.Logic.{_⊎_}
 use mathlib.Core.Bool.{_&&_}
 use mathlib.Core.List.{List, [], _∷_, map}
 use lib.Dec.{ltb}
 use lib.ListN.{length, getD, take, drop}
 use lib.Seq.{drop-cons, drop-drop}
-use Rattle.policy.specs.Lists.{from, upto}
-use Rattle.policy.specs.Contract.{Tok}
+use Rattle.policy.specs.Lists.{isNil, from, upto}
+use Rattle.policy.specs.Contract.{Tok, eqTok}
 use Rattle.policy.specs.Layout.{Layout, aidSize, aidsAt, tokensAt, providesAt, callsAt, grantsAt, needsAt}
 use Rattle.policy.specs.Tables.{Tables, noTok, bit, pieces, readAid, readTok, readList, bitOf, readTable, decode}
-use Rattle.policy.proofs.Pieces.{in-or-off, read-at, read-off}
+use Rattle.policy.proofs.Sets.{not-e, not-not, nil-is, is-nil}
+use Rattle.policy.proofs.Equal.{eqTok→, eqTok-of}
+use Rattle.policy.proofs.SoundFacts.{decode-in}
+use Rattle.policy.proofs.RoundTrip.{in-not-off}
+use Rattle.policy.proofs.Pieces.{read-at, piece-part, row-ends}
 use Rattle.geometry.specs.Geometry.{aidAt, tokAt, entryAt}
 use Rattle.geometry.specs.declared.Table.the-variants.{Calls, Grants, Needs}
 use Rattle.soundness.specs.Check.{byteAt, partAt, rowAt, usedRow, provRow}
 use Rattle.soundness.proofs.Parts.{part-in}
 
 -- ---- pieces of one width
-pub piece-at : (w n : ℕ) (bs : List ℕ) (k : ℕ) → k < n → getD (pieces w n bs) k [] ≡ partAt bs (k * w) w
-piece-at w zero bs k h = absurd (not-suc-le-zero h)
-piece-at w (suc n) bs zero h = rw zero-mul
-piece-at w (suc n) bs (suc k) h =
-    piece-at w n (drop w bs) k (le-of-suc-le-suc h) ∙ ap (take w) (drop-drop (k * w) w bs ∙ ap (λ (m : ℕ). drop m bs) (let e : w + k * w ≡ suc k * w = let s = suc-mul k w in omega arith in e))
-
--- k of n pieces end in the n-th
-pub piece-end : (w n k : ℕ) → k < n → k * w + w ≤ n * w
-piece-end w n k h = let m : suc k * w ≤ n * w = mul-le-mul-right w h in let e = suc-mul k w in omega arith
-
 module _ (l : List ℕ) where
   -- entry k of the pieces from at on, and entry k of line j
   part-at : (at w n k : ℕ) → k < n → getD (pieces w n (drop at l)) k [] ≡ partAt l (at + k * w) w
-  part-at at w n k h = piece-at w n (drop at l) k h ∙ ap (take w) (drop-drop (k * w) at l)
+  part-at at w n k h = piece-part w n (drop at l) k h ∙ ap (take w) (drop-drop (k * w) at l)
 
   entry-at : (at w m n j k : ℕ) → j < n → k < m → getD (pieces w m (getD (pieces (m * w) n (drop at l)) j [])) k [] ≡ partAt l (at + (j * (m * w) + k * w)) w
   entry-at at w m n j k h i =
       let e : at + j * (m * w) + k * w ≡ at + (j * (m * w) + k * w) = omega arith in
-      ap (λ (q : List ℕ). getD (pieces w m q) k []) (part-at at (m * w) n j h) ∙ piece-at w m (partAt l (at + j * (m * w)) (m * w)) k i
-      ∙ part-in l (at + j * (m * w)) (m * w) (k * w) w (piece-end w m k i) ∙ ap (λ (a : ℕ). partAt l a w) e
+      ap (λ (q : List ℕ). getD (pieces w m q) k []) (part-at at (m * w) n j h) ∙ piece-part w m (partAt l (at + j * (m * w)) (m * w)) k i
+      ∙ part-in l (at + j * (m * w)) (m * w) (k * w) w (row-ends k m w i) ∙ ap (λ (a : ℕ). partAt l a w) e
 
   pub list-read : {A : Type 0} (f : List ℕ → A) (w at : ℕ) → at < length l → readList f w (drop at l) ≡ map (λ r. f (partAt l (at + (1 + r * w)) w)) (upto (byteAt l at))
   list-read {A} f w at h = rw (drop-cons l at 0) (rows (byteAt l at) 0 (suc at) (let e : suc at ≡ at + (1 + 0 * w) = omega arith in e))
@@ -70,29 +64,16 @@ module _ (L : Layout) (l : List ℕ) where
       ap (λ (z : List Tok). getD z k noTok) (read-at (L .services * 2) (L .packages) (drop (tokensAt L) l) line [] j h)
       ∙ read-at 2 (L .services) q readTok noTok k i ∙ ap readTok (entry-at l (tokensAt L) 2 (L .services) (L .packages) j k h i)
 
+  -- past the tables stand blanks
   pub aid-off : (n : ℕ) → L .packages ≤ n → t .aid n ≡ []
-  unfolding decode
-  aid-off n h = read-off aidSize (L .packages) (drop (aidsAt L) l) readAid [] n h
+  aid-off n h =
+      let blank = isNil (t .aid n) in
+      nil-is (t .aid n) (not-not blank (λ f. not-le-of-lt (decode-in L l .aid-in n (λ e. not-e blank f (is-nil e))) h))
 
   pub tok-off : (j k : ℕ) → (L .packages ≤ j) ⊎ (L .services ≤ k) → t .tok j k ≡ noTok
-  unfolding decode
-  tok-off j k o = go o (in-or-off j (L .packages))
-    where
-      bs : List ℕ
-      bs = drop (tokensAt L) l
-
-      line : List ℕ → List Tok
-      line q = map readTok (pieces 2 (L .services) q)
-
-      off : L .packages ≤ j → getD (getD (map line (pieces (L .services * 2) (L .packages) bs)) j []) k noTok ≡ noTok
-      off h = ap (λ (z : List Tok). getD z k noTok) (read-off (L .services * 2) (L .packages) bs line [] j h)
-
-      go : (L .packages ≤ j) ⊎ (L .services ≤ k) → (j < L .packages) ⊎ (L .packages ≤ j) → getD (getD (map line (pieces (L .services * 2) (L .packages) bs)) j []) k noTok ≡ noTok
-      go (inl h) _ = off h
-      go (inr h) (inr i) = off i
-      go (inr h) (inl i) =
-          ap (λ (z : List Tok). getD z k noTok) (read-at (L .services * 2) (L .packages) bs line [] j i)
-          ∙ read-off 2 (L .services) (getD (pieces (L .services * 2) (L .packages) bs) j []) readTok noTok k h
+  tok-off j k o =
+      let blank = eqTok (t .tok j k) noTok in
+      eqTok→ (t .tok j k) noTok (not-not blank (λ f. in-not-off (decode-in L l .tok-in j k (λ e. not-e blank f (eqTok-of e))) o))
 
   pub prov-read : (j k : ℕ) → j < L .packages → t .provides j k ≡ ltb k (L .services) && bit (provRow L l j) k
   unfolding decode

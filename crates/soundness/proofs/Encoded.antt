@@ -5,19 +5,19 @@ use native.Mathlib.Nat.{zero-mul, suc-mul, pow-suc, mul-le-mul-right, add-zero, 
 use mathlib.Core.Path.{_≡_, refl, sym, ap, _∙_}
 use mathlib.Core.Logic.{_⊎_, inl, inr}
 use mathlib.Core.Bool.{Bool, _&&_}
-use mathlib.Core.List.{List, [], _∷_, _++_, map, append-nil}
+use mathlib.Core.List.{List, [], _∷_, _++_, append-nil}
 use lib.Dec.{ltb, lt→ltb}
 use lib.ListN.{length, getD, take, drop, replicate, length-map, take-append-drop, length-take, length-drop, List·getD-eq-default}
 use lib.Seq.{drop-drop, take-at, drop-at, getD-take, getD-drop}
 use Rattle.policy.specs.Lists.{flat, from, upto}
 use Rattle.policy.specs.Layout.{Layout}
 use Rattle.policy.specs.Tables.{bit, rowOf, readNumber, writeNumber, readAid, writeAid, readTok, writeTok, readUnmet, writeUnmet, readWaiting, writeWaiting, readList, writeList, bitOf, writeBits, pieces}
-use Rattle.policy.proofs.Sets.{T-true}
-use Rattle.policy.proofs.Pieces.{in-or-off, piece-only, length-table}
+use Rattle.policy.proofs.Sets.{T-true, flat-map, length-from}
+use Rattle.policy.proofs.Pieces.{in-or-off, piece-only, length-table, piece-part, row-ends}
 use Rattle.soundness.specs.Check.{byteAt, partAt}
 use Rattle.soundness.proofs.Parts.{part-in, part-part, part-length, part-cons, Filled}
 use Rattle.bits.proofs.Row.{row-is}
-use Rattle.soundness.proofs.Decoded.{piece-at, piece-end, list-read}
+use Rattle.soundness.proofs.Decoded.{list-read}
 
 -- ---- bytes
 abbrev pub Bytes : List ℕ → Type 0
@@ -105,7 +105,7 @@ module _ (l : List ℕ) where
     pub part-flat : ((i : ℕ) → i < n → length (f i) ≡ w) → flat f (upto n) ≡ partAt l a (n * w) → (i : ℕ) → i < n → f i ≡ partAt l (a + i * w) w
     part-flat h e i p =
         sym (piece-only f w n h i p) ∙ ap (λ (z : List ℕ). getD (pieces w n z) i []) e
-        ∙ piece-at w n (partAt l a (n * w)) i p ∙ part-in l a (n * w) (i * w) w (piece-end w n i p)
+        ∙ piece-part w n (partAt l a (n * w)) i p ∙ part-in l a (n * w) (i * w) w (row-ends i n w p)
 
 -- ---- rows of lists
 row-back : (p : List ℕ) (a : List ℕ) → Filled (take 17 p) → a ≡ drop 17 p → writeAid (readAid (take 17 p)) ++ a ≡ p
@@ -119,14 +119,6 @@ unmet-back p e f = row-back p (writeTok (readTok (drop 17 p)) ++ (getD (drop 17 
 
 pub waiting-back : (p : List ℕ) → length p ≡ 19 → Filled (take 17 p) → writeWaiting (readWaiting p) ≡ p
 waiting-back p e f = row-back p (getD (drop 17 p) 0 0 ∷ getD (drop 17 p) 1 0 ∷ []) f (two (drop 17 p) (length-past p 17 2 e))
-
-length-from : (i n : ℕ) → length (from i n) ≡ n
-length-from i zero = refl
-length-from i (suc n) = ap suc (length-from (suc i) n)
-
-flat-map : {A : Type 0} (g : A → List ℕ) (f : ℕ → A) (xs : List ℕ) → flat g (map f xs) ≡ flat (λ r. g (f r)) xs
-flat-map g f [] = refl
-flat-map g f (x ∷ xs) = ap (λ (z : List ℕ). g (f x) ++ z) (flat-map g f xs)
 
 -- ---- a list of rows of w bytes, read by f and written by g
 module _ (L : Layout) (l : List ℕ) {A : Type 0} (f : List ℕ → A) (g : A → List ℕ) (w at : ℕ) (fits : at + (1 + L .capacity * w) ≤ length l) where

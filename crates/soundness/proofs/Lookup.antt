@@ -10,27 +10,22 @@ use mathlib.Core.Option.{Option, none, some}
 use lib.Dec.{T, ltb, lt→ltb}
 use lib.ListN.{length, getD, drop}
 use lib.Seq.{take-take, getD-drop}
-use Rattle.policy.specs.Lists.{every, first, upto, orElse, eqBytes}
+use Rattle.policy.specs.Lists.{first, upto, orElse, eqBytes}
 use Rattle.policy.specs.Contract.{Aid, validAid}
 use Rattle.policy.specs.Layout.{Layout, size, aidSize}
 use Rattle.policy.specs.Tables.{Tables, bit, readAid, readTok, readUnmet, readWaiting, decode}
-use Rattle.policy.proofs.Sets.{T-true, test, every-in, in-every, upto-in, in-upto, Found, found}
+use Rattle.policy.proofs.Sets.{T-true, test, upto-in, in-upto, Found, found}
 use Rattle.policy.proofs.Formed.{Names}
+use Rattle.policy.proofs.Pieces.{row-ends}
 use Rattle.geometry.specs.Geometry.{aidAt, provAt, entryAt}
 use Rattle.geometry.specs.declared.Table.the-variants.{Calls, Grants, Needs}
 use Rattle.soundness.specs.Check.{byteAt, partAt, rowAt, usedRow, provRow, sameAt, isAid, numberAt}
 use Rattle.soundness.proofs.Parts.{part-byte, part-length, same-part, part-same, Filled, filled-inj}
-use Rattle.soundness.proofs.Decoded.{piece-end, used-read, aid-read, prov-read, calls-read, grants-read, needs-read}
+use Rattle.soundness.proofs.Decoded.{used-read, aid-read, prov-read, calls-read, grants-read, needs-read}
 use Rattle.soundness.proofs.Encoded.{Bytes, part-bytes, row-lt}
 use Rattle.soundness.proofs.Whole.{Full}
 
--- ---- tests of every number below n, and tests by cases
-pub below : (f : ℕ → Bool) (n : ℕ) → T (every f (upto n)) → (k : ℕ) → k < n → T (f k)
-below f n h k l = every-in f (upto n) h (in-upto n k l)
-
-pub below-all : (f : ℕ → Bool) (n : ℕ) → ((k : ℕ) → k < n → T (f k)) → T (every f (upto n))
-below-all f n h = in-every f (upto n) (λ k m. h k (upto-in n m))
-
+-- ---- tests by cases
 pub cond-then : (b x y : Bool) → T b → T (cond b x y) → T x
 cond-then true x y t h = h
 cond-then false x y t h = absurd t
@@ -127,7 +122,7 @@ module _ (L : Layout) (lf : Full L) (l : List ℕ) (bytes : Bytes l) (len : leng
   row-small at h = row-lt L m (lf .services-full) (partAt l at (L .width)) (part-length l at (L .width) h) (part-bytes l bytes at (L .width))
 
   pub prov-small : (j : ℕ) → j < n → provRow L l j < 2 ^ m
-  prov-small j h = let e = piece-end (L .width) n j h in row-small (provAt L j) (omega arith)
+  prov-small j h = let e = row-ends j n (L .width) h in row-small (provAt L j) (omega arith)
 
   -- ---- places of AIDs, filled right
   module _ (names : Names L (t .used) (t .aid) (t .tok) (t .provides)) (filled : (i : ℕ) → i < n → Filled (partAt l (aidAt L i) aidSize)) where

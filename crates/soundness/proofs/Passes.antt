@@ -1,24 +1,25 @@
 -- An image that is what its tables give passes the check where they satisfy the facts.
-use Prim.Native.Nat.{ℕ, zero, suc, _+_, _*_, _-_, _/_, _%_, _^_, _≤_, _<_, zero-le}
+use Prim.Native.Nat.{ℕ, zero, suc, _+_, _*_, _-_, _/_, _%_, _^_, _≤_, _<_}
 use native.Mathlib.Omega.{arith}
 use mathlib.Core.Path.{_≡_, refl, sym, ap, _∙_, subst}
 use mathlib.Core.Logic.{_⊎_, inl, inr}
 use mathlib.Core.Bool.{Bool, not, _&&_, _||_}
 use mathlib.Core.List.{List, [], _∷_, _++_, map}
 use mathlib.Core.List.{List·Memᴰ as In}
-use lib.Dec.{T, eqb, leb, ltb, eqb→eq, leb→le, le→leb, lt→ltb}
+use lib.Dec.{T, eqb, leb, ltb, eqb→eq, le→leb, lt→ltb}
 use lib.ListN.{length, take, drop, replicate}
 use lib.Seq.{take-at, take-take}
 use Rattle.policy.specs.Lists.{implies, every, upto, NoRepeat}
 use Rattle.policy.specs.Contract.{Aid, Tok, validAid}
 use Rattle.policy.specs.Layout.{Layout, size, aidSize, unmetSize, waitingSize}
 use Rattle.policy.specs.Tables.{Tables, Unmet, Waiting, noTok, bit, readAid, writeAid, readTok, writeTok, readUnmet, readWaiting, readList, writeList, decode}
-use Rattle.policy.proofs.Sets.{T-false, and-l, and-r, and-i, or-l, or-r, implies-i, not-i, test, false-T, in-map, in-upto}
+use Rattle.policy.proofs.Sets.{T-false, and-l, and-r, and-i, or-l, or-r, implies-i, not-i, test, false-T, in-map, in-upto, in-below}
 use Rattle.policy.proofs.Equal.{eqb-of}
-use Rattle.policy.proofs.Pieces.{in-or-off, length-aid, length-unmet, length-waiting}
-use Rattle.policy.proofs.Formed.{Names, grantBit, Formed, Lawful, Fitting}
+use Rattle.policy.proofs.Pieces.{in-or-off, length-aid, valid-short, length-unmet, length-waiting, row-ends}
+use Rattle.policy.proofs.Formed.{grantBit, Formed, Lawful, Fitting}
 use Rattle.policy.proofs.Sets.{map-inj}
-use Rattle.bits.proofs.Row.{bit-none, bit-past, bit-ext}
+use Rattle.policy.proofs.Bits.{bit-none}
+use Rattle.bits.proofs.Row.{bit-past, bit-ext}
 use Rattle.geometry.specs.Geometry.{aidAt, tokAt, entryAt}
 use Rattle.geometry.specs.declared.Table.the-variants.{Calls, Grants, Needs}
 use Rattle.soundness.specs.declared.Kept.{Kept}
@@ -26,26 +27,15 @@ use Rattle.soundness.specs.declared.Kept.the-variants.{Unmet as Unmets, 
 use Rattle.soundness.specs.Check.{byteAt, partAt, zerosAt, sameAt, aidOk, within, rowAt, usedRow, provRow, numberAt, isTok, newTok, tokOk, toksOk, newAid, blankOk, packageOk, packagesOk}
 use Rattle.soundness.specs.Check.{grantOk, pairOk, lineOk, linesOk, isUsed, unserved, unmetOk, isProvided, waitingOk, listAt, rowSize, placeAt, countOf, rowOk, newRow, placeOk, listOk}
 use Rattle.soundness.proofs.Parts.{same-part, byte-zeros, part-zeros, Filled, filled-ok, blank-zeros}
-use Rattle.soundness.proofs.Decoded.{piece-end, used-read, aid-read, tok-read, list-read}
+use Rattle.soundness.proofs.Decoded.{used-read, aid-read, tok-read, list-read}
 use Rattle.soundness.proofs.Encoded.{Bytes, list-parts, length-rows}
 use Rattle.soundness.proofs.Whole.{Full, list-end, Parts}
-use Rattle.soundness.proofs.Lookup.{below-all, cond-by, tok-bytes, unmet-at, waiting-at, number-is, NumberIs, used-is, prov-is, calls-is, grants-is, needs-is, row-small, prov-small}
+use Rattle.soundness.proofs.Lookup.{cond-by, tok-bytes, unmet-at, waiting-at, number-is, NumberIs, used-is, prov-is, calls-is, grants-is, needs-is, row-small, prov-small}
 use Rattle.soundness.proofs.Tests.{row-low}
 use Rattle.soundness.proofs.Lookup.{aid-same, same-used, found-used}
 
 three-i : (a b c : Bool) → T a → T b → T c → T (a && b && c)
 three-i a b c x y z = and-i (a && b) c (and-i a b x y) z
-
--- ---- AIDs have room in their places
-pub valid-short : (a : Aid) → T (validAid a) → length a ≤ 16
-valid-short a v = leb→le (length a) 16 (and-r (leb 5 (length a)) (leb (length a) 16) v)
-
-pub aid-short : {L : Layout} {used : ℕ → Bool} {aid : ℕ → Aid} {tok : ℕ → ℕ → Tok} {provides : ℕ → ℕ → Bool} → Names L used aid tok provides → (i : ℕ) → length (aid i) ≤ 16
-aid-short {used = used} {aid = aid} names i = go (test (used i))
-  where
-    go : T (used i) ⊎ (T (used i) → ⊥) → length (aid i) ≤ 16
-    go (inl u) = valid-short (aid i) (names .aid-valid i u)
-    go (inr f) = subst (λ (z : Aid). length z ≤ 16) (sym (names .aid-blank i f)) zero-le
 
 module _ (L : Layout) (lf : Full L) (l : List ℕ) (bytes : Bytes l) (len : length l ≡ size L)
     (fo : Formed L (decode L l)) (la : Lawful (decode L l)) (fi : Fitting L (decode L l)) (parts : Parts L lf l bytes len) where
@@ -88,7 +78,7 @@ module _ (L : Layout) (lf : Full L) (l : List ℕ) (bytes : Bytes l) (len : leng
       (λ f. let z = tok-zero j k h p (fo .names .tok-blank j k (λ s. f (subst T (prov-is L lf l bytes len j k h p) s))) in byte-zeros l (tokAt L j k) 2 inside (both (z .0) (z .1)))
     where
       inside : tokAt L j k + 2 ≤ length l
-      inside = let a = piece-end (m * 2) n j h in let b = piece-end 2 m k p in omega arith
+      inside = let a = row-ends j n (m * 2) h in let b = row-ends k m 2 p in omega arith
 
       both : byteAt l (tokAt L j k) ≡ 0 → byteAt l (tokAt L j k + 1) ≡ 0 → (q : ℕ) → q < 2 → byteAt l (tokAt L j k + q) ≡ 0
       both a b zero c = let e : tokAt L j k + 0 ≡ tokAt L j k = omega arith in ap (byteAt l) e ∙ a
@@ -96,7 +86,7 @@ module _ (L : Layout) (lf : Full L) (l : List ℕ) (bytes : Bytes l) (len : leng
       both a b (suc (suc q)) c = absurd (omega arith)
 
       new : T (t .provides j k) → T (every (λ q. not (isTok L l (tokAt L j k) j q)) (upto k))
-      new s = below-all (λ q. not (isTok L l (tokAt L j k) j q)) k (λ q c. not-i (isTok L l (tokAt L j k) j q) (λ o.
+      new s = in-below (λ q. not (isTok L l (tokAt L j k) j q)) k (λ q c. not-i (isTok L l (tokAt L j k) j q) (λ o.
           let d = tok-same (tokAt L j k) j q h (omega arith) o in
           let e : q ≡ k = fo .names .tok-inj j q k (d .0) s (d .1 ∙ sym (tok-read L l j k h p)) in
           absurd (omega arith)))
@@ -106,7 +96,7 @@ module _ (L : Layout) (lf : Full L) (l : List ℕ) (bytes : Bytes l) (len : leng
   row-zero x h f = bit-ext m x 0 h (omega arith) (λ k p. T-false (bit x k) (f k p) ∙ sym (bit-none k))
 
   toks-zero : (i : ℕ) → i < n → (T (t .used i) → ⊥) → T (zerosAt l (tokAt L i 0) (m * 2))
-  toks-zero i h f = byte-zeros l (tokAt L i 0) (m * 2) (let a = piece-end (m * 2) n i h in omega arith) (λ x p. go x p (test (eqb (x % 2) 0)))
+  toks-zero i h f = byte-zeros l (tokAt L i 0) (m * 2) (let a = row-ends i n (m * 2) h in omega arith) (λ x p. go x p (test (eqb (x % 2) 0)))
     where
       zero-at : (k : ℕ) → k < m → (byteAt l (tokAt L i k) ≡ 0) × (byteAt l (tokAt L i k + 1) ≡ 0)
       zero-at k p = tok-zero i k h p (fo .names .tok-blank i k (λ s. f (fo .names .prov-used i k s)))
@@ -126,7 +116,7 @@ module _ (L : Layout) (lf : Full L) (l : List ℕ) (bytes : Bytes l) (len : leng
   package-ok i h = cond-by (bit (usedRow L l) i) (aidOk l (aidAt L i) && newAid L l i && toksOk L l i) (blankOk L l i)
       (λ b. let u = subst T (sym (used-is L lf l bytes len i h)) b in
       three-i (aidOk l (aidAt L i)) (newAid L l i) (toksOk L l i)
-      (filled-ok l (aidAt L i) inside (t .aid i) (fo .names .aid-valid i u) (sym (parts .0 i h))) (new-aid i h u) (below-all (tokOk L l i) m (λ k p. tok-ok i k h p)))
+      (filled-ok l (aidAt L i) inside (t .aid i) (fo .names .aid-valid i u) (sym (parts .0 i h))) (new-aid i h u) (in-below (tokOk L l i) m (λ k p. tok-ok i k h p)))
       (λ b. let f : T (t .used i) → ⊥ = λ u. b (subst T (used-is L lf l bytes len i h) u) in
       three-i (zerosAt l (aidAt L i) aidSize) (eqb (provRow L l i) 0) (zerosAt l (tokAt L i 0) (m * 2))
       (blank-zeros l (aidAt L i) inside (sym (parts .0 i h) ∙ ap writeAid (fo .names .aid-blank i f)))
@@ -134,11 +124,11 @@ module _ (L : Layout) (lf : Full L) (l : List ℕ) (bytes : Bytes l) (len : leng
       (toks-zero i h f))
     where
       inside : aidAt L i + 17 ≤ length l
-      inside = let e = piece-end aidSize n i h in omega arith
+      inside = let e = row-ends i n aidSize h in omega arith
 
   -- ---- bits
   within-all : (a b : ℕ) → a < 2 ^ m → ((k : ℕ) → k < m → T (bit a k) → T (bit b k)) → T (within a b)
-  within-all a b h f = below-all (λ k. implies (bit a k) (bit b k)) 16 (λ k q. implies-i (bit a k) (bit b k) (λ s. go k s (in-or-off k m)))
+  within-all a b h f = in-below (λ k. implies (bit a k) (bit b k)) 16 (λ k q. implies-i (bit a k) (bit b k) (λ s. go k s (in-or-off k m)))
     where
       go : (k : ℕ) → T (bit a k) → (k < m) ⊎ (m ≤ k) → T (bit b k)
       go k s (inl p) = f k p s
@@ -156,7 +146,7 @@ module _ (L : Layout) (lf : Full L) (l : List ℕ) (bytes : Bytes l) (len : leng
 
     -- an entry of a table that begins at at ends in the table
     entry-end : (x y : ℕ) → x < n → y < n → x * (n * L .width) + y * L .width + L .width ≤ n * (n * L .width)
-    entry-end x y a b = let c = piece-end (n * L .width) n x a in let d = piece-end (L .width) n y b in omega arith
+    entry-end x y a b = let c = row-ends x n (n * L .width) a in let d = row-ends y n (L .width) b in omega arith
 
     call-small : call < 2 ^ m
     call-small = row-small L lf l bytes len (entryAt L Calls i j) (let e = entry-end i j h q in omega arith)
@@ -247,12 +237,12 @@ module _ (L : Layout) (lf : Full L) (l : List ℕ) (bytes : Bytes l) (len : leng
             let a = list-end L l len k in
             let b = row-low k in
             let c = count-fits in
-            let d = piece-end w (L .capacity) q (omega arith) in
+            let d = row-ends q (L .capacity) w (omega arith) in
             filled-ok l at (omega arith) (name (row q)) (row-valid q p) (sym name-back)
 
       new-row : (q : ℕ) → q < count → T (newRow L l k q)
       unfolding newRow
-      new-row q h = below-all (λ p. not (sameAt l (placeAt L k q) (placeAt L k p) w)) q (λ p c. not-i (sameAt l (placeAt L k q) (placeAt L k p) w) (λ s.
+      new-row q h = in-below (λ p. not (sameAt l (placeAt L k q) (placeAt L k p) w)) q (λ p c. not-i (sameAt l (placeAt L k q) (placeAt L k p) w) (λ s.
           let e : q ≡ p = map-inj row (upto count) (subst NoRepeat rows-are once) (in-upto count q h) (in-upto count p (omega arith)) (ap f (same-part l (placeAt L k q) (placeAt L k p) w s)) in
           absurd (omega arith)))
 
@@ -261,7 +251,7 @@ module _ (L : Layout) (lf : Full L) (l : List ℕ) (bytes : Bytes l) (len : leng
       list-ok ok =
           three-i (leb count (L .capacity)) (every (placeOk L l k) (upto count)) (zerosAt l (placeAt L k count) ((L .capacity - count) * w))
           (le→leb count (L .capacity) count-fits)
-          (below-all (placeOk L l k) count (λ q p. and-i (rowOk L l k (placeAt L k q)) (newRow L l k q) (ok (placeAt L k q) (in-list q p) (row-filled q p) (row-aid q p)) (new-row q p)))
+          (in-below (placeOk L l k) count (λ q p. and-i (rowOk L l k (placeAt L k q)) (newRow L l k q) (ok (placeAt L k q) (in-list q p) (row-filled q p) (row-aid q p)) (new-row q p)))
           (part-zeros l (placeAt L k count) ((L .capacity - count) * w) (rows-back .1))
 
   -- ---- unmet calls
@@ -282,7 +272,7 @@ module _ (L : Layout) (lf : Full L) (l : List ℕ) (bytes : Bytes l) (len : leng
             let e : t .aid c ≡ u .callee = aid-same L lf l bytes len (fo .names) filled at fill c (b .0) (b .1) in
             or-r (eqb c n) (not (eqb c (u .caller)) && newTok L l m (at + 17) c) (and-i (not (eqb c (u .caller))) (newTok L l m (at + 17) c)
             (not-i (eqb c (u .caller)) (λ s. fo .unmet .unmet-other u in-u (sym e ∙ ap (t .aid) (eqb→eq c (u .caller) s))))
-            (below-all (λ k. not (isTok L l (at + 17) c k)) m (λ k d. not-i (isTok L l (at + 17) c k) (λ s.
+            (in-below (λ k. not (isTok L l (at + 17) c k)) m (λ k d. not-i (isTok L l (at + 17) c k) (λ s.
             let o = tok-same (at + 17) c k (b .0) d s in fo .unmet .off .off-card u in-u c k (o .0) e (o .1)))))
 
     unmet-ok : T (unmetOk L l at)
@@ -331,8 +321,8 @@ module _ (L : Layout) (lf : Full L) (l : List ℕ) (bytes : Bytes l) (len : leng
   pub passes : T (packagesOk L l) × T (linesOk L l) × T (listOk L l Unmets) × T (listOk L l Waitings)
   unfolding packagesOk linesOk lineOk
   passes = (
-    below-all (packageOk L l) n package-ok,
-    below-all (lineOk L l) n (λ i h. below-all (pairOk L l i) n (λ j q. pair-ok i j h q)),
+    in-below (packageOk L l) n package-ok,
+    in-below (lineOk L l) n (λ i h. in-below (pairOk L l i) n (λ j q. pair-ok i j h q)),
     unmets-ok,
     waitings-ok,
   )

@@ -5,15 +5,16 @@ use native.Mathlib.Nat.{add-sub-cancel-left, add-sub-of-le, add-mul, mul-le-mul-
 use native.Mathlib.Numerals.{add-one}
 use mathlib.Core.Path.{_≡_, refl, sym, ap, ap₂, _∙_}
 use mathlib.Core.Logic.{inl, inr}
-use mathlib.Core.Bool.{Bool, true, false, not, _&&_, _||_, cond}
+use mathlib.Core.Bool.{Bool, true, false, not, _&&_, _||_, cond, and-true}
 use mathlib.Core.List.{List, [], _∷_, _++_}
 use lib.Dec.{eqb, leb, ltb}
 use lib.ListN.{length, getD, take, drop}
 use lib.Seq.{take-suc, take-all}
-use borrow.Author.Tests.{lt-ltb, le-ltb, le-leb, lt-leb, eq-eqb, ne-eqb}
+use borrow.Author.Tests.{not-true, not-false, lt-ltb, le-ltb, le-leb, lt-leb, eq-eqb, ne-eqb}
 use Rattle.policy.specs.Lists.{every, upto, eqBytes}
 use Rattle.policy.specs.Layout.{size}
-use Rattle.bits.proofs.Loops.{early}
+use Rattle.policy.proofs.Pieces.{row-ends}
+use Rattle.bits.proofs.Loops.{every-append, early}
 use Rattle.geometry.specs.declared.Card.{Card}
 use Rattle.geometry.specs.declared.Card.the-variants.{Small}
 use Rattle.geometry.specs.Geometry.{layoutOf, tokAt}
@@ -21,23 +22,14 @@ use Rattle.geometry.proofs.Bounds.{geo, layout-ok, limits, head-len, unmet-in, 
 use Rattle.soundness.specs.declared.Kept.{Kept}
 use Rattle.soundness.specs.declared.Kept.the-variants.{Unmet, Waiting}
 use Rattle.soundness.specs.Check.{isZero, zerosAt, listAt, rowSize, placeAt, numberAt}
-use Rattle.soundness.proofs.Decoded.{piece-end}
 use Rattle.soundness.proofs.Lookup.{number-is, NumberIs}
 
 -- ---- what a branch tells of r, which a call ensures to be b
 pub fell : {r b : Bool} → r ≡ b → not r ≡ true → false ≡ b
-fell {r} e h = sym (go r h) ∙ e
-  where
-    go : (x : Bool) → not x ≡ true → x ≡ false
-    go true p = sym p
-    go false p = refl
+fell {r} e h = sym (not-true r h) ∙ e
 
 pub held : {r b : Bool} → r ≡ b → not r ≡ false → true ≡ b
-held {r} e h = sym (go r h) ∙ e
-  where
-    go : (x : Bool) → not x ≡ false → x ≡ true
-    go true p = refl
-    go false p = sym p
+held {r} e h = sym (not-false r h) ∙ e
 
 pub took : {r b : Bool} → r ≡ b → r ≡ true → true ≡ b
 took e h = sym h ∙ e
@@ -99,19 +91,10 @@ eqb-fell a b h = sym (ne-eqb a b h)
 pub eqb-is : {r p : ℕ} (m n : ℕ) → r ≡ m → p ≡ n → eqb r p ≡ eqb m n
 eqb-is m n e q = λ i. eqb (e i) (q i)
 
-and-true : (b : Bool) → b && true ≡ b
-and-true true = refl
-and-true false = refl
-
-and-again : (a b c : Bool) → a && (b && c) ≡ a && b && c
-and-again true b c = refl
-and-again false b c = refl
-
 -- ---- a loop over a list's elements that gathers a flag
 module _ (f : ℕ → Bool) (l : List ℕ) where
   every-snoc : (p : List ℕ) (x : ℕ) → every f (p ++ (x ∷ [])) ≡ every f p && f x
-  every-snoc [] x = and-true (f x)
-  every-snoc (y ∷ p) x = ap (λ (b : Bool). f y && b) (every-snoc p x) ∙ and-again (f y) (every f p) (f x)
+  every-snoc p x = every-append f p (x ∷ []) ∙ ap (λ (b : Bool). every f p && b) (and-true (f x))
 
   pub each-turn : (k : ℕ) {b r : Bool} → b ≡ every f (take k l) → k < length l → r ≡ f (getD l k 0) → b && r ≡ every f (take (k + 1) l)
   each-turn k p h q = rw (add-one, take-suc l k 0) (ap₂ _&&_ p q ∙ sym (every-snoc (take k l) (getD l k 0)))
@@ -129,7 +112,7 @@ pub one-service : (c : Card) → 0 < layoutOf c .services
 one-service Small = omega arith
 
 pub tokens-len : (c : Card) (j n a s : ℕ) → n ≡ size (layoutOf c) → a ≡ tokAt (layoutOf c) j 0 → s ≡ layoutOf c .services → j < layoutOf c .packages → a + s * 2 ≤ n
-tokens-len c j n a s e p q h = rw (q) (let i = piece-end (layoutOf c .services * 2) (layoutOf c .packages) j h in omega arith)
+tokens-len c j n a s e p q h = rw (q) (let i = row-ends j (layoutOf c .packages) (layoutOf c .services * 2) h in omega arith)
 
 -- ---- rows of the lists
 pub list-low : (c : Card) (k : Kept) → listAt (layoutOf c) k < 4096

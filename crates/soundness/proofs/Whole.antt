@@ -9,13 +9,13 @@ use Rattle.policy.specs.Lists.{flat, upto}
 use Rattle.policy.specs.Layout.{Layout, LayoutOk, aidSize, unmetSize, waitingSize, usedAt, aidsAt, tokensAt, providesAt, callsAt, grantsAt, needsAt, unmetAt, waitingAt, size}
 use Rattle.policy.specs.Tables.{Tables, writeAid, writeTok, writeUnmet, writeWaiting, writeList, bitOf, readTable, writeBits, writeTable, decode, encode}
 use Rattle.policy.proofs.Bits.{length-bits, writeLine, length-line, length-lines}
-use Rattle.policy.proofs.Pieces.{length-table}
+use Rattle.policy.proofs.Pieces.{length-table, row-ends}
 use Rattle.geometry.specs.Geometry.{aidAt, tokAt, provAt}
 use Rattle.soundness.specs.declared.Kept.{Kept}
 use Rattle.soundness.specs.declared.Kept.the-variants.{Unmet as Unmets, Waiting as Waitings}
 use Rattle.soundness.specs.Check.{partAt, listAt, rowSize}
 use Rattle.soundness.proofs.Parts.{part-length}
-use Rattle.soundness.proofs.Decoded.{piece-end, used-read, tok-read, prov-read, table-read}
+use Rattle.soundness.proofs.Decoded.{used-read, tok-read, prov-read, table-read}
 use Rattle.soundness.proofs.Encoded.{Bytes, part-bytes, bits-back, tok-back, join, split, flat-part, part-flat}
 
 -- a layout whose rows of bits fill their bytes
@@ -53,22 +53,22 @@ module _ (L : Layout) (lf : Full L) (l : List ℕ) (bytes : Bytes l) (len : leng
   toks-part : flat (λ j. flat (λ k. writeTok (t .tok j k)) (upto m)) (upto n) ≡ partAt l (tokensAt L) (n * (m * 2))
   toks-part =
       flat-part l _ (m * 2) n (tokensAt L) (λ j p. flat-part l _ 2 m (tokensAt L + j * (m * 2)) (λ k q.
-      let a = piece-end (m * 2) n j p in
-      let b = piece-end 2 m k q in
+      let a = row-ends j n (m * 2) p in
+      let b = row-ends k m 2 q in
       let e : tokAt L j k ≡ tokensAt L + j * (m * 2) + k * 2 = omega arith in
       ap writeTok (tok-read L l j k p q) ∙ tok-back (partAt l (tokAt L j k) 2) (part-length l (tokAt L j k) 2 (omega arith)) ∙ ap (λ (z : ℕ). partAt l z 2) e))
 
   provs-part : flat (λ j. writeBits L m (t .provides j)) (upto n) ≡ partAt l (providesAt L) (n * w)
   provs-part =
       flat-part l _ w n (providesAt L) (λ j p.
-      let a = piece-end w n j p in
+      let a = row-ends j n w p in
       ap (writeBits L m) (λ z k. prov-read L l j k p z) ∙ bits-part m (lf .services-full) (provAt L j) (omega arith))
 
   table-part : (at : ℕ) → at + n * (n * w) ≤ length l → writeTable L (readTable L (drop at l)) ≡ partAt l at (n * (n * w))
   table-part at h =
       flat-part l _ (n * w) n at (λ i p. flat-part l _ w n (at + i * (n * w)) (λ j q.
-      let a = piece-end (n * w) n i p in
-      let b = piece-end w n j q in
+      let a = row-ends i n (n * w) p in
+      let b = row-ends j n w q in
       let e : at + (i * (n * w) + j * w) ≡ at + i * (n * w) + j * w = omega arith in
       ap (writeBits L m) (λ z k. table-read L l at i j k p q z) ∙ bits-part m (lf .services-full) (at + (i * (n * w) + j * w)) (omega arith) ∙ ap (λ (z : ℕ). partAt l z w) e))
 

@@ -6,8 +6,7 @@ use mathlib.Core.List.{List, _++_}
 use lib.ListN.{length, take, replicate}
 use borrow.Author.Needs.{needs}
 use Rattle.policy.specs.Tables.{writeAid}
-use Rattle.rows.specs.Area.{HasRoom, appended}
-use Rattle.image.specs.Laid.{over}
+use Rattle.rows.specs.Area.{over, HasRoom, appended}
 use Rattle.image.proofs.Writes.{row-made, row-wide}
 use Rattle.image.proofs.write.append.Statement.{statement}
 use Rattle.image.proofs.write.append.Tie as tie

@@ -4,7 +4,7 @@ use native.Mathlib.Omega.{arith}
 use mathlib.Core.Path.{ap, _∙_}
 use lib.ListN.{length, replicate, length-set}
 use borrow.Author.Needs.{needs}
-use Rattle.image.specs.Laid.{over}
+use Rattle.rows.specs.Area.{over}
 use Rattle.image.proofs.Writes.{slot-made}
 use Rattle.image.proofs.write.put_slot.Statement.{statement}
 use Rattle.image.proofs.write.put_slot.Tie as tie
