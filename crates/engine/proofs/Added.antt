@@ -1,12 +1,13 @@
 -- The plan of kind 3 by what its searches found. Assumes nothing.
 use Prim.Native.Nat.{ℕ, _+_, _≤_, _<_}
 use native.Mathlib.Omega.{arith}
-use mathlib.Core.Path.{_≡_, refl, sym, ap, _∙_}
-use mathlib.Core.Bool.{Bool, true, false, not, cond}
+use mathlib.Core.Path.{_≡_, sym, ap, _∙_}
+use mathlib.Core.Bool.{Bool, true, false, cond}
 use mathlib.Core.List.{List}
 use mathlib.Core.Option.{Option}
 use lib.ListN.{length}
 use borrow.Author.Needs.{needs}
+use borrow.Author.Tests.{not-true, not-false}
 use Rattle.policy.specs.Lists.{every, orElse}
 use Rattle.policy.specs.Contract.{Aid, Tok}
 use Rattle.policy.specs.Layout.{Layout}
@@ -72,13 +73,4 @@ module _ (L : Layout) (t : Tables) (a : Aid) (s : Tok) (l : List Aid) where
             pub plan-add : d ≡ true → Add j k ≡ addingPlan L t a s l
             plan-add w = sym (ap (byLook j k true) w) ∙ at-room
 
--- what a test of a negation says
-pub off : (b : Bool) → not b ≡ true → b ≡ false
-off false e = refl
-off true e = sym e
-
-pub on : (b : Bool) → not b ≡ false → b ≡ true
-on true e = refl
-on false e = sym e
-
-pub ruleset adding = (sound-laid, in-range, plan-absent, plan-had, plan-full, plan-ungranted, plan-crowded, plan-add, off, on, needs)
+pub ruleset adding = (sound-laid, in-range, plan-absent, plan-had, plan-full, plan-ungranted, plan-crowded, plan-add, not-true, not-false, needs)

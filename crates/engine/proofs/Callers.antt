@@ -1,11 +1,10 @@
 -- What the code of kind 3 finds: AIDs of the record on the card, unmet calls that are granted, and room for the callers. Assumes nothing.
-use Prim.Native.Nat.{ℕ, zero, suc, _+_, _-_, _≤_, _<_}
+use Prim.Native.Nat.{ℕ, _+_, _-_, _≤_, _<_}
 use native.Mathlib.Omega.{arith}
 use native.Mathlib.Nat.{not-le-of-lt}
-use mathlib.Core.Path.{_≡_, refl, sym, ap, _∙_, subst}
+use mathlib.Core.Path.{_≡_, sym, ap, _∙_, subst}
 use mathlib.Core.Bool.{Bool, true, false, not, _&&_, _||_, cond}
-use mathlib.Core.List.{List, [], _∷_}
-use mathlib.Core.List.{List·Memᴰ as In, List·Memᴰ·head as here, List·Memᴰ·tail as there}
+use mathlib.Core.List.{List, _∷_}
 use mathlib.Core.Option.{Option}
 use lib.Dec.{T, leb, leb→le, le→leb}
 use lib.ListN.{length, getD, drop, drop-of-length-le}
@@ -19,7 +18,7 @@ use Rattle.policy.specs.Record.{Reader}
 use Rattle.policy.specs.Tables.{Tables, Unmet, bit, decode}
 use Rattle.policy.specs.Lookup.{numberOf}
 use Rattle.policy.specs.ShortCheck.{notInstalled}
-use Rattle.policy.proofs.Sets.{T-eq, T-true, T-false, false-T}
+use Rattle.policy.proofs.Sets.{T-eq, T-true, T-false, false-T, in-row}
 use Rattle.policy.specs.Sound.{sound}
 use Rattle.policy.proofs.SoundFacts.{sound-formed}
 use Rattle.image.specs.Read.{maskOf, numberOr, noUnmet, unmetRow}
@@ -114,11 +113,6 @@ module _ {A : Type 0} {p : Reader A} {s : List ℕ} {todo rest : Items} (f : A �
       (leb-same (length (keep f (x ∷ later))) left (length (keep f later)) (left - boolByte r) (λ z. omega (arith, passing)) (λ z. omega (arith, passing)))
 
 -- ---- the caller of an unmet call of a sound image is a used package
-pub in-row : {A : Type 0} (l : List A) (r : ℕ) (d : A) → r < length l → In (getD l r d) l
-in-row [] r d h = absurd (omega arith)
-in-row (x ∷ l) zero d h = here refl
-in-row (x ∷ l) (suc r) d h = there (in-row l r d (omega arith))
-
 pub caller-used : (L : Layout) (img : List ℕ) → T (sound L img) → (r n : ℕ) → r < length (decode L img .unmet) → n ≡ unmetRow (decode L img) r .caller
     → (n < L .packages) × T (decode L img .used n)
 caller-used L img ok r n h e =

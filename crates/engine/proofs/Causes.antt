@@ -4,9 +4,9 @@ use native.Mathlib.Omega.{arith}
 use mathlib.Core.Path.{_≡_, sym, ap, ap₂, _∙_}
 use mathlib.Core.Bool.{Bool, true, false, not, _&&_}
 use mathlib.Core.List.{List}
-use lib.Dec.{eqb, leb, le→leb, leb→le}
+use lib.Dec.{eqb}
 use lib.ListN.{length}
-use borrow.Author.Tests.{eq-eqb, ne-eqb}
+use borrow.Author.Tests.{le-leb, lt-leb, eq-eqb, ne-eqb}
 use Rattle.policy.specs.Lists.{keep, upto}
 use Rattle.policy.specs.Layout.{Layout}
 use Rattle.policy.specs.Causes.{answer}
@@ -14,16 +14,9 @@ use Rattle.policy.specs.Tables.{Tables, bit}
 use Rattle.policy.specs.Draft.{Look}
 use Rattle.policy.specs.ShortCheck.{count, ones, shortRemove}
 use Rattle.policy.specs.Judge.{lookCauses}
-use Rattle.policy.proofs.Sets.{T-true, T-false}
+use Rattle.policy.proofs.ShortRemove.{none-pairs}
 use Rattle.image.specs.Read.{maskOf}
-use Rattle.engine.proofs.Leaves.{none-pairs}
 use Rattle.engine.proofs.Counts.{full, ones-same, ones-all, rest-is}
-
-pub fits-not : (n most : ℕ) → most < n → leb n most ≡ false
-fits-not n most h = T-false (leb n most) (λ x. let l = leb→le n most x in absurd (omega arith))
-
-pub fits-yes : (n most : ℕ) → n ≤ most → leb n most ≡ true
-fits-yes n most h = T-true (leb n most) (le→leb n most h)
 
 -- a check that asks no rights
 module _ (L : Layout) where
@@ -74,14 +67,14 @@ module _ (L : Layout) (t : Tables) (low : L .services ≤ 16) where
       not-needed = sym needed-is ∙ eq-eqb x 0 z
 
       pub unmet-cause : most < u → 10 ≡ answer (lookCauses (shortRemove L t n))
-      unmet-cause h = at-10 L (k .needed) (k .unmetFits) (k .waitingFits) not-needed (fits-not unmetRows (L .capacity) (omega arith))
+      unmet-cause h = at-10 L (k .needed) (k .unmetFits) (k .waitingFits) not-needed (lt-leb unmetRows (L .capacity) (omega arith))
 
       module _ (f : u ≤ most) (w : ℕ) (q : w ≡ waitingRows) where
         unmet-fits : k .unmetFits ≡ true
-        unmet-fits = fits-yes unmetRows (L .capacity) (omega arith)
+        unmet-fits = le-leb unmetRows (L .capacity) (omega arith)
 
         pub waiting-cause : most < w → 11 ≡ answer (lookCauses (shortRemove L t n))
-        waiting-cause h = at-11 L (k .needed) (k .unmetFits) (k .waitingFits) not-needed unmet-fits (fits-not waitingRows (L .capacity) (omega arith))
+        waiting-cause h = at-11 L (k .needed) (k .unmetFits) (k .waitingFits) not-needed unmet-fits (lt-leb waitingRows (L .capacity) (omega arith))
 
         pub no-cause : w ≤ most → 0 ≡ answer (lookCauses (shortRemove L t n))
-        no-cause h = at-0 L (k .needed) (k .unmetFits) (k .waitingFits) not-needed unmet-fits (fits-yes waitingRows (L .capacity) (omega arith))
+        no-cause h = at-0 L (k .needed) (k .unmetFits) (k .waitingFits) not-needed unmet-fits (le-leb waitingRows (L .capacity) (omega arith))

@@ -8,17 +8,16 @@ use lib.ListN.{length}
 use Rattle.policy.specs.Lists.{keep, flat, upto}
 use Rattle.policy.specs.Contract.{Aid}
 use Rattle.policy.specs.Layout.{Layout}
-use Rattle.policy.specs.Tables.{Tables, Waiting, bit, rowOf}
+use Rattle.policy.specs.Tables.{Tables, bit, rowOf}
 use Rattle.policy.specs.Lookup.{serviceAt}
 use Rattle.policy.specs.Draft.{callRow, leftBy}
 use Rattle.policy.specs.ShortCheck.{count, ones}
-use Rattle.policy.proofs.Sets.{upto-in}
+use Rattle.policy.proofs.Sets.{keep-ext, flat-ext, upto-in}
 use Rattle.policy.proofs.Bits.{bit-rowOf}
-use Rattle.bits.proofs.Loops.{keep-ext}
 use Rattle.image.specs.Read.{maskOf}
 use Rattle.image.proofs.Masks.{mask-count}
-use Rattle.engine.specs.Removals.{leftOne, leftRow, leftRows, waitRow, waitRows}
-use Rattle.engine.proofs.Leaves.{flat-ext, only-keep, sum-ext, length-pairs, count-others}
+use Rattle.engine.specs.Removals.{leftOne, leftRow, leftRows, waitRows}
+use Rattle.engine.proofs.Leaves.{only-keep, sum-ext, only-pairs, length-only, count-others}
 
 -- the mask of all services
 full-row : 65535 ≡ rowOf 16 (λ k. true)
@@ -51,20 +50,14 @@ module _ (L : Layout) (t : Tables) where
   ones-all f = λ z. ones L t (λ i k. and-true (f i k) z)
 
   pub left-length : (a : Aid) (j : ℕ) (d : ℕ → Bool) → length (leftRows L t a j d) ≡ ones L t (λ i k. t .calls i j k && d k)
-  left-length a j d = length-pairs (λ i k. t .calls i j k && d k) (λ i k. callRow i (record { aid = a; tok = t .tok j k })) (upto (L .services)) (upto (L .packages))
+  left-length a j d = length-only (λ i k. callRow i (record { aid = a; tok = t .tok j k })) (λ i k. t .calls i j k && d k) (upto (L .services)) (upto (L .packages))
 
   pub wait-length : (a : Aid) (n : ℕ) → length (waitRows L t a n) ≡ ones L t (λ j k. t .grants j n k)
-  wait-length a n = length-pairs (λ j k. t .grants j n k) row (upto (L .services)) (upto (L .packages))
-    where
-      row : ℕ → ℕ → Waiting
-      row j k = record { caller = a; callee = j; service = k }
+  wait-length a n = length-only (λ j k. record { caller = a; callee = j; service = k }) (λ j k. t .grants j n k) (upto (L .services)) (upto (L .packages))
 
   pub wait-rows-are : (a : Aid) (n : ℕ)
       → waitRows L t a n ≡ flat (λ j. map (λ k. record { caller = a; callee = j; service = k }) (keep (λ k. t .grants j n k) (upto (L .services)))) (upto (L .packages))
-  wait-rows-are a n = flat-ext (λ j. waitRow L t a j (t .grants j n)) (λ j. map (row j) (keep (t .grants j n) (upto (L .services)))) (upto (L .packages)) (λ j _. only-keep (t .grants j n) (row j) (upto (L .services)))
-    where
-      row : ℕ → ℕ → Waiting
-      row j k = record { caller = a; callee = j; service = k }
+  wait-rows-are a n = only-pairs (λ j k. record { caller = a; callee = j; service = k }) (λ j k. t .grants j n k) (upto (L .services)) (upto (L .packages))
 
 -- ---- the rows of a list that stay, by a count and a mask
 part-le : (a o x y l : ℕ) → a ≡ l → o ≡ y → x + y ≡ l → o ≤ a

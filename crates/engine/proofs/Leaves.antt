@@ -3,25 +3,22 @@ use Prim.Native.Nat.{ℕ, zero, suc, _+_, _-_, _≤_, _<_}
 use native.Mathlib.Omega.{arith}
 use native.Mathlib.Nat.{add-zero, zero-add, add-assoc}
 use mathlib.Core.Path.{_≡_, refl, sym, ap, ap₂, _∙_}
-use mathlib.Core.Bool.{Bool, true, false, not, _&&_, cond}
-use mathlib.Core.List.{List, [], _∷_, _++_, map, append-nil, append-assoc}
+use mathlib.Core.Bool.{Bool, true, false, not, cond}
+use mathlib.Core.List.{List, [], _∷_, _++_, map, append-nil}
 use mathlib.Core.List.{List·Memᴰ as In, List·Memᴰ·head as here, List·Memᴰ·tail as there}
-use lib.Dec.{eqb, eqb·suc-zero}
 use lib.ListN.{length, length-append}
-use Rattle.policy.specs.Lists.{every, keep, flat, upto}
+use Rattle.policy.specs.Lists.{keep, flat, upto}
 use Rattle.policy.specs.ShortCheck.{count, sum}
+use Rattle.policy.proofs.Sets.{flat-append, flat-ext, pairs}
+use Rattle.policy.proofs.ShortRemove.{length-pairs}
 use Rattle.bits.proofs.Loops.{upto-split}
 use Rattle.engine.specs.Removals.{only}
 
 -- ---- lists
 module _ {A : Type 0} (h : ℕ → List A) where
-  flat-append : (l m : List ℕ) → flat h (l ++ m) ≡ flat h l ++ flat h m
-  flat-append [] m = refl
-  flat-append (x ∷ l) m = ap (λ (z : List A). h x ++ z) (flat-append l m) ∙ sym (append-assoc (h x) (flat h l) (flat h m))
-
   -- one number more
   pub flat-snoc : (i : ℕ) → flat h (upto (i + 1)) ≡ flat h (upto i) ++ h i
-  flat-snoc i = ap (flat h) (upto-split i 1) ∙ flat-append (upto i) (i ∷ []) ∙ ap (λ (z : List A). flat h (upto i) ++ z) (append-nil (h i))
+  flat-snoc i = ap (flat h) (upto-split i 1) ∙ flat-append h (upto i) (i ∷ []) ∙ ap (λ (z : List A). flat h (upto i) ++ z) (append-nil (h i))
 
   length-snoc : (i : ℕ) → length (flat h (upto (i + 1))) ≡ length (flat h (upto i)) + length (h i)
   length-snoc i = ap length (flat-snoc i) ∙ length-append (flat h (upto i)) (h i)
@@ -44,14 +41,6 @@ module _ {A : Type 0} (h : ℕ → List A) where
       let z = ap (λ (x : ℕ). length (flat h (upto x))) q in
       omega arith
 
-  length-flat : (l : List ℕ) → length (flat h l) ≡ sum (λ i. length (h i)) l
-  length-flat [] = refl
-  length-flat (x ∷ l) = length-append (h x) (flat h l) ∙ ap (λ (n : ℕ). length (h x) + n) (length-flat l)
-
-pub flat-ext : {A : Type 0} (g h : ℕ → List A) (l : List ℕ) → ((x : ℕ) → In x l → g x ≡ h x) → flat g l ≡ flat h l
-flat-ext g h [] e = refl
-flat-ext {A} g h (x ∷ l) e = ap₂ (λ (a b : List A). a ++ b) (e x (here refl)) (flat-ext g h l (λ y m. e y (there m)))
-
 -- what is kept, row by row
 pub only-keep : {A : Type 0} (f : ℕ → Bool) (g : ℕ → A) (l : List ℕ) → flat (λ k. only (f k) (g k)) l ≡ map g (keep f l)
 only-keep f g [] = refl
@@ -59,14 +48,6 @@ only-keep {A} f g (x ∷ l) = go (f x) (only-keep f g l)
   where
     go : (b : Bool) → flat (λ k. only (f k) (g k)) l ≡ map g (keep f l) → only b (g x) ++ flat (λ k. only (f k) (g k)) l ≡ map g (cond b (x ∷ keep f l) (keep f l))
     go true e = ap (λ (z : List A). g x ∷ z) e
-    go false e = e
-
-length-only : {A : Type 0} (f : ℕ → Bool) (g : ℕ → A) (l : List ℕ) → length (flat (λ k. only (f k) (g k)) l) ≡ count f l
-length-only f g [] = refl
-length-only {A} f g (x ∷ l) = go (f x) (length-only f g l)
-  where
-    go : (b : Bool) → length (flat (λ k. only (f k) (g k)) l) ≡ count f l → length (only b (g x) ++ flat (λ k. only (f k) (g k)) l) ≡ length (cond b (x ∷ keep f l) (keep f l))
-    go true e = ap suc e
     go false e = e
 
 -- ---- sums
@@ -82,33 +63,13 @@ pub sum-ext : (f g : ℕ → ℕ) (l : List ℕ) → ((x : ℕ) → In x l → f
 sum-ext f g [] e = refl
 sum-ext f g (x ∷ l) e = ap₂ (λ (a b : ℕ). a + b) (e x (here refl)) (sum-ext f g l (λ y m. e y (there m)))
 
--- the rows of pairs of numbers are as many as the pairs that pass
-pub length-pairs : {A : Type 0} (f : ℕ → ℕ → Bool) (g : ℕ → ℕ → A) (l m : List ℕ)
-    → length (flat (λ i. flat (λ k. only (f i k) (g i k)) l) m) ≡ sum (λ i. count (f i) l) m
-length-pairs f g l m = length-flat (λ i. flat (λ k. only (f i k) (g i k)) l) m ∙ sum-ext (λ i. length (flat (λ k. only (f i k) (g i k)) l)) (λ i. count (f i) l) m (λ i _. length-only (f i) (g i) l)
+-- the rows of pairs of numbers, and how many they are
+module _ {A : Type 0} (g : ℕ → ℕ → A) (f : ℕ → ℕ → Bool) (l m : List ℕ) where
+  pub only-pairs : flat (λ i. flat (λ k. only (f i k) (g i k)) l) m ≡ pairs g f l m
+  only-pairs = flat-ext (λ i. flat (λ k. only (f i k) (g i k)) l) (λ i. map (g i) (keep (f i) l)) m (λ i _. only-keep (f i) (g i) l)
 
--- ---- none
-none-pass : {A : Type 0} (f : A → Bool) (l : List A) → eqb (count f l) 0 ≡ every (λ x. not (f x)) l
-none-pass f [] = refl
-none-pass f (x ∷ l) = go (f x) (none-pass f l)
-  where
-    go : (b : Bool) → eqb (count f l) 0 ≡ every (λ x. not (f x)) l → eqb (length (cond b (x ∷ keep f l) (keep f l))) 0 ≡ not b && every (λ x. not (f x)) l
-    go true e = eqb·suc-zero (length (keep f l))
-    go false e = e
-
-zero-sum : (a b : ℕ) → eqb (a + b) 0 ≡ eqb a 0 && eqb b 0
-zero-sum zero b = ap (λ (n : ℕ). eqb n 0) (zero-add b)
-zero-sum (suc a) b = let e : suc a + b ≡ suc (a + b) = omega arith in ap (λ (n : ℕ). eqb n 0) e ∙ eqb·suc-zero (a + b) ∙ ap (λ (z : Bool). z && eqb b 0) (sym (eqb·suc-zero a))
-
-none-sum : (f : ℕ → ℕ) (l : List ℕ) → eqb (sum f l) 0 ≡ every (λ i. eqb (f i) 0) l
-none-sum f [] = refl
-none-sum f (x ∷ l) = zero-sum (f x) (sum f l) ∙ ap (λ (b : Bool). eqb (f x) 0 && b) (none-sum f l)
-
-pub none-pairs : (f : ℕ → ℕ → Bool) (l m : List ℕ) → eqb (sum (λ i. count (f i) l) m) 0 ≡ every (λ i. every (λ k. not (f i k)) l) m
-none-pairs f l m = none-sum (λ i. count (f i) l) m ∙ (λ z. every (λ i. none-pass (f i) l z) m)
-
-pub none-count : (f : ℕ → Bool) (l : List ℕ) → eqb (count f l) 0 ≡ every (λ i. not (f i)) l
-none-count f l = none-pass f l
+  pub length-only : length (flat (λ i. flat (λ k. only (f i k) (g i k)) l) m) ≡ sum (λ i. count (f i) l) m
+  length-only = ap length only-pairs ∙ length-pairs g f l m
 
 -- those that do not pass, by those that do
 pub count-others : {A : Type 0} (f : A → Bool) (l : List A) → count (λ x. not (f x)) l + count f l ≡ length l

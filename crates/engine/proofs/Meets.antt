@@ -14,15 +14,15 @@ use Rattle.policy.specs.Layout.{Layout}
 use Rattle.policy.specs.Tables.{Tables, Unmet, bit, decode}
 use Rattle.policy.specs.Lookup.{numberOf}
 use Rattle.policy.specs.Draft.{put3, withCalls, withGrants, addGrantAt}
-use Rattle.policy.proofs.Sets.{false-T}
+use Rattle.policy.proofs.Sets.{false-T, in-row}
 use Rattle.image.specs.Laid.{Laid, withWaiting}
 use Rattle.image.specs.Wrote.{Wrote}
 use Rattle.image.specs.Read.{maskOf, numberOr, noUnmet, unmetRow}
 use Rattle.image.proofs.Numbers.{package-none, package-some}
 use Rattle.record.specs.Meaning.{AidFits, aidIn}
 use Rattle.record.specs.declared.Aid.{Aid as Place}
-use Rattle.engine.specs.Services.{metOne, met, CallersIn, grantedTo}
-use Rattle.engine.proofs.Callers.{in-row, named}
+use Rattle.engine.specs.Services.{metCall, met, CallersIn, grantedTo}
+use Rattle.engine.proofs.Callers.{named}
 use Rattle.engine.proofs.ItemTurns.{Turns, RoomBy, room-here, room-after}
 
 module _ (L : Layout) (f : Unmet → Bool) (j k : ℕ) (img : List ℕ) where
@@ -30,12 +30,12 @@ module _ (L : Layout) (f : Unmet → Bool) (j k : ℕ) (img : List ℕ) where
   t = decode L img
 
   -- ---- one unmet call
-  pub not-met : (b : Bool) (u : Unmet) → b ≡ f u → not b ≡ true → Laid L img → Wrote L img (metOne f j k u t)
+  pub not-met : (b : Bool) (u : Unmet) → b ≡ f u → not b ≡ true → Laid L img → Wrote L img (metCall f j k u t)
   not-met false u e n h = record { laid = h; tables = ap (λ (z : Bool). withCalls (cond z (put3 (u .caller) j k true (t .calls)) (t .calls)) (t .unmet) t) e }
   not-met true u e n h = absurd (false-T (sym n) tt)
 
   pub is-met : {img′ : List ℕ} (b : Bool) (u : Unmet) (i : ℕ) → b ≡ f u → not b ≡ false → i ≡ u .caller → Wrote L img′ (withCalls (put3 i j k true (t .calls)) (t .unmet) t)
-      → Wrote L img′ (metOne f j k u t)
+      → Wrote L img′ (metCall f j k u t)
   is-met {img′} true u i e n q w = subst (λ (z : Bool). Wrote L img′ (withCalls (cond z (put3 (u .caller) j k true (t .calls)) (t .calls)) (t .unmet) t)) e
       (subst (λ (m : ℕ). Wrote L img′ (withCalls (put3 m j k true (t .calls)) (t .unmet) t)) q w)
   is-met false u i e n q w = absurd (false-T n tt)
@@ -47,13 +47,13 @@ pub record Meeting (L : Layout) (m j k : ℕ) (t₀ : Tables) (img : List ℕ) (
   pub rest : (f : Unmet → Bool) → m ≡ maskOf f (t₀ .unmet) → met f j k (drop r (t₀ .unmet)) (decode L img) ≡ met f j k (t₀ .unmet) t₀
 
 module _ (L : Layout) (m j k : ℕ) (t₀ : Tables) {img : List ℕ} {r : ℕ} (so : Meeting L m j k t₀ img r) where
-  pub meeting-next : {img′ : List ℕ} → r < length (t₀ .unmet) → Wrote L img′ (metOne (λ _. bit m r) j k (unmetRow (decode L img) r) (decode L img)) → Meeting L m j k t₀ img′ (r + 1)
+  pub meeting-next : {img′ : List ℕ} → r < length (t₀ .unmet) → Wrote L img′ (metCall (λ _. bit m r) j k (unmetRow (decode L img) r) (decode L img)) → Meeting L m j k t₀ img′ (r + 1)
   meeting-next {img′} h w = record {
     laid = w .laid;
     rows = ap (λ (v : Tables). v .unmet) (w .tables) ∙ so .rows;
     rest = λ f e. ap (met f j k (drop (r + 1) (t₀ .unmet))) (w .tables)
-        ∙ ap (λ (l : List Unmet). met f j k (drop (r + 1) (t₀ .unmet)) (metOne (λ _. bit m r) j k (getD l r noUnmet) (decode L img))) (so .rows)
-        ∙ ap (λ (b : Bool). met f j k (drop (r + 1) (t₀ .unmet)) (metOne (λ _. b) j k (getD (t₀ .unmet) r noUnmet) (decode L img))) (named f (t₀ .unmet) m r noUnmet e h)
+        ∙ ap (λ (l : List Unmet). met f j k (drop (r + 1) (t₀ .unmet)) (metCall (λ _. bit m r) j k (getD l r noUnmet) (decode L img))) (so .rows)
+        ∙ ap (λ (b : Bool). met f j k (drop (r + 1) (t₀ .unmet)) (metCall (λ _. b) j k (getD (t₀ .unmet) r noUnmet) (decode L img))) (named f (t₀ .unmet) m r noUnmet e h)
         ∙ ap (λ (l : List Unmet). met f j k l (decode L img)) (sym here)
         ∙ so .rest f e;
   }

@@ -8,7 +8,7 @@ use mathlib.Core.Option.{some}
 use lib.Dec.{T, eqb, eqb→eq, leb→le}
 use lib.ListN.{length}
 use borrow.Author.Needs.{needs}
-use borrow.Author.Tests.{eq-eqb, ne-eqb}
+use borrow.Author.Tests.{le-leb, lt-leb, eq-eqb, ne-eqb}
 use Rattle.policy.specs.Lists.{keep, from, upto}
 use Rattle.policy.specs.Contract.{Aid, Tok}
 use Rattle.policy.specs.Layout.{Layout}
@@ -20,7 +20,8 @@ use Rattle.policy.specs.Draft.{Look, leftBy, removeServiceAt}
 use Rattle.policy.specs.ShortCheck.{count, sum, ones, shortRemoveService}
 use Rattle.policy.specs.Judge.{lookCauses}
 use Rattle.policy.specs.Settled.{settled, Gives}
-use Rattle.bits.proofs.Row.{bit-none, bit-rowOf}
+use Rattle.policy.proofs.Bits.{bit-none, bit-rowOf}
+use Rattle.policy.proofs.ShortRemove.{none-pass}
 use Rattle.rows.specs.Area.{keepRows}
 use Rattle.image.specs.Laid.{withUnmet, withWaiting}
 use Rattle.image.specs.Wrote.{Wrote}
@@ -31,9 +32,9 @@ use Rattle.image.proofs.Clears.{wrote-then}
 use Rattle.engine.specs.Asked.{Asked}
 use Rattle.engine.specs.Removals.{leftRows, RoomWithoutService, listsWithoutService, tablesWithoutService}
 use Rattle.engine.proofs.Appends.{wrote-as}
-use Rattle.engine.proofs.Leaves.{sum-ext, none-count}
+use Rattle.engine.proofs.Leaves.{sum-ext}
 use Rattle.engine.proofs.Counts.{ones-same, left-same, left-length, left-rows-are}
-use Rattle.engine.proofs.Causes.{fits-not, fits-yes, at-9, at-10, at-0}
+use Rattle.engine.proofs.Causes.{at-9, at-10, at-0}
 use Rattle.engine.proofs.Removed.{service-absent, service-missing, service-refused, service-done}
 use Rattle.engine.proofs.Remove.{asked-laid, asked-short, aid-at, gives-as, in-range, is-byte}
 
@@ -114,7 +115,7 @@ module _ (L : Layout) (t : Tables) (low : L .services ≤ 16) (k : ℕ) (within 
       unmetRows = length (t .unmet) + count (λ i. t .calls i j k) (numbers L)
 
       needed-is : eqb x 0 ≡ look .needed
-      needed-is = ap (λ (z : ℕ). eqb z 0) (p ∙ ones-mask (λ i z. t .needs i j z)) ∙ none-count (λ i. t .needs i j k) (upto (L .packages))
+      needed-is = ap (λ (z : ℕ). eqb z 0) (p ∙ ones-mask (λ i z. t .needs i j z)) ∙ none-pass (λ i. t .needs i j k) (upto (L .packages))
 
       pub service-needed : (x ≡ 0 → ⊥) → 9 ≡ answer (lookCauses (shortRemoveService L t j k))
       service-needed h = at-9 L (look .needed) (look .unmetFits) true (sym needed-is ∙ ne-eqb x 0 h)
@@ -127,10 +128,10 @@ module _ (L : Layout) (t : Tables) (low : L .services ≤ 16) (k : ℕ) (within 
         rows-are = ap₂ (λ (x y : ℕ). x + y) q (r ∙ ones-mask (λ i z. t .calls i j z))
 
         pub service-unmet : most < all + left → 10 ≡ answer (lookCauses (shortRemoveService L t j k))
-        service-unmet h = at-10 L (look .needed) (look .unmetFits) true not-needed (fits-not unmetRows (L .capacity) (omega (arith, rows-are)))
+        service-unmet h = at-10 L (look .needed) (look .unmetFits) true not-needed (lt-leb unmetRows (L .capacity) (omega (arith, rows-are)))
 
         pub service-fine : all + left ≤ most → 0 ≡ answer (lookCauses (shortRemoveService L t j k))
-        service-fine h = at-0 L (look .needed) (look .unmetFits) true not-needed (fits-yes unmetRows (L .capacity) (omega (arith, rows-are))) refl
+        service-fine h = at-0 L (look .needed) (look .unmetFits) true not-needed (le-leb unmetRows (L .capacity) (omega (arith, rows-are))) refl
 
 -- an accepted removal has room
 pub service-room : (L : Layout) (t : Tables) (j k m : ℕ) → m ≡ answer (lookCauses (shortRemoveService L t j k)) → m ≡ 0 → RoomWithoutService L t j k

@@ -6,14 +6,15 @@ use mathlib.Core.Bool.{Bool, true, false, not, _&&_}
 use mathlib.Core.List.{List, [], _∷_, _++_, append-nil}
 use lib.ListN.{length, getD}
 use lib.Bits.{bitAnd}
+use borrow.Author.Tests.{not-true, not-false}
 use Rattle.policy.specs.Lists.{keep, flat, upto}
 use Rattle.policy.specs.Contract.{Aid}
 use Rattle.policy.specs.Layout.{Layout}
 use Rattle.policy.specs.Tables.{Tables, Unmet, Waiting, bit, rowOf, decode}
 use Rattle.policy.specs.ShortCheck.{count, sum}
-use Rattle.policy.proofs.Sets.{upto-in, length-keep, length-from}
+use Rattle.policy.proofs.Sets.{length-keep, keep-ext, flat-ext, length-from, upto-in}
 use Rattle.policy.proofs.Bits.{bit-rowOf, rowOf-lt}
-use Rattle.bits.proofs.Loops.{keep-ext, keep-narrow}
+use Rattle.bits.proofs.Loops.{keep-narrow}
 use Rattle.bits.proofs.Row.{bit-and, bit-past}
 use Rattle.geometry.specs.declared.Card.{Card}
 use Rattle.geometry.specs.Geometry.{layoutOf, tokAt}
@@ -22,7 +23,7 @@ use Rattle.image.specs.Laid.{Laid, withUnmet, withWaiting}
 use Rattle.image.specs.Wrote.{Wrote}
 use Rattle.image.proofs.Access.{tok-itf, tok-mth}
 use Rattle.engine.specs.Removals.{only, leftOne, leftRow, waitOne}
-use Rattle.engine.proofs.Leaves.{sum-snoc, flat-ext}
+use Rattle.engine.proofs.Leaves.{sum-snoc}
 use Rattle.engine.proofs.Appends.{wrote-as}
 
 -- ---- a row of bits r of n services under a mask
@@ -66,29 +67,17 @@ module _ (c : Card) (img : List ℕ) (h : Laid (layoutOf c) img) where
 
   pub left-none : (a : Aid) (j i row k : ℕ) (b : Bool) → b ≡ bit row k → not b ≡ true
       → Wrote (layoutOf c) img (withUnmet (t .unmet ++ leftOne t a j i (bit row) k) t)
-  left-none a j i row k b e q = record { laid = h; tables = ap (λ (l : List Unmet). withUnmet l t) (sym (ap (λ (z : Bool). t .unmet ++ only z (record { callee = a; tok = t .tok j k; caller = i })) (sym e ∙ off b q) ∙ append-nil (t .unmet))) }
-    where
-      off : (b : Bool) → not b ≡ true → b ≡ false
-      off true e = sym e
-      off false e = refl
+  left-none a j i row k b e q = record { laid = h; tables = ap (λ (l : List Unmet). withUnmet l t) (sym (ap (λ (z : Bool). t .unmet ++ only z (record { callee = a; tok = t .tok j k; caller = i })) (sym e ∙ not-true b q) ∙ append-nil (t .unmet))) }
 
   pub wait-none : (a : Aid) (j row k : ℕ) (b : Bool) → b ≡ bit row k → not b ≡ true
       → Wrote (layoutOf c) img (withWaiting (t .waiting ++ waitOne a j (bit row) k) t)
-  wait-none a j row k b e q = record { laid = h; tables = ap (λ (l : List Waiting). withWaiting l t) (sym (ap (λ (z : Bool). t .waiting ++ only z (record { caller = a; callee = j; service = k })) (sym e ∙ off b q) ∙ append-nil (t .waiting))) }
-    where
-      off : (b : Bool) → not b ≡ true → b ≡ false
-      off true e = sym e
-      off false e = refl
-
-on : (b : Bool) → not b ≡ false → b ≡ true
-on true e = refl
-on false e = sym e
+  wait-none a j row k b e q = record { laid = h; tables = ap (λ (l : List Waiting). withWaiting l t) (sym (ap (λ (z : Bool). t .waiting ++ only z (record { caller = a; callee = j; service = k })) (sym e ∙ not-true b q) ∙ append-nil (t .waiting))) }
 
 pub only-room : {A : Type 0} (b r : Bool) (x : A) (n most : ℕ) → r ≡ b → not r ≡ false → n + length (only b x) ≤ most → n < most
-only-room b r x n most e q h = let z : length (only b x) ≡ 1 = ap (λ (y : Bool). length (only y x)) (sym e ∙ on r q) in omega arith
+only-room b r x n most e q h = let z : length (only b x) ≡ 1 = ap (λ (y : Bool). length (only y x)) (sym e ∙ not-false r q) in omega arith
 
 pub only-is : {A : Type 0} (b r : Bool) (x y : A) → r ≡ b → not r ≡ false → x ≡ y → (x ∷ []) ≡ only b y
-only-is {A} b r x y e q z = ap (λ (w : A). w ∷ []) z ∙ ap (λ (w : Bool). only w y) (sym (sym e ∙ on r q))
+only-is {A} b r x y e q z = ap (λ (w : A). w ∷ []) z ∙ ap (λ (w : Bool). only w y) (sym (sym e ∙ not-false r q))
 
 module _ (c : Card) (img : List ℕ) (h : Laid (layoutOf c) img) where
   -- the tokens read at a

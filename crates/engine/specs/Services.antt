@@ -35,8 +35,8 @@ metCalls f j k (u ∷ l) b = metCalls f j k l (cond (f u) (put3 (u .caller) j k 
 abbrev pub met : (Unmet → Bool) → ℕ → ℕ → List Unmet → Tables → Tables
 met f j k l t = withCalls (metCalls f j k l (t .calls)) (t .unmet) t
 
-abbrev pub metOne : (Unmet → Bool) → ℕ → ℕ → Unmet → Tables → Tables
-metOne f j k u t = met f j k (u ∷ []) t
+abbrev pub metCall : (Unmet → Bool) → ℕ → ℕ → Unmet → Tables → Tables
+metCall f j k u t = met f j k (u ∷ []) t
 
 -- their callers' numbers are in range
 abbrev pub CallersIn : Layout → List Unmet → Type 0

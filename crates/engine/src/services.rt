@@ -20,7 +20,7 @@ ghost use Rattle.image.specs.Wrote.{Wrote};
 ghost use Rattle.image.specs.Read.{maskOf, numberOr, tokens, unmetRow};
 ghost use Rattle.record.specs.Meaning.{AidFits, Stands, aidIn, itemsIn};
 ghost use Rattle.engine.specs.Asked.{Asked};
-ghost use Rattle.engine.specs.Services.{asks, Named, metOne, met, CallersIn, opened, grantedTo, added, byCallers, addingPlan};
+ghost use Rattle.engine.specs.Services.{asks, Named, metCall, met, CallersIn, opened, grantedTo, added, byCallers, addingPlan};
 use crate::Verdict;
 use geometry::Card;
 use geometry::Table;
@@ -198,7 +198,7 @@ fn meet_call(img: &mut [u8], c: Card, asking: u32, r: usize, j: usize, k: usize)
     requires laid { ⌜ Laid (layoutOf c) (now img) ⌝ }
     requires inside { ⌜ r < length (decode (layoutOf c) (now img) .unmet) ⌝ }
     requires numbers { ⌜ (unmetRow (decode (layoutOf c) (now img)) r .caller < layoutOf c .packages) × (j < layoutOf c .packages) × (k < layoutOf c .services) ⌝ }
-    ensures { λ _. ⌜ Wrote (layoutOf c) (now (img .exit)) (metOne (λ _. bit asking r) j k (unmetRow (decode (layoutOf c) (now (img .entry))) r)
+    ensures { λ _. ⌜ Wrote (layoutOf c) (now (img .exit)) (metCall (λ _. bit asking r) j k (unmetRow (decode (layoutOf c) (now (img .entry))) r)
         (decode (layoutOf c) (now (img .entry)))) ⌝ }
 {
     if !has_row(asking, r) {

@@ -4,6 +4,7 @@ use mathlib.Core.Path.{_≡_, refl, sym, _∙_, subst}
 use mathlib.Core.Bool.{Bool, true, false, not}
 use mathlib.Core.List.{List}
 use lib.Dec.{T}
+use borrow.Author.Tests.{not-true, not-false}
 use Rattle.policy.specs.Layout.{Layout}
 use Rattle.policy.specs.Record.{proper}
 use Rattle.policy.specs.Sound.{sound}
@@ -17,14 +18,13 @@ use Rattle.record.specs.declared.Read.the-variants.{Whole, Malformed}
 use Rattle.record.specs.declared.Record.{Record}
 use Rattle.record.proofs.Header.{parsed-none, parsed-some, parsed-valid}
 use Rattle.engine.specs.Asked.{Asked}
-use Rattle.engine.proofs.Added.{on, off}
 
 -- what a test of the code tells of b, as the code tests `not r`
 passed : {r b : Bool} → r ≡ b → not r ≡ false → T b
-passed {r} e h = true-T (sym e ∙ on r h)
+passed {r} e h = true-T (sym e ∙ not-false r h)
 
 failed : {r b : Bool} → r ≡ b → not r ≡ true → b ≡ false
-failed {r} e h = sym e ∙ off r h
+failed {r} e h = sym e ∙ not-true r h
 
 -- an outcome that is a refusal
 refuses : {o : Out} {img : List ℕ} {n number second : ℕ} → o ≡ refusal n 255 img → (number ≡ n) × (second ≡ 255) → Gives o number second img

@@ -1,11 +1,11 @@
 -- Kind 1: the rows of the loaded package have room, and their services are there, at each of their writes. Assumes nothing.
 use Prim.Native.Nat.{ℕ, _+_, _≤_}
-use mathlib.Core.Path.{_≡_, sym, ap, _∙_, subst}
-use mathlib.Core.Bool.{Bool, true, false, not, _&&_, cond}
-use mathlib.Core.List.{List, [], _∷_, _++_, map}
+use mathlib.Core.Path.{_≡_, sym, subst}
+use mathlib.Core.Bool.{not}
+use mathlib.Core.List.{List, []}
 use lib.Dec.{T}
-use lib.ListN.{length, length-append, length-map}
-use Rattle.policy.specs.Lists.{every, keep, isNil, isSome}
+use lib.ListN.{length}
+use Rattle.policy.specs.Lists.{every, keep, isSome}
 use Rattle.policy.specs.Contract.{Row, Contract, validAid}
 use Rattle.policy.specs.Layout.{Layout}
 use Rattle.policy.specs.Tables.{Tables}
@@ -15,23 +15,10 @@ use Rattle.policy.specs.ShortCheck.{count}
 use Rattle.policy.proofs.Sets.{is-nil, in-every}
 use Rattle.policy.proofs.Formed.{Fitting}
 use Rattle.policy.proofs.LoadNames.{Newcomer}
+use Rattle.policy.proofs.ShortLoad.{none-kept, length-kept}
 use Rattle.loading.specs.Loads.{served, present}
 use Rattle.loading.specs.Writes.{calledAll, grantedAll, joined}
 use Rattle.loading.proofs.OwnRows.{called-is, granted-is, grants-found, strange-same}
-
-module _ {A B : Type 0} where
-  length-more : (l : List B) (g : A → B) (m : List A) → length (l ++ map g m) ≡ length l + length m
-  length-more l g m = length-append l (map g m) ∙ ap (λ (n : ℕ). length l + n) (length-map m g)
-
-  -- nothing is left of those that do not pass
-  all-pass : (f : A → Bool) (g : A → B) (l : List A) → T (isNil (map g (keep (λ x. not (f x)) l))) → T (every f l)
-  all-pass f g [] h = tt
-  all-pass f g (x ∷ l) h = go (f x) (λ q. all-pass f g l q) h
-    where
-      go : (b : Bool) → (T (isNil (map g (keep (λ y. not (f y)) l))) → T (every f l))
-          → T (isNil (map g (cond (not b) (x ∷ keep (λ y. not (f y)) l) (keep (λ y. not (f y)) l)))) → T (b && every f l)
-      go true ih q = ih q
-      go false ih q = absurd q
 
 module _ (L : Layout) (t : Tables) (n : ℕ) (k : Contract) (new : Newcomer L t n k) (valid : T (validAid (k .aid))) where
   abbrev on : Tables
@@ -43,9 +30,6 @@ module _ (L : Layout) (t : Tables) (n : ℕ) (k : Contract) (new : Newcomer L t 
   abbrev granted : Tables
   granted = grantedAll L n (k .grants) called
 
-  abbrev after : Tables
-  after = loadAt L t n k .tables
-
   pub grants-there : T (every (λ x. isSome (serviceOf L called n (x .tok))) (k .grants))
   unfolding serviceOf
   grants-there = subst (λ (v : Tables). T (every (λ x. isSome (serviceOf L v n (x .tok))) (k .grants))) (sym (called-is L t n k new valid))
@@ -53,16 +37,16 @@ module _ (L : Layout) (t : Tables) (n : ℕ) (k : Contract) (new : Newcomer L t 
 
   pub needs-there : loadAt L t n k .lost ≡ [] → T (every (served L granted) (k .needs))
   unfolding numberOf serviceOf serverOf
-  needs-there e = subst (λ (v : Tables). T (every (served L v) (k .needs))) (sym (granted-is L t n k new valid)) (all-pass (served L on) (callRow n) (k .needs) (is-nil e))
+  needs-there e = subst (λ (v : Tables). T (every (served L v) (k .needs))) (sym (granted-is L t n k new valid)) (subst T (none-kept (served L on) (callRow n) (k .needs)) (is-nil e))
 
   module _ (fit : Fitting L (loadAt L t n k .tables)) where
     pub calls-room : length (on .unmet) + count (λ x. not (served L on x)) (k .calls) ≤ L .capacity
     unfolding numberOf serviceOf serverOf
-    calls-room = subst (λ (m : ℕ). m ≤ L .capacity) (length-more (on .unmet) (callRow n) (keep (λ x. not (served L on x)) (k .calls))) (fit .unmet-fits)
+    calls-room = subst (λ (m : ℕ). m ≤ L .capacity) (length-kept (on .unmet) (callRow n) (keep (λ x. not (served L on x)) (k .calls))) (fit .unmet-fits)
 
     pub grants-room : length (called .waiting) + count (λ x. not (present L called (x .aid))) (k .grants) ≤ L .capacity
     unfolding numberOf serviceOf
     grants-room = subst (λ (v : Tables). length (v .waiting) + count (λ x. not (present L v (x .aid))) (k .grants) ≤ L .capacity) (sym (called-is L t n k new valid))
         (subst (λ (l : List Row). length (on .waiting) + length l ≤ L .capacity) (sym (strange-same L t n k new valid))
         (subst (λ (m : ℕ). m ≤ L .capacity)
-        (length-more (on .waiting) (λ (r : Row). record { caller = r .aid; callee = n; service = loadedService L t n k (r .tok) }) (keep (λ x. not (present L t (x .aid))) (k .grants))) (fit .waiting-fits)))
+        (length-kept (on .waiting) (λ (r : Row). record { caller = r .aid; callee = n; service = loadedService L t n k (r .tok) }) (keep (λ x. not (present L t (x .aid))) (k .grants))) (fit .waiting-fits)))

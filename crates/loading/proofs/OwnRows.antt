@@ -12,13 +12,12 @@ use Rattle.policy.specs.Layout.{Layout}
 use Rattle.policy.specs.Tables.{Tables, Unmet, Waiting}
 use Rattle.policy.specs.Lookup.{Place, serviceAt, numberOf, serviceOf, serverOf}
 use Rattle.policy.specs.Draft.{callRow, hasUnmet, hasWaiting, put3, withCalls, withGrants, withNeeds, addCallAt, addGrantAt, addNeedAt, namedIn, loadedService, loadAt}
-use Rattle.policy.proofs.Sets.{T-eq, T-false, false-T, and-l, and-r, and-i}
+use Rattle.policy.proofs.Sets.{T-eq, T-false, false-T, and-l, and-r, and-i, keep-ext}
 use Rattle.policy.proofs.Equal.{eqAid→, eqAid-of, eqb-of, eqTok→, eqTok-of, row-path, eqRow→, eqRow-refl, has-row}
 use Rattle.policy.proofs.Put.{at-old, by-number}
 use Rattle.policy.proofs.Formed.{Names}
 use Rattle.policy.proofs.Found.{NumberIs, ServiceIs, ServerIs, number-is, service-is, server-is, same-place}
 use Rattle.policy.proofs.LoadNames.{Newcomer, Loaded, loaded, in-tok, names-loaded}
-use Rattle.bits.proofs.Loops.{keep-ext}
 use Rattle.loading.specs.Loads.{served, present}
 use Rattle.loading.specs.Writes.{calledAll, grantedAll, neededAll, joined}
 

@@ -11,12 +11,12 @@ use Rattle.policy.specs.Layout.{Layout}
 use Rattle.policy.specs.Tables.{Tables, Unmet, Waiting, decode}
 use Rattle.policy.specs.Lookup.{serviceOf}
 use Rattle.policy.specs.Draft.{put3}
+use Rattle.policy.proofs.Sets.{in-row}
 use Rattle.image.specs.Laid.{Laid}
 use Rattle.image.specs.Wrote.{Wrote}
 use Rattle.image.specs.Read.{numberOr, tokens, noUnmet, unmetRow, noWaiting, waitingRow}
 use Rattle.engine.specs.Services.{CallersIn}
 use Rattle.loading.specs.Writes.{dueRows, dueOne, GrantsIn, serviceNumber, metRows, metOne, CallOn}
-use Rattle.engine.proofs.Callers.{in-row}
 
 -- ---- one row: f gives the tables with new bits, b are the old ones, d says whether the mask names the row
 module _ (L : Layout) (f : (ℕ → ℕ → ℕ → Bool) → Tables) (b : ℕ → ℕ → ℕ → Bool) (i n k : ℕ) {img : List ℕ} (v : Bool) {d : Bool} (e : v ≡ d) where

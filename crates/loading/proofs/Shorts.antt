@@ -20,13 +20,12 @@ use Rattle.policy.specs.Sound.{sound}
 use Rattle.policy.specs.Draft.{Look, hasWaiting}
 use Rattle.policy.specs.ShortCheck.{newcomerRights, othersRights, shortLoad, shortLook}
 use Rattle.policy.specs.Judge.{lookCauses}
-use Rattle.policy.proofs.Sets.{T-true, true-T, false-T}
+use Rattle.policy.proofs.Sets.{T-true, true-T, false-T, in-row}
 use Rattle.policy.proofs.Formed.{Formed, Fitting}
 use Rattle.policy.proofs.SoundFacts.{sound-formed, sound-fitting}
 use Rattle.image.specs.Read.{maskOf, noUnmet, unmetRow}
 use Rattle.image.proofs.Masks.{mask-bit, mask-zero, zero-mask, mask-and, mask-count}
 use Rattle.loading.specs.Loads.{meets, waitsFor, served, present, waitsAt, callGranted, grantFits, othersGranted, loadLook, loadCause}
-use Rattle.engine.proofs.Callers.{in-row}
 use Rattle.engine.proofs.Planned.{waiting-same}
 
 -- ---- a list by the numbers of its elements

@@ -13,7 +13,7 @@ use Rattle.policy.specs.Layout.{Layout, unmetAt, waitingAt}
 use Rattle.policy.specs.Tables.{Tables, bit, rowOf, writeTok, decode}
 use Rattle.policy.specs.Sound.{sound}
 use Rattle.policy.specs.Judge.{aidBytes}
-use Rattle.policy.proofs.Sets.{false-T}
+use Rattle.policy.proofs.Sets.{false-T, in-row}
 use Rattle.policy.proofs.Bits.{bit-rowOf}
 use Rattle.policy.proofs.SoundFacts.{sound-formed}
 use Rattle.geometry.specs.declared.Card.{Card}
@@ -26,7 +26,6 @@ use Rattle.image.specs.Read.{aidIn, tokensIn, noUnmet, unmetRow, noWaiting, wai
 use Rattle.image.proofs.Laid.{sound-laid}
 use Rattle.image.proofs.Access as at
 use Rattle.image.proofs.Seen.{aid-held, laid-size}
-use Rattle.engine.proofs.Callers.{in-row}
 use Rattle.readout.specs.Parts.{Put, given, server, bitBytes, unmetBytes, waitingBytes, tokBytes}
 use Rattle.readout.proofs.Writers.{put-nothing}
 

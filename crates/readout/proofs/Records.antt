@@ -16,17 +16,17 @@ use Rattle.policy.specs.Lookup.{contractAt, wanted, grantAt}
 use Rattle.policy.specs.Sound.{sound}
 use Rattle.policy.specs.Judge.{Out, refusal, aidBytes, rowBytes, loadRecord, readOut}
 use Rattle.policy.specs.Settled.{Gives}
-use Rattle.policy.proofs.Sets.{T-true, true-T, and-l, length-flat-le, length-from, upto-in}
+use Rattle.policy.proofs.Sets.{T-true, true-T, and-l, length-flat-le, length-from, upto-in, in-row}
 use Rattle.policy.proofs.Bits.{bit-rowOf, length-number}
 use Rattle.geometry.specs.declared.Card.{Card}
 use Rattle.geometry.specs.declared.Card.the-variants.{Small}
 use Rattle.geometry.specs.declared.Table.{Table}
 use Rattle.geometry.specs.declared.Table.the-variants.{Calls, Grants, Needs}
 use Rattle.geometry.specs.Geometry.{layoutOf, aidAt}
-use Rattle.image.specs.Laid.{Room, Laid, tableOf}
+use Rattle.policy.proofs.Formed.{Room}
+use Rattle.image.specs.Laid.{Laid, tableOf}
 use Rattle.image.specs.Read.{aidIn, noUnmet, unmetRow, noWaiting, waitingRow}
 use Rattle.image.proofs.Laid.{sound-laid}
-use Rattle.engine.proofs.Callers.{in-row}
 use Rattle.readout.specs.Parts.{Put, Short, given, bitRow, bitBytes, columnBytes, tableBytes, tableRows, unmetBytes, waitingBytes, tokBytes, provideBytes, callBytes, grantBytes, needBytes, rowLists, bodyBytes}
 use Rattle.readout.proofs.Writers.{Shorts, three-short, two-put}
 use Rattle.readout.proofs.Placed.{aid-here}

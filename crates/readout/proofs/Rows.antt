@@ -11,12 +11,12 @@ use Rattle.policy.specs.Layout.{Layout}
 use Rattle.policy.specs.Tables.{Tables, Unmet, Waiting, bit, writeNumber, writeTok}
 use Rattle.policy.specs.Lookup.{wanted, grantAt, contractAt}
 use Rattle.policy.specs.Judge.{rowBytes, rowsBytes}
+use Rattle.policy.proofs.Sets.{flat-append}
 use Rattle.policy.proofs.Written.{number-append}
 use Rattle.geometry.specs.declared.Table.{Table}
 use Rattle.geometry.specs.declared.Table.the-variants.{Calls, Grants, Needs}
 use Rattle.image.specs.Laid.{tableOf}
 use Rattle.image.specs.Read.{maskOf, noUnmet, noWaiting}
-use Rattle.image.proofs.Swap.{flat-append}
 use Rattle.image.proofs.Masks.{mask-count}
 use Rattle.readout.specs.Parts.{Short, given, bitRow, bitBytes, tableBytes, tableRows, unmetBytes, waitingBytes, tokBytes, provideBytes, callBytes, grantBytes, needBytes}
 use Rattle.readout.proofs.Writers.{Shorts, two-short, three-short}

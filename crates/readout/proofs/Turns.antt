@@ -8,9 +8,8 @@ use lib.ListN.{length, length-append}
 use borrow.Author.Needs.{needs}
 use Rattle.policy.specs.Lists.{keep, flat, upto}
 use Rattle.policy.specs.Tables.{bit, rowOf}
-use Rattle.policy.proofs.Sets.{length-keep, length-from, upto-in}
+use Rattle.policy.proofs.Sets.{length-keep, length-from, upto-in, keep-ext}
 use Rattle.policy.proofs.Bits.{rowOf-lt, bit-rowOf}
-use Rattle.bits.proofs.Loops.{keep-ext}
 use Rattle.bits.proofs.Row.{keep-row}
 use Rattle.engine.proofs.Leaves.{flat-snoc, flat-room}
 use Rattle.readout.specs.Parts.{Put, Short}

@@ -2,7 +2,8 @@
 use denote.Ref.{now}
 use Rattle.policy.specs.Record.{aid}
 use Rattle.record.specs.Meaning.{itemsIn}
-use Rattle.engine.proofs.Added.{plan-add, on, adding}
+use borrow.Author.Tests.{not-false}
+use Rattle.engine.proofs.Added.{plan-add, adding}
 use Rattle.engine.proofs.services.plan_adding.Statement.{statement}
 use Rattle.engine.proofs.services.plan_adding.Tie as tie
 
@@ -22,4 +23,4 @@ plan-adding-spec =
     let p = h .before .before in
     let s = p .before .before .before .before .before .before in
     plan-add _ _ _ _ (itemsIn aid (now (s .args .rec)) (s .args .callers)) _ _ _ (p .before .before .packages .ensures) (p .before .services .ensures) (p .find-package .ensures) (h .before .if1 .left) _ (h .find-service .ensures) (f .before .if2 .left) _ (f .free-service .ensures)
-    (g .before .if3 .left) _ (g .all-granted .ensures _ (s .pre .1 .1)) (on _ (c .before .before .if4 .left)) _ (c .before .callers-fit .ensures) (on _ (c .if5 .left))))
+    (g .before .if3 .left) _ (g .all-granted .ensures _ (s .pre .1 .1)) (not-false _ (c .before .before .if4 .left)) _ (c .before .callers-fit .ensures) (not-false _ (c .if5 .left))))
