@@ -6,7 +6,7 @@ use lib.ListN.{length}
 use Rattle.policy.specs.Contract.{Aid, Tok}
 use Rattle.policy.specs.Layout.{Layout}
 use Rattle.policy.specs.Record.{addService}
-use Rattle.policy.specs.Tables.{Tables, decode}
+use Rattle.policy.specs.Tables.{decode}
 use Rattle.policy.specs.Judge.{Out}
 use Rattle.policy.specs.ShortCheck.{count, notInstalled}
 use Rattle.policy.specs.Settled.{settled, Gives}
@@ -14,21 +14,15 @@ use Rattle.policy.proofs.Formed.{Formed}
 use Rattle.policy.proofs.SoundFacts.{sound-formed}
 use Rattle.image.specs.Wrote.{Wrote}
 use Rattle.engine.specs.Asked.{Asked}
-use Rattle.engine.specs.Services.{CallersIn, added, addingPlan, addingDone}
+use Rattle.engine.specs.Services.{added, addingPlan, addingDone}
 use Rattle.engine.specs.declared.services.Adding.{Adding}
 use Rattle.engine.specs.declared.services.Adding.the-variants.{Refuse, Add}
 use Rattle.engine.proofs.Settling.{settled-adding, PlanFits, plan-fits}
 use Rattle.engine.proofs.Edits.{accepted-gives}
 
 module _ (L : Layout) (img : List ℕ) (a : Aid) (s : Tok) (l : List Aid) (ask : Asked L img a (addService s l)) where
-  abbrev t : Tables
-  t = decode L img
-
   formed : Formed L (decode L img)
   formed = sound-formed L img (ask .is-sound)
-
-  pub callers-in : CallersIn L (decode L img .unmet)
-  callers-in u m = formed .names .used-lt (u .caller) (formed .unmet .off .off-used u m)
 
   module _ (plan : Adding) (e : plan ≡ addingPlan L (decode L img) a s l) where
     settled-as : {q : Adding} → plan ≡ q → settled L img a (addService s l) ≡ addingDone L img a s l q

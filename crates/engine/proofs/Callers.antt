@@ -27,7 +27,7 @@ use Rattle.image.proofs.Numbers.{package-none, package-some}
 use Rattle.record.specs.Meaning.{itemsIn, Uncons}
 use Rattle.record.specs.declared.Items.{Items}
 use Rattle.record.proofs.Loops.{Todo, todo-next, todo-cons, todo-end}
-use Rattle.engine.specs.Services.{byCallers}
+use Rattle.engine.specs.Services.{CallersIn, byCallers}
 
 -- ---- an AID that no package has
 module _ (L : Layout) (t : Tables) (a : Bytes) (n r : ℕ) (e : n ≡ L .packages) (q : r ≡ numberOr (L .packages) (numberOf L t a)) where
@@ -112,7 +112,10 @@ module _ {A : Type 0} {p : Reader A} {s : List ℕ} {todo rest : Items} (f : A �
   room-next k = todo-next h u (λ l. leb (length (keep f l)) (left - boolByte r))
       (leb-same (length (keep f (x ∷ later))) left (length (keep f later)) (left - boolByte r) (λ z. omega (arith, passing)) (λ z. omega (arith, passing)))
 
--- ---- the caller of an unmet call of a sound image is a used package
+-- ---- the callers of the unmet calls of a sound image are used packages
+pub callers-in : (L : Layout) (img : List ℕ) → T (sound L img) → CallersIn L (decode L img .unmet)
+callers-in L img ok u m = let f = sound-formed L img ok in f .names .used-lt (u .caller) (f .unmet .off .off-used u m)
+
 pub caller-used : (L : Layout) (img : List ℕ) → T (sound L img) → (r n : ℕ) → r < length (decode L img .unmet) → n ≡ unmetRow (decode L img) r .caller
     → (n < L .packages) × T (decode L img .used n)
 caller-used L img ok r n h e =

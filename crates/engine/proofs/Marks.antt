@@ -8,13 +8,22 @@ use Rattle.policy.specs.Lists.{exists}
 use Rattle.policy.specs.Contract.{Aid, Tok}
 use Rattle.policy.specs.Tables.{Unmet}
 use Rattle.policy.specs.Draft.{put3, hasUnmet}
-use Rattle.policy.proofs.Sets.{T-eq}
+use Rattle.policy.proofs.Sets.{T-eq, false-T}
 use Rattle.policy.proofs.Equal.{eqb-of}
 use Rattle.engine.specs.Services.{asks, metCalls}
 use Rattle.engine.proofs.Planned.{unmet-same}
 
 pub eqb-flip : (m n : ℕ) → eqb m n ≡ eqb n m
 eqb-flip m n = T-eq (eqb m n) (eqb n m) (λ h. eqb-of (sym (eqb→eq m n h))) (λ h. eqb-of (sym (eqb→eq n m h)))
+
+-- ---- a bit beside nothing, and one more that does not count: u is that a place may, s that it does
+pub or-none : (b : Bool) {c : Bool} → c ≡ false → b ≡ b || c
+or-none b e = sym (ap (λ (z : Bool). b || z) e ∙ or-false b)
+
+pub row-off : (u s e : Bool) → false ≡ u && s → u && e ≡ u && (s || e)
+row-off true true e h = absurd (false-T (sym h) tt)
+row-off true false e h = refl
+row-off false s e h = refl
 
 -- ---- bits set in column j, for the elements that pass
 module _ {A : Type 0} (f : A → Bool) (row service : A → ℕ) (j : ℕ) where
@@ -26,7 +35,7 @@ module _ {A : Type 0} (f : A → Bool) (row service : A → ℕ) (j : ℕ) where
   marks x z l = exists (λ u. f u && (eqb (row u) x && eqb (service u) z)) l
 
   pub marked-is : (l : List A) (b : ℕ → ℕ → ℕ → Bool) (x y z : ℕ) → marked l b x y z ≡ b x y z || (eqb y j && marks x z l)
-  marked-is [] b x y z = sym (ap (λ (c : Bool). b x y z || c) (and-false (eqb y j)) ∙ or-false (b x y z))
+  marked-is [] b x y z = or-none (b x y z) (and-false (eqb y j))
   marked-is (u ∷ l) b x y z = marked-is l (cond (f u) (put3 (row u) j (service u) true b) b) x y z ∙ go (f u) (marks x z l)
     where
       more : (p q r b e : Bool) → cond (p && q && r) true b || (q && e) ≡ b || (q && (p && r || e))

@@ -1,7 +1,7 @@
 -- The plan of kind 3 comes to its outcome: the writes, one after another, give the tables of the draft. Assumes nothing.
 use Prim.Native.Nat.{ℕ, _+_, _≤_, _<_}
 use mathlib.Core.Path.{_≡_, refl, sym, ap, _∙_, subst}
-use mathlib.Core.Bool.{Bool, true, false, not, _&&_, _||_, cond, and-assoc}
+use mathlib.Core.Bool.{Bool, true, false, not, _&&_, _||_, cond, and-false, and-assoc}
 use mathlib.Core.List.{List, [], _∷_, _++_, map, append-assoc, append-nil}
 use mathlib.Core.Option.{Option, none, some}
 use lib.Dec.{T, eqb, eqb→eq, leb→le}
@@ -17,7 +17,7 @@ use Rattle.policy.specs.Draft.{Look, kept, draft, numberFor, put3, withCalls, w
 use Rattle.policy.specs.ShortCheck.{count, fits, notInstalled, fine, shortLook, shortAddService}
 use Rattle.policy.specs.Judge.{Out, lookCauses, judged}
 use Rattle.policy.specs.Settled.{settled}
-use Rattle.policy.proofs.Sets.{T-eq, T-false, true-T, false-T, and-l, and-r, and-i}
+use Rattle.policy.proofs.Sets.{T-eq, T-false, true-T, and-l, and-r, and-i}
 use Rattle.policy.proofs.Equal.{eqAid→, eqAid-of, eqb-of}
 use Rattle.policy.proofs.Formed.{Names, Formed}
 use Rattle.policy.proofs.Found.{NumberIs, FreeIs, number-is, free-service-is}
@@ -28,17 +28,9 @@ use Rattle.engine.specs.Services.{asks, metCalls, opened, grantedTo, ser
 use Rattle.engine.specs.declared.services.Adding.{Adding}
 use Rattle.engine.specs.declared.services.Adding.the-variants.{Refuse, Add}
 use Rattle.engine.proofs.Planned.{firstOf, settled-by}
-use Rattle.engine.proofs.Marks.{eqb-flip, met-one}
+use Rattle.engine.proofs.Marks.{eqb-flip, or-none, row-off, met-one}
 
 -- ---- the grants, each a bit or a row that waits
-no-more : (p q b : Bool) → b ≡ b || (p && q && false)
-no-more true true true = refl
-no-more true true false = refl
-no-more true false true = refl
-no-more true false false = refl
-no-more false q true = refl
-no-more false q false = refl
-
 more-grants : (p q r b u v e : Bool) → q ≡ u && v → cond (p && q && r) true b || (p && r && (u && e)) ≡ b || (p && r && (u && (v || e)))
 more-grants false q r b u v e h = refl
 more-grants true q r b u v e h = ap (λ (z : Bool). cond (z && r) true b || (r && (u && e))) h ∙ go r b u v
@@ -52,14 +44,8 @@ more-grants true q r b u v e h = ap (λ (z : Bool). cond (z && r) true b || (r &
     go false b true false = refl
     go false b false v = refl
 
-not-held : (u v e : Bool) → false ≡ u && v → u && e ≡ u && (v || e)
-not-held true true e h = absurd (false-T (sym h) tt)
-not-held true false e h = refl
-not-held false v e h = refl
-
 none-granted : (p r u b : Bool) → b ≡ b || (p && r && (u && false))
-none-granted p r true b = no-more p r b
-none-granted p r false b = no-more p r b
+none-granted p r u b = or-none b (ap (λ (z : Bool). p && r && z) (and-false u) ∙ and-false (p && r))
 
 module _ (L : Layout) (t : Tables) (names : Names L (t .used) (t .aid) (t .tok) (t .provides)) where
   -- the package with an AID, by its number
@@ -102,7 +88,7 @@ module _ (L : Layout) (t : Tables) (names : Names L (t .used) (t .aid) (t .tok) 
             → grantedTo L j k l (addGrantAt L (withGrants g w v) j a k o .tables)
             ≡ withGrants (bitsFor g (λ y. eqAid (t .aid y) a || exists (eqAid (t .aid y)) l)) (w ++ map waits (cond (not (isSome o)) (a ∷ late l) (late l))) v
         go none h ih = ih g (w ++ (waits a ∷ []))
-            ∙ (λ i. withGrants (λ x y z. g x y z || (eqb x j && eqb z k && not-held (t .used y) (eqAid (t .aid y) a) (exists (eqAid (t .aid y)) l) (holder-is a y none h) i))
+            ∙ (λ i. withGrants (λ x y z. g x y z || (eqb x j && eqb z k && row-off (t .used y) (eqAid (t .aid y) a) (exists (eqAid (t .aid y)) l) (holder-is a y none h) i))
             (append-assoc w (waits a ∷ []) (map waits (late l)) i) v)
         go (some n) h ih = ih (put3 j n k true g) w
             ∙ (λ i. withGrants (λ x y z. more-grants (eqb x j) (eqb y n) (eqb z k) (g x y z) (t .used y) (eqAid (t .aid y) a) (exists (eqAid (t .aid y)) l) (holder-is a y (some n) h) i)

@@ -20,8 +20,6 @@ pub record Limits (c : Card) : Type 0 where
   pub packages-low : layoutOf c .packages ≤ 16
   pub services-low : layoutOf c .services ≤ 16
   pub capacity-low : layoutOf c .capacity ≤ 32
-  pub rows-low : layoutOf c .mostRows ≤ 272
-  pub callers-low : layoutOf c .mostCallers ≤ 64
   pub size-low : size (layoutOf c) ≤ 4096
   pub used-in : usedAt (layoutOf c) + layoutOf c .width ≤ size (layoutOf c)
 

@@ -69,7 +69,7 @@ module _ (c : Card) (img : List ℕ) (h : Laid (layoutOf c) img) where
     pub callee-short : getD img a 0 ≤ 16
     callee-short = omega (arith, callee-length, at.callee-short (layoutOf c) (layout-ok c) h r noUnmet p)
 
-    callee-seen : aidIn img a ≡ unmetRow t r .callee
+    pub callee-seen : aidIn img a ≡ unmetRow t r .callee
     callee-seen =
         aid-held img a (unmetRow t r .callee) callee-length
         (ap (λ (x : ℕ). take (length (unmetRow t r .callee)) (drop (x + 1) img)) q ∙ at.unmet-bytes (layoutOf c) (layout-ok c) h r noUnmet p)
@@ -83,7 +83,7 @@ module _ (c : Card) (img : List ℕ) (h : Laid (layoutOf c) img) where
     pub mth-seen : (n : ℕ) → n ≡ getD img (a + 18) 0 → n ≡ unmetRow (decode (layoutOf c) img) r .tok .mth
     mth-seen n e = e ∙ ap (λ (x : ℕ). getD img (x + 18) 0) q ∙ at.unmet-mth (layoutOf c) (layout-ok c) h r noUnmet p
 
-    tok-seen : tokensIn img (a + 17) ≡ unmetRow t r .tok
+    pub tok-seen : tokensIn img (a + 17) ≡ unmetRow t r .tok
     tok-seen = λ i. record { itf = itf-seen (getD img (a + 17) 0) refl i; mth = mth-seen (getD img (a + 17 + 1) 0) (ap (λ (x : ℕ). getD img x 0) (add-assoc a 17 1)) i }
 
     pub by-seen : (n : ℕ) → n ≡ getD img (a + 19) 0 → n ≡ unmetRow (decode (layoutOf c) img) r .caller
@@ -127,7 +127,7 @@ module _ (c : Card) (img : List ℕ) (h : Laid (layoutOf c) img) where
     pub caller-short : getD img a 0 ≤ 16
     caller-short = omega (arith, caller-length, at.caller-short (layoutOf c) (layout-ok c) h r noWaiting p)
 
-    caller-seen : aidIn img a ≡ waitingRow t r .caller
+    pub caller-seen : aidIn img a ≡ waitingRow t r .caller
     caller-seen =
         aid-held img a (waitingRow t r .caller) caller-length
         (ap (λ (x : ℕ). take (length (waitingRow t r .caller)) (drop (x + 1) img)) q ∙ at.waiting-bytes (layoutOf c) (layout-ok c) h r noWaiting p)

@@ -95,7 +95,7 @@ module _ (c : Card) (img : List ℕ) (h : Laid (layoutOf c) img) where
 
   -- ---- the AID of a package, in the place at a
   module _ (n a : ℕ) (p : n < layoutOf c .packages) (q : a ≡ aidAt (layoutOf c) n) where
-    aid-seen : aidIn img a ≡ decode (layoutOf c) img .aid n
+    pub aid-seen : aidIn img a ≡ decode (layoutOf c) img .aid n
     aid-seen =
         ap (aidIn img) q
         ∙ aid-held img (aidAt (layoutOf c) n) (decode (layoutOf c) img .aid n) (aid-length (layoutOf c) (layout-ok c) h n p) (aid-bytes (layoutOf c) (layout-ok c) h n p)
@@ -122,7 +122,7 @@ module _ (c : Card) (img : List ℕ) (h : Laid (layoutOf c) img) where
 
   -- ---- package j provides service k, whose tokens are at a
   module _ (j k a : ℕ) (p : j < layoutOf c .packages) (l : k < layoutOf c .services) (q : a ≡ tokAt (layoutOf c) j k) where
-    tokens-seen : tokensIn img a ≡ decode (layoutOf c) img .tok j k
+    pub tokens-seen : tokensIn img a ≡ decode (layoutOf c) img .tok j k
     tokens-seen =
         ap (tokensIn img) q
         ∙ λ i. record { itf = tok-itf (layoutOf c) (layout-ok c) h j k p l i; mth = tok-mth (layoutOf c) (layout-ok c) h j k p l i }

@@ -1,7 +1,7 @@
 -- Kind 1: the rows of the loaded package, written one after another, give the tables of the draft. Assumes nothing.
 use Prim.Native.Nat.{ℕ}
 use mathlib.Core.Path.{_≡_, refl, sym, ap, _∙_, subst}
-use mathlib.Core.Bool.{Bool, true, false, not, _&&_, _||_, cond}
+use mathlib.Core.Bool.{Bool, true, false, not, _&&_, _||_, cond, and-false, and-assoc}
 use mathlib.Core.List.{List, [], _∷_, _++_, map, append-assoc, append-nil}
 use mathlib.Core.List.{List·Memᴰ as In, List·Memᴰ·head as here, List·Memᴰ·tail as there}
 use mathlib.Core.Option.{Option, none, some}
@@ -12,12 +12,13 @@ use Rattle.policy.specs.Layout.{Layout}
 use Rattle.policy.specs.Tables.{Tables, Unmet, Waiting}
 use Rattle.policy.specs.Lookup.{Place, serviceAt, numberOf, serviceOf, serverOf}
 use Rattle.policy.specs.Draft.{callRow, hasUnmet, hasWaiting, put3, withCalls, withGrants, withNeeds, addCallAt, addGrantAt, addNeedAt, namedIn, loadedService, loadAt}
-use Rattle.policy.proofs.Sets.{T-eq, T-false, false-T, and-l, and-r, and-i, keep-ext}
+use Rattle.policy.proofs.Sets.{T-eq, T-false, and-l, and-r, and-i, keep-ext}
 use Rattle.policy.proofs.Equal.{eqAid→, eqAid-of, eqb-of, eqTok→, eqTok-of, row-path, eqRow→, eqRow-refl, has-row}
 use Rattle.policy.proofs.Put.{at-old, by-number}
 use Rattle.policy.proofs.Formed.{Names}
 use Rattle.policy.proofs.Found.{NumberIs, ServiceIs, ServerIs, number-is, service-is, server-is, same-place}
 use Rattle.policy.proofs.LoadNames.{Newcomer, Loaded, loaded, in-tok, names-loaded}
+use Rattle.engine.proofs.Marks.{or-none, row-off}
 use Rattle.loading.specs.Loads.{served, present}
 use Rattle.loading.specs.Writes.{calledAll, grantedAll, neededAll, joined}
 
@@ -32,19 +33,8 @@ row-more true q r b u s e h = ap (λ (z : Bool). cond z true b || (u && e)) h �
     go b true false = refl
     go b false s = refl
 
--- no place stands for it
-row-off : (u s e : Bool) → false ≡ u && s → u && e ≡ u && (s || e)
-row-off true true e h = absurd (false-T (sym h) tt)
-row-off true false e h = refl
-row-off false s e h = refl
-
 no-rows : (p u b : Bool) → b ≡ b || (p && (u && false))
-no-rows true true true = refl
-no-rows true true false = refl
-no-rows true false true = refl
-no-rows true false false = refl
-no-rows false u true = refl
-no-rows false u false = refl
+no-rows p u b = or-none b (ap (λ (z : Bool). p && z) (and-false u) ∙ and-false p)
 
 -- the row of a package that had none, beside those of the others
 own-row : (p w o : Bool) → cond p false o || (p && w) ≡ cond p w o
@@ -66,14 +56,10 @@ grant-more true q r b p u a s e h k = (λ i. cond (h i && k i) true b || (p && (
     go false true true true true = refl
 
 caller-off : (u a s e : Bool) → false ≡ u && a → u && e ≡ u && (a && s || e)
-caller-off true true s e h = absurd (false-T (sym h) tt)
-caller-off true false s e h = refl
-caller-off false a s e h = refl
+caller-off u a s e h = row-off u (a && s) e (ap (λ (z : Bool). z && s) h ∙ and-assoc u a s)
 
 none-granted : (o p u b : Bool) → b ≡ b || (o && (p && (u && false)))
-none-granted o p true b = no-rows o p b
-none-granted o true false b = no-rows o true b
-none-granted o false false b = no-rows o false b
+none-granted o p u b = no-rows o p b ∙ ap (λ (z : Bool). b || (o && (p && z))) (sym (and-false u))
 
 -- ---- tables v whose names are in order; what is found in them does not depend on their bits and lists
 module _ (L : Layout) (v : Tables) (names : Names L (v .used) (v .aid) (v .tok) (v .provides)) where

@@ -23,6 +23,7 @@ use Rattle.image.specs.Wrote.{Wrote}
 use Rattle.engine.specs.Asked.{Asked}
 use Rattle.engine.specs.Services.{CallersIn}
 use Rattle.engine.proofs.Edits.{accepted-gives}
+use Rattle.engine.proofs.Callers.{callers-in as all-in}
 use Rattle.loading.specs.Loads.{served, present, Accepts, Decides, withoutRows}
 use Rattle.loading.specs.Writes.{named, openedAll, metAll, CallOn, GrantsIn, due, calledAll, grantedAll, neededAll, joined}
 use Rattle.loading.specs.declared.decide.Decided.{Decided}
@@ -58,7 +59,7 @@ module _ (L : Layout) (img : List ℕ) (a : Aid) (p : List Tok) (c g n : List Ro
     opened-is = w₂ .tables ∙ ap (openedAll (d .at) 0 p) (w₁ .tables) ∙ services-on L t (d .at) contract new (ask .first-valid)
 
     pub callers-in : CallersIn L (decode L i₂ .unmet)
-    callers-in = subst (λ (v : Tables). CallersIn L (v .unmet)) (sym opened-is) (λ u m. formed .names .used-lt (u .caller) (formed .unmet .off .off-used u m))
+    callers-in = subst (λ (v : Tables). CallersIn L (v .unmet)) (sym opened-is) (all-in L img (ask .is-sound))
 
     pub calls-on : (r : ℕ) → r < length (decode L i₂ .unmet) → CallOn L (d .met) (d .at) (decode L i₂) r
     calls-on = subst (λ (v : Tables). (r : ℕ) → r < length (v .unmet) → CallOn L (d .met) (d .at) v r) (sym opened-is)

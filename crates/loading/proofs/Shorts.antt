@@ -3,7 +3,7 @@ use Prim.Native.Nat.{ℕ, suc, _+_, _-_, _≤_, _<_, suc-le-suc}
 use native.Mathlib.Omega.{arith}
 use native.Mathlib.Nat.{add-zero, add-suc, suc-add, zero-add}
 use mathlib.Core.Path.{_≡_, refl, sym, ap, ap₂, _∙_}
-use mathlib.Core.Bool.{Bool, true, false, not, _&&_, cond}
+use mathlib.Core.Bool.{Bool, true, false, not, _&&_, cond, and-comm}
 use mathlib.Core.List.{List, [], _∷_}
 use lib.Bits.{bitAnd}
 use lib.Dec.{T, eqb, leb}
@@ -71,13 +71,7 @@ both-pass f g l = ap (λ (m : ℕ). not (eqb m 0)) (mask-and f g l) ∙ go (exis
 granted-same : (x p u : Bool) (tk ad : Row → Bool) (gs : List Row) → u ≡ true
     → implies (x && p) (exists (λ g. (x && tk g) && (u && ad g)) gs) ≡ implies (x && p) (exists (λ g. ad g && tk g) gs)
 granted-same false p u tk ad gs e = refl
-granted-same true p u tk ad gs e = ap (λ (f : Row → Bool). implies p (exists f gs)) (λ i g. (ap (λ (z : Bool). tk g && (z && ad g)) e ∙ swap (tk g) (ad g)) i)
-  where
-    swap : (y z : Bool) → y && z ≡ z && y
-    swap true true = refl
-    swap true false = refl
-    swap false true = refl
-    swap false false = refl
+granted-same true p u tk ad gs e = ap (λ (f : Row → Bool). implies p (exists f gs)) (λ i g. (ap (λ (z : Bool). tk g && (z && ad g)) e ∙ and-comm (tk g) (ad g)) i)
 
 module _ (L : Layout) (t : Tables) (f : Formed L t) (fit : Fitting L t) (low : L .capacity ≤ 32) (c : Contract) where
   abbrev met : ℕ

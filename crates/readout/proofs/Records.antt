@@ -29,7 +29,7 @@ use Rattle.image.specs.Read.{aidIn, noUnmet, unmetRow, noWaiting, waitingRow}
 use Rattle.image.proofs.Laid.{sound-laid}
 use Rattle.readout.specs.Parts.{Put, Short, given, bitRow, bitBytes, columnBytes, tableBytes, tableRows, unmetBytes, waitingBytes, tokBytes, provideBytes, callBytes, grantBytes, needBytes, rowLists, bodyBytes}
 use Rattle.readout.proofs.Writers.{Shorts, three-short, two-put}
-use Rattle.readout.proofs.Placed.{aid-here}
+use Rattle.image.proofs.Seen.{aid-seen}
 use Rattle.readout.proofs.Rows.{calls-are, grants-are, needs-are, provides-are}
 
 -- ---- how long the parts are at most
@@ -135,7 +135,7 @@ module _ (c : Card) (img : List ℕ) (n : ℕ) where
     pub body-are : aidBytes (aidIn img from) ++ (provideBytes (layoutOf c) (decode (layoutOf c) img) n ++ rowLists (layoutOf c) (decode (layoutOf c) img) n)
         ≡ bodyBytes (layoutOf c) (decode (layoutOf c) img) n
     unfolding contractAt
-    body-are = ap (λ (a : Aid). aidBytes a ++ (provideBytes L t n ++ rowLists L t n)) (aid-here c img (sound-laid L ok) n from p q)
+    body-are = ap (λ (a : Aid). aidBytes a ++ (provideBytes L t n ++ rowLists L t n)) (aid-seen c img (sound-laid L ok) n from p q)
 
     pub parts-short : (at : ℕ) → Short at (bodyBytes (layoutOf c) (decode (layoutOf c) img) n)
         → Shorts at (aidBytes (aidIn img from)) (provideBytes (layoutOf c) (decode (layoutOf c) img) n) (rowLists (layoutOf c) (decode (layoutOf c) img) n)

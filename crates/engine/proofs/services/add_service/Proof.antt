@@ -9,7 +9,8 @@ use Rattle.image.specs.Read.{tokens}
 use Rattle.image.proofs.Laid.{sound-laid}
 use Rattle.record.specs.Meaning.{itemsIn}
 use Rattle.engine.specs.Services.{asks, Named}
-use Rattle.engine.proofs.Adds.{callers-in, adding-refused, adding-fits, adding-done}
+use Rattle.engine.proofs.Callers.{callers-in}
+use Rattle.engine.proofs.Adds.{adding-refused, adding-fits, adding-done}
 use Rattle.engine.proofs.services.add_service.Statement.{statement}
 use Rattle.engine.proofs.services.add_service.Tie as tie
 
@@ -40,7 +41,7 @@ serve-requires c κs =
     let q = c .before .before .plan2 .given in
     let f = adding-fits L (a .img .now) (a .own .now) s l (d .pre .0) _ e (q .0 .0) (q .0 .1 .0) (q .1) in
     let n : Named (m .asking .result) (decode L (a .img .now) .unmet) = record { by = asks (a .own .now) s; is = m .asking .ensures } in
-    (sound-laid L (d .pre .0 .is-sound), (callers-in L (a .img .now) (a .own .now) s l (d .pre .0), (n, (d .pre .1, ((f .0, f .1), f .2)))))
+    (sound-laid L (d .pre .0 .is-sound), (callers-in L (a .img .now) (d .pre .0 .is-sound), (n, (d .pre .1, ((f .0, f .1), f .2)))))
 
 accepted-requires : tie.Need-accepted-requires
 accepted-requires c κs =
