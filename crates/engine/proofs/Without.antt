@@ -22,6 +22,9 @@ use Rattle.engine.proofs.Appends.{wrote-as}
 use Rattle.engine.proofs.Counts.{left-length, wait-length}
 use Rattle.engine.proofs.Causes.{column-all}
 
+sums : {x y u v m : ℕ} → x ≡ u → y ≡ v → u + v ≤ m → x + y ≤ m
+sums p q h = omega arith
+
 module _ (L : Layout) (low : L .services ≤ 16) (a : Aid) (n : ℕ) (img : List ℕ) where
   abbrev t : Tables
   t = decode L img
@@ -46,9 +49,6 @@ module _ (L : Layout) (low : L .services ≤ 16) (a : Aid) (n : ℕ) (img : List
       let q : length (leftRows L (decode L img′) a n (bit 65535)) ≡ ones L t (λ i k. t .calls i n k) =
       ap (λ (z : Tables). length (leftRows L z a n (bit 65535))) (w .tables) ∙ left-length L t a n (bit 65535) ∙ column-all L t low (λ i k. t .calls i n k) in
       sums p q (r .0)
-    where
-      sums : {x y u v m : ℕ} → x ≡ u → y ≡ v → u + v ≤ m → x + y ≤ m
-      sums p q h = omega arith
 
   -- and the calls on it appended
   abbrev second : Tables
@@ -74,9 +74,6 @@ module _ (L : Layout) (low : L .services ≤ 16) (a : Aid) (n : ℕ) (img : List
       let q : length (waitRows L (decode L img′) a n) ≡ ones L t (λ j k. t .grants j n k) =
       ap (λ (z : Tables). length (waitRows L z a n)) (w .tables) ∙ wait-length L t a n in
       sums p q (r .1)
-    where
-      sums : {x y u v m : ℕ} → x ≡ u → y ≡ v → u + v ≤ m → x + y ≤ m
-      sums p q h = omega arith
 
   pub grants-left : {img′ img″ : List ℕ} → Wrote L img′ third → Wrote L img″ (withWaiting (decode L img′ .waiting ++ waitRows L (decode L img′) a n) (decode L img′))
       → Wrote L img″ (listsWithout L t a n)

@@ -35,7 +35,7 @@ module _ (L : Layout) where
   abbrev w : ℕ
   w = L .width
 
-  abbrev pub Tokens : (ℕ → ℕ → Tok) → ℕ → List ℕ
+  abbrev Tokens : (ℕ → ℕ → Tok) → ℕ → List ℕ
   Tokens tok j = flat (λ k. writeTok (tok j k)) (upto m)
 
   -- ---- the parts, and what stands after each
@@ -139,19 +139,19 @@ module _ (L : Layout) where
     part : {before : List ℕ → List ℕ} {off : ℕ} → To before off → (s r rest : List ℕ) → Swap (before (s ++ rest)) (before (r ++ rest)) off s r
     part to s r rest = swap-head s r rest (to (s ++ rest) (r ++ rest))
 
-    pub swap-aids : (r : List ℕ) → Swap (encode L t) (with-used (r ++ after-aids t)) (aidsAt L) (Aids t) r
+    swap-aids : (r : List ℕ) → Swap (encode L t) (with-used (r ++ after-aids t)) (aidsAt L) (Aids t) r
     unfolding encode
     swap-aids r = part to-aids (Aids t) r (after-aids t)
 
-    pub swap-tokens : (r : List ℕ) → Swap (encode L t) (with-aids (r ++ after-tokens t)) (tokensAt L) (Toks t) r
+    swap-tokens : (r : List ℕ) → Swap (encode L t) (with-aids (r ++ after-tokens t)) (tokensAt L) (Toks t) r
     unfolding encode
     swap-tokens r = part to-tokens (Toks t) r (after-tokens t)
 
-    pub swap-provides : (r : List ℕ) → Swap (encode L t) (with-tokens (r ++ after-provides t)) (providesAt L) (writeLine L (t .provides)) r
+    swap-provides : (r : List ℕ) → Swap (encode L t) (with-tokens (r ++ after-provides t)) (providesAt L) (writeLine L (t .provides)) r
     unfolding encode
     swap-provides r = part to-provides (writeLine L (t .provides)) r (after-provides t)
 
-    pub swap-table : (tb : Table) (b : ℕ → ℕ → ℕ → Bool) → Swap (encode L t) (encode L (withTable tb b t)) (tableAt L tb) (writeTable L (tableOf tb t)) (writeTable L b)
+    swap-table : (tb : Table) (b : ℕ → ℕ → ℕ → Bool) → Swap (encode L t) (encode L (withTable tb b t)) (tableAt L tb) (writeTable L (tableOf tb t)) (writeTable L b)
     unfolding encode
     swap-table Calls b = part to-calls (writeTable L (t .calls)) (writeTable L b) (after-calls t)
     swap-table Grants b = part to-grants (writeTable L (t .grants)) (writeTable L b) (after-grants t)

@@ -1,7 +1,7 @@
 -- Parts of an image: bytes that are zero, bytes that are the same, and the places of AIDs.
 use Prim.Native.Nat.{ℕ, zero, suc, _+_, _-_, _≤_, _<_}
 use native.Mathlib.Omega.{arith}
-use native.Mathlib.Nat.{zero-add}
+use native.Mathlib.Nat.{zero-add, suc-add}
 use native.Mathlib.Numerals.{add-one}
 use mathlib.Core.Path.{_≡_, refl, sym, ap, _∙_, subst}
 use mathlib.Core.Bool.{_&&_}
@@ -20,10 +20,7 @@ use Rattle.soundness.specs.Check.{byteAt, partAt, isZero, zerosAt, sameA
 drop-take : (n m : ℕ) (l : List ℕ) → drop n (take (n + m) l) ≡ take m (drop n l)
 drop-take zero m l = ap (λ (k : ℕ). take k l) (zero-add m)
 drop-take (suc n) m [] = ap (drop (suc n)) (take-nil (suc n + m)) ∙ sym (take-nil m)
-drop-take (suc n) m (x ∷ l) = ap (λ (k : ℕ). drop (suc n) (take k (x ∷ l))) (e n m) ∙ drop-take n m l
-  where
-    e : (n m : ℕ) → suc n + m ≡ suc (n + m)
-    e n m = omega arith
+drop-take (suc n) m (x ∷ l) = ap (λ (k : ℕ). drop (suc n) (take k (x ∷ l))) (suc-add n m) ∙ drop-take n m l
 
 every-zero : (p : List ℕ) → T (every isZero p) → p ≡ replicate (length p) 0
 every-zero [] h = refl
