@@ -28,11 +28,6 @@ use Rattle.policy.proofs.Found.{NumberIs, FreeIs, free-number-is, numbe
 use Rattle.policy.proofs.SoundFacts.{sound-formed}
 use Rattle.policy.proofs.Step.{judge-causes, judge-ascends}
 
-module _ {A : Type 0} (P : A → Type 0) (x y : A) where
-  pub by-test : (b : Bool) → (T b → P x) → ((T b → ⊥) → P y) → P (cond b x y)
-  by-test true f g = f tt
-  by-test false f g = g (λ t. t)
-
 module _ (L : Layout) where
   -- ---- judging: the numbers
   numbered : (l : List Cause) → T (every (λ k. ltb (k .number) 12) l) → T (ascends 2 l) → (n : ℕ) → answer l ≡ suc n → In (suc n) (from 1 11)

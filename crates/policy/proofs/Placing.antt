@@ -18,7 +18,7 @@ use Rattle.policy.proofs.Sets.{not-false}
 use Rattle.policy.proofs.Answers.{answer-zero, answer-append-zero}
 use Rattle.policy.proofs.ParseFacts.{parse-valid}
 use Rattle.policy.proofs.ContractAt.{stands-self}
-use Rattle.policy.proofs.RoundTrip.{round-trip}
+use Rattle.policy.proofs.RoundTrip.{formed-room, round-trip}
 use Rattle.policy.proofs.SoundFacts.{sound-formed}
 use Rattle.policy.proofs.AllKinds.{kinds}
 use Rattle.policy.proofs.Step.{accepted, judge-ascends}
@@ -57,7 +57,7 @@ module _ (L : Layout) (lo : LayoutOk L) where
         let n = answer-zero 2 bad early (p .0) in
         let pr = not-false (proper (q .aid) (q .change)) (n .0) in
         let g = kinds (q .change) .0 L t (map (contractAt L t) (usedNumbers L t)) (q .aid) f (stands-self L t f) (v .0) (v .1) pr (n .1) .formed in
-        let back = round-trip L lo (d .tables) g (accepted L d g (p .1) .1) in
+        let back = round-trip L lo (d .tables) (formed-room L (d .tables) g (accepted L d g (p .1) .1)) in
         subst (λ (o : Out). Settles L t f (q .aid) (q .change) (decode L (o .bytes)) (o .second)) (sym left)
         (subst (λ (t′ : Tables). Settles L t f (q .aid) (q .change) t′ (numberFor L t (q .aid))) (sym back)
         (settles L t f (q .aid) (q .change) (v .0) (v .1) pr (n .1)))

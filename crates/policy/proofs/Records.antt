@@ -16,12 +16,11 @@ use Rattle.policy.specs.Lookup.{contractAt}
 use Rattle.policy.specs.Sound.{sound}
 use Rattle.policy.specs.Judge.{Out, loadRecord, readOut}
 use Rattle.policy.specs.Records.{requestOf, ValidRow, AtMost, recordBytes, Within, longestRecord, LongestRecord}
-use Rattle.policy.proofs.Sets.{and-r, each-cons}
+use Rattle.policy.proofs.Sets.{by-test, and-r, each-cons}
 use Rattle.policy.proofs.ParseFacts.{parsed-within, parsed-length}
 use Rattle.policy.proofs.Written.{written-read}
 use Rattle.policy.proofs.RecordsLength.{record-length, within-writable}
 use Rattle.policy.proofs.Theorems.{read-out-again, small-ok}
-use Rattle.policy.proofs.Entries.{by-test}
 
 module _ (L : Layout) (lo : LayoutOk L) where
   parsed-short : (s : List ℕ) (q : Request) → parse L s ≡ some q → length s ≤ longestRecord L
