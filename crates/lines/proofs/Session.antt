@@ -1,10 +1,12 @@
 -- What the session program prints, one frame at a time: the turns of its loop. Assumes nothing.
-use Prim.Native.Nat.{ℕ, suc}
+use Prim.Native.Nat.{ℕ, zero, suc, _+_, _*_, _-_, _≤_, _<_}
 use mathlib.Core.Path.{_≡_, refl, sym, ap, _∙_, subst}
-use mathlib.Core.Bool.{Bool, true, false}
+use mathlib.Core.Bool.{Bool, true, false, cond}
 use mathlib.Core.List.{List, [], _++_, append-assoc}
 use native.Mathlib.Omega.{arith}
-use lib.ListN.{getD, take, drop, drop-of-length-le}
+use lib.Dec.{ltb}
+use lib.ListN.{length, getD, take, drop, length-append, length-take, length-drop, take-append-drop, drop-of-length-le}
+use borrow.Author.Tests.{ltb-true, ltb-false}
 use Rattle.policy.specs.Layout.{small}
 use Rattle.policy.specs.Tables.{emptyImage}
 use Rattle.policy.specs.Judge.{judge}
@@ -57,19 +59,68 @@ module _ (n : ℕ) (image l : List ℕ) (ended : Bool) (rest : List ℕ) where
     unfolding turn
     says t e = subst (λ (x : Turn). Says x) e (by-held (heldAs l ended) (sees l ended))
 
+none-held : Part []
+none-held high low s m q a = let z : _≡_ {A = ℕ} 0 1 = cc in absurd (omega arith)
+
 pub turns-print : {n : ℕ} {image l rest out : List ℕ} {ended : Bool} → Part l → (ended ≡ true → rest ≡ []) → Turns n image l ended rest out → out ≡ transcriptFrom judging n image (l ++ rest)
 turns-print {n} {image} {l} part last (read {k = k} {rest = rest} piece e s fits last₂ t) =
     let w = says n image l false _ part last (reads k) e in
     turns-print (w .onward piece fits) last₂ t ∙ ap (λ (x : List ℕ). transcriptFrom judging n image x) (append-assoc l piece rest ∙ ap (λ (x : List ℕ). l ++ x) (sym s))
 turns-print {n} {image} {l} {rest} {ended = ended} part last (print {left = left} {text = text} e t) =
-    ap (λ (x : List ℕ). text ++ x) (turns-print {l = []} (λ high low s m q a. let z : _≡_ {A = ℕ} 0 1 = cc in absurd (omega arith)) last t) ∙ sym (says n image l ended rest part last (prints text left) e)
+    ap (λ (x : List ℕ). text ++ x) (turns-print none-held last t) ∙ sym (says n image l ended rest part last (prints text left) e)
 turns-print {n} {image} {l} {rest} {ended = ended} part last (close {text = text} e) = sym (says n image l ended rest part last (closes text) e)
 turns-print {n} {image} {l} {rest} {ended = ended} part last (stop e) = sym (says n image l ended rest part last stops e)
 
 -- from the start of an input on, in reads of any size
 pub session-prints : {s out : List ℕ} → Turns 1 (emptyImage small) [] false s out → out ≡ printed s
 unfolding printed
-session-prints t = turns-print (λ high low s m q a. let z : _≡_ {A = ℕ} 0 1 = cc in absurd (omega arith)) (λ e. let z : _≡_ {A = ℕ} 0 1 = cc in absurd (omega arith)) t
+session-prints t = turns-print none-held (λ e. let z : _≡_ {A = ℕ} 0 1 = cc in absurd (omega arith)) t
+
+-- and every input has such turns: a read takes as many bytes as are called for, or as are left
+unread : List ℕ → Bool → List ℕ → ℕ
+unread l ended rest = 3 * length rest + (2 * length l + cond ended 0 1)
+
+abbrev Goes : ℕ → Type 0
+Goes k = (n : ℕ) (image l rest : List ℕ) (ended : Bool) → Part l → (ended ≡ true → rest ≡ []) → unread l ended rest < k → (out : List ℕ) × Turns n image l ended rest out
+
+goes : (k : ℕ) → Goes k
+unfolding turn unread
+goes zero n image l rest ended part last low = absurd (omega arith)
+goes (suc k) n image l rest ended part last low = by (goes k) (heldAs l ended) refl (sees l ended)
+  where
+    is : {h : Held} → heldAs l ended ≡ h → turn n image l ended ≡ turnBy n image l h
+    is e = ap (λ (h : Held). turnBy n image l h) e
+
+    by : Goes k → (h : Held) → heldAs l ended ≡ h → Sees l ended h → (out : List ℕ) × Turns n image l ended rest out
+    by on (Record m) e w =
+        let t = on (suc n) (judging image (take m l) .2) [] rest ended none-held last (omega (arith, w .least, w .within)) in
+        (_, print (is e) (t .1))
+    by on (Start m) e w =
+        let p : length (l ++ take (m - length l) rest) ≤ m = simp (length-append, length-take) (omega (arith, w .more)) in
+        let none : ltb (length rest) (m - length l) ≡ true → drop (m - length l) rest ≡ [] = λ q. drop-of-length-le rest {i = m - length l} (le-of-lt (ltb-true (length rest) (m - length l) q)) in
+        let t = on n image (l ++ take (m - length l) rest) (drop (m - length l) rest) (ltb (length rest) (m - length l)) (w .onward _ p) none (less (ltb (length rest) (m - length l)) refl) in (
+          t .0,
+          subst (λ (b : Bool). Turns n image l b rest (t .0)) (sym (w .going))
+              (read (take (m - length l) rest) (subst (λ (b : Bool). turn n image l b ≡ reads m) (w .going) (is e)) (sym (take-append-drop (m - length l) rest)) p none (t .1)),
+        )
+      where
+        le-of-lt : {a b : ℕ} → a < b → a ≤ b
+        le-of-lt h = omega arith
+
+        less : (b : Bool) → ltb (length rest) (m - length l) ≡ b → unread (l ++ take (m - length l) rest) b (drop (m - length l) rest) < k
+        less true q =
+            let c : cond {A = ℕ} ended 0 1 ≡ 1 = rw (w .going) refl in
+            let h : length rest < m - length l = ltb-true (length rest) (m - length l) q in
+            simp (length-append, length-take, length-drop) (omega (arith, low, c, h))
+        less false q =
+            let c : cond {A = ℕ} ended 0 1 ≡ 1 = rw (w .going) refl in
+            let h : m - length l ≤ length rest = ltb-false (length rest) (m - length l) q in
+            simp (length-append, length-take, length-drop) (omega (arith, low, c, h, w .more))
+    by on Bad e w = (_, close (is e))
+    by on End e w = (_, stop (is e))
+
+pub session-goes : (s : List ℕ) → (out : List ℕ) × Turns 1 (emptyImage small) [] false s out
+session-goes s = goes (suc (unread [] false s)) 1 (emptyImage small) [] s false none-held (λ e. let z : _≡_ {A = ℕ} 0 1 = cc in absurd (omega arith)) (omega arith)
 
 -- ---- what a turn calls for, by itself
 module _ (n : ℕ) (image l : List ℕ) (ended : Bool) where
