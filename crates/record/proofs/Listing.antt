@@ -50,12 +50,12 @@ module _ {M : Type 1} (𝓤 : URA M) (H : Heap 𝓤) (A : Atoms 𝓤) (mem : Mem
   module _ (W : Given 𝓤 H A) (κ : Lft) (q : Share) (c : Card) (is-c : Is K.the-row c (card c ∷ [])) (d : Reader) (k : Sort) (is-k : Is O.the-row k (kind k ∷ [])) where
     -- what it is passed
     abbrev pub listed : ListOf .Ghost
-    listed = (((κ, tt), (q, tt), tt, (d, (c, (k, tt))), (mach κ d ∷ [], (card c ∷ [], (kind k ∷ [], tt)))), tt)
+    listed = (((κ, tt), (q, tt), tt, (d, (c, (k, tt))), (mach d ∷ [], (card c ∷ [], (kind k ∷ [], tt)))), tt)
 
     -- what the slice owns gives what it asks, and is kept
-    asks : d .at < 2 ^ 64 → d .at ≤ length (now (d .src)) → ent 𝓤 (⋆ 𝓤 H A (token κ q ∷ ‵ (Src κ d) ∷ [])) (sep 𝓤 (ListOf .pre listed) (sem 𝓤 H A (Src κ d)))
+    asks : d .at < 2 ^ 64 → d .at ≤ length (now (d .src)) → ent 𝓤 (⋆ 𝓤 H A (token κ q ∷ ‵ (Src κ (d .src)) ∷ [])) (sep 𝓤 (ListOf .pre listed) (sem 𝓤 H A (Src κ (d .src))))
     asks fits within =
-        qed W (token κ q ∷ ‵ (Src κ d) ∷ []) ∵ move ! (1 ∷ []) $ use1 W (‵ (Own κ d) ⊛ ‵ (Src κ d)) (made κ d 𝓤 H A W fits) $ split ! $
+        qed W (token κ q ∷ ‵ (Src κ (d .src)) ∷ []) ∵ move ! (1 ∷ []) $ use1 W (‵ (Own κ d) ⊛ ‵ (Src κ (d .src))) (made κ d 𝓤 H A W fits) $ split ! $
         move ! (2 ∷ 0 ∷ []) $ use2 W (raw (ListOf .pre listed)) pre $ frame ! $ done !
       where
         pre : ent 𝓤 (⋆ 𝓤 H A (token κ q ∷ ‵ (Own κ d) ∷ [])) (ListOf .pre listed)
@@ -71,11 +71,11 @@ module _ {M : Type 1} (𝓤 : URA M) (H : Heap 𝓤) (A : Atoms 𝓤) (mem : Mem
     -- the step: the list at the reader's position
     module _ {Γ : List (Item 𝓤)} {E : Env 𝓤 H} {C : Calls 𝓤 H} {Λ : Loops 𝓤 H} {Q : Post 𝓤 H} {f : Name} {xs : List Operand} {p : Place} {rest : Body} {G : Type 0} where
       pub lists : G → FmC 𝓤 H (W .laws) C → Triple 𝓤 (C f) ListOf → d .at < 2 ^ 64 → d .at ≤ length (now (d .src))
-          → Opds G W (raw (ListOf .pre listed) ∷ ‵ (Src κ d) ∷ Γ) E xs (ListOf .args listed)
-          → ((r : ListAt) → At (layoutOf c) k (d .at) (now (d .src)) r → Is I.the-row r (value r ∷ []) → Seq G W (‵ (I.the-row .own r (value r ∷ [])) ∷ token κ q ∷ ‵ (Src κ d) ∷ Γ) (lands C Λ E p (value r) rest Q))
-          → Seq G W (token κ q ∷ ‵ (Src κ d) ∷ Γ) (runs C Λ E (seq (call f xs p) rest) Q)
+          → Opds G W (raw (ListOf .pre listed) ∷ ‵ (Src κ (d .src)) ∷ Γ) E xs (ListOf .args listed)
+          → ((r : ListAt) → At (layoutOf c) k (d .at) (now (d .src)) r → Is I.the-row r (value r ∷ []) → Seq G W (‵ (I.the-row .own r (value r ∷ [])) ∷ token κ q ∷ ‵ (Src κ (d .src)) ∷ Γ) (lands C Λ E p (value r) rest Q))
+          → Seq G W (token κ q ∷ ‵ (Src κ (d .src)) ∷ Γ) (runs C Λ E (seq (call f xs p) rest) Q)
       lists t fm known fits within os k′ =
-          use2 W (raw (ListOf .pre listed) ⊛ ‵ (Src κ d)) (asks fits within) $ split t $
+          use2 W (raw (ListOf .pre listed) ⊛ ‵ (Src κ (d .src))) (asks fits within) $ split t $
           answers t fm ListOf known listed κ q I.the-row value (LL.tells I.the-type I′.the-laws)
           (λ (r : ListAt). ensured 𝓤 H A list.ended (list.clauses 𝓤 H A mem run) (κ, tt) (d, (c, (k, tt))) tt r) (λ u. id⊢ 𝓤 _)
           (At (layoutOf c) k (d .at) (now (d .src))) said os k′

@@ -81,19 +81,19 @@ module _ {M : Type 1} (𝓤 : URA M) (H : Heap 𝓤) (A : Atoms 𝓤) (W : Given
   a = (d, (c, (k, tt)))
 
   abbrev vals : Vals list.signature (κ, tt)
-  vals = (mach κ d ∷ [], (card c ∷ [], (kind k ∷ [], tt)))
+  vals = (mach d ∷ [], (card c ∷ [], (kind k ∷ [], tt)))
 
   abbrev Post : Val → SProp 𝓤
   Post = walkOf 𝓤 H A list.ended stayed (list.clauses 𝓤 H A mem run) .post (((κ, tt), (q, tt), tt, a, vals), tt)
 
   -- what the callee is passed
   abbrev to : StepOf 𝓤 H A mem run .Ghost
-  to = (((κ, tt), (q, tt), tt, (d .src, (d .at, (c, (k, tt)))), (part κ d ∷ [], (vint w64 (d .at) ∷ [], (card c ∷ [], (kind k ∷ [], tt))))), tt)
+  to = (((κ, tt), (q, tt), tt, (d .src, (d .at, (c, (k, tt)))), (part (d .src) ∷ [], (vint w64 (d .at) ∷ [], (card c ∷ [], (kind k ∷ [], tt))))), tt)
 
   module _ (fits : d .at < 2 ^ 64) (is-c : Is K.the-row c (card c ∷ [])) (is-k : Is O.the-row k (kind k ∷ [])) where
-    goes : d .at ≤ length (now (d .src)) → ent 𝓤 (⋆ 𝓤 H A (token κ q ∷ ‵ (Src κ d) ∷ [])) (StepOf 𝓤 H A mem run .pre to)
+    goes : d .at ≤ length (now (d .src)) → ent 𝓤 (⋆ 𝓤 H A (token κ q ∷ ‵ (Src κ (d .src)) ∷ [])) (StepOf 𝓤 H A mem run .pre to)
     goes within =
-        qed W (token κ q ∷ ‵ (Src κ d) ∷ []) ∵ says ! within $ frame ! $
+        qed W (token κ q ∷ ‵ (Src κ (d .src)) ∷ []) ∵ says ! within $ frame ! $
         nothing ! $ owned ! O.the-row (Is O.the-row) (EL.makes O.the-type (tt, (tt, (tt, tt))) 𝓤 H A) k _ is-k $ fjoin ! $ owned ! K.the-row (Is K.the-row) (EL.makes K.the-type (tt, tt) 𝓤 H A) c _ is-c $ fjoin ! $
         owned ! usize (Is usize) (uint-makes 𝓤 H A W w64) (d .at) _ (refl, fits) $ fjoin ! $ move ! (1 ∷ 0 ∷ []) $ fjoin ! $ done !
 
@@ -101,7 +101,7 @@ module _ {M : Type 1} (𝓤 : URA M) (H : Heap 𝓤) (A : Atoms 𝓤) (W : Given
     asked : d .at ≤ length (now (d .src)) → ent 𝓤 (onEntry 𝓤 H A list.signature (κ, tt) (q, tt) a vals) (sep 𝓤 (StepOf 𝓤 H A mem run .pre to) (sem 𝓤 H A (Own κ d)))
     asked within =
         qed W (token κ q ∷ ‵ (owns (B (κ, tt) ∷ K.the-row ∷ O.the-row ∷ []) a vals) ∷ []) ∵
-        move ! (1 ∷ []) $ fsplit ! $ move ! (1 ∷ []) $ drop ! $ use1 W (‵ (Src κ d) ⊛ ‵ (Own κ d)) (apart κ d 𝓤 H A W) $ split ! $
+        move ! (1 ∷ []) $ fsplit ! $ move ! (1 ∷ []) $ drop ! $ use1 W (‵ (Src κ (d .src)) ⊛ ‵ (Own κ d)) (apart κ d 𝓤 H A W) $ split ! $
         move ! (2 ∷ 0 ∷ []) $ use2 W (raw (StepOf 𝓤 H A mem run .pre to)) (goes within) $ frame ! $ done !
 
     -- of the callee's `ensured`, the clause alone: it has no `&mut`, so what is said of last values is dropped
@@ -116,9 +116,9 @@ module _ {M : Type 1} (𝓤 : URA M) (H : Heap 𝓤) (A : Atoms 𝓤) (W : Given
         move ! (2 ∷ 0 ∷ []) $ fjoin ! $ frame ! $ done !
 
     module _ (C : Calls 𝓤 H) (Λ : Loops 𝓤 H) (fm : FmC 𝓤 H (W .laws) C) (known : Triple 𝓤 (C #record·list-at) (StepOf 𝓤 H A mem run)) where
-      walk : Holds (hasTy (T′.mir (named 0)) (mach κ d)) × WT (mach κ d) → d .at ≤ length (now (d .src)) → ent 𝓤 (onEntry 𝓤 H A list.signature (κ, tt) (q, tt) a vals) (WpFn 𝓤 H C Λ code.function (mach κ d ∷ card c ∷ kind k ∷ []) Post)
+      walk : Holds (hasTy (T′.mir (named 0)) (mach d)) × WT (mach d) → d .at ≤ length (now (d .src)) → ent 𝓤 (onEntry 𝓤 H A list.signature (κ, tt) (q, tt) a vals) (WpFn 𝓤 H C Λ code.function (mach d ∷ card c ∷ kind k ∷ []) Post)
       walk wt within =
-          qed W (raw (onEntry 𝓤 H A list.signature (κ, tt) (q, tt) a vals) ∷ []) ∵ enter ! C Λ code.function (mach κ d ∷ card c ∷ kind k ∷ []) _ $
+          qed W (raw (onEntry 𝓤 H A list.signature (κ, tt) (q, tt) a vals) ∷ []) ∵ enter ! C Λ code.function (mach d ∷ card c ∷ kind k ∷ []) _ $
           alloc1 ! (λ l₀. alloc1 ! (λ l₁. alloc1 ! (λ l₂. alloc1 ! (λ l₃. alloc1 ! (λ l₄. alloc1 ! (λ l₅. alloc0 ! $ params1 ! $ pass1 ! (init ! 8 refl wt) $
           pass1 ! (init ! 6 refl (EL.lawful K.the-type K′.the-laws 𝓤 H A W tt .typed c _ is-c .0)) $ pass1 ! (init ! 4 refl (EL.lawful O.the-type O′.the-laws 𝓤 H A W tt .typed k _ is-k .0)) $ pass0 ! $
           -- [_5; …; _4; …; _3; …; _2; …; _1; …; room for _0; …; what is had at entry]

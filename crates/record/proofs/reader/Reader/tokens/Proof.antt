@@ -67,26 +67,26 @@ module _ {M : Type 1} (𝓤 : URA M) (H : Heap 𝓤) (A : Atoms 𝓤) (W : Given
   Found r = Served (d .at) (now (d .src)) r
 
   abbrev vals : Vals tokens.signature (κ, tt)
-  vals = (mach κ d ∷ [], tt)
+  vals = (mach d ∷ [], tt)
 
   abbrev Post : Val → SProp 𝓤
   Post = walkOf 𝓤 H A tokens.ended stayed (tokens.clauses 𝓤 H A mem run) .post (((κ, tt), (q, tt), tt, (d, tt), vals), tt)
 
   -- what the callee is passed
   abbrev to : StepOf 𝓤 H A mem run .Ghost
-  to = (((κ, tt), (q, tt), tt, (d .src, (d .at, tt)), (part κ d ∷ [], (vint w64 (d .at) ∷ [], tt))), tt)
+  to = (((κ, tt), (q, tt), tt, (d .src, (d .at, tt)), (part (d .src) ∷ [], (vint w64 (d .at) ∷ [], tt))), tt)
 
   module _ (fits : d .at < 2 ^ 64) where
-    goes : d .at ≤ length (now (d .src)) → ent 𝓤 (⋆ 𝓤 H A (token κ q ∷ ‵ (Src κ d) ∷ [])) (StepOf 𝓤 H A mem run .pre to)
+    goes : d .at ≤ length (now (d .src)) → ent 𝓤 (⋆ 𝓤 H A (token κ q ∷ ‵ (Src κ (d .src)) ∷ [])) (StepOf 𝓤 H A mem run .pre to)
     goes within =
-        qed W (token κ q ∷ ‵ (Src κ d) ∷ []) ∵ says ! within $ frame ! $
+        qed W (token κ q ∷ ‵ (Src κ (d .src)) ∷ []) ∵ says ! within $ frame ! $
         nothing ! $ owned ! usize (Is usize) (uint-makes 𝓤 H A W w64) (d .at) _ (refl, fits) $ fjoin ! $ move ! (1 ∷ 0 ∷ []) $ fjoin ! $ done !
 
     -- what the struct owns gives what the callee asks, and is kept
     asked : d .at ≤ length (now (d .src)) → ent 𝓤 (onEntry 𝓤 H A tokens.signature (κ, tt) (q, tt) (d, tt) vals) (sep 𝓤 (StepOf 𝓤 H A mem run .pre to) (sem 𝓤 H A (Own κ d)))
     asked within =
         qed W (token κ q ∷ ‵ (owns (B (κ, tt) ∷ []) (d, tt) vals) ∷ []) ∵
-        move ! (1 ∷ []) $ fsplit ! $ move ! (1 ∷ []) $ drop ! $ use1 W (‵ (Src κ d) ⊛ ‵ (Own κ d)) (apart κ d 𝓤 H A W) $ split ! $
+        move ! (1 ∷ []) $ fsplit ! $ move ! (1 ∷ []) $ drop ! $ use1 W (‵ (Src κ (d .src)) ⊛ ‵ (Own κ d)) (apart κ d 𝓤 H A W) $ split ! $
         move ! (2 ∷ 0 ∷ []) $ use2 W (raw (StepOf 𝓤 H A mem run .pre to)) (goes within) $ frame ! $ done !
 
     -- of the callee's `ensured`, the clause alone: it has no `&mut`, so what is said of last values is dropped
@@ -100,9 +100,9 @@ module _ {M : Type 1} (𝓤 : URA M) (H : Heap 𝓤) (A : Atoms 𝓤) (W : Given
         move ! (1 ∷ []) $ frame ! $ nothing ! $ move ! (2 ∷ 0 ∷ []) $ fjoin ! $ frame ! $ done !
 
     module _ (C : Calls 𝓤 H) (Λ : Loops 𝓤 H) (fm : FmC 𝓤 H (W .laws) C) (known : Triple 𝓤 (C #record·read-tokens) (StepOf 𝓤 H A mem run)) where
-      walk : Holds (hasTy (T′.mir (named 0)) (mach κ d)) × WT (mach κ d) → d .at ≤ length (now (d .src)) → ent 𝓤 (onEntry 𝓤 H A tokens.signature (κ, tt) (q, tt) (d, tt) vals) (WpFn 𝓤 H C Λ code.function (mach κ d ∷ []) Post)
+      walk : Holds (hasTy (T′.mir (named 0)) (mach d)) × WT (mach d) → d .at ≤ length (now (d .src)) → ent 𝓤 (onEntry 𝓤 H A tokens.signature (κ, tt) (q, tt) (d, tt) vals) (WpFn 𝓤 H C Λ code.function (mach d ∷ []) Post)
       walk wt within =
-          qed W (raw (onEntry 𝓤 H A tokens.signature (κ, tt) (q, tt) (d, tt) vals) ∷ []) ∵ enter ! C Λ code.function (mach κ d ∷ []) _ $
+          qed W (raw (onEntry 𝓤 H A tokens.signature (κ, tt) (q, tt) (d, tt) vals) ∷ []) ∵ enter ! C Λ code.function (mach d ∷ []) _ $
           alloc1 ! (λ l₀. alloc1 ! (λ l₁. alloc1 ! (λ l₂. alloc1 ! (λ l₃. alloc0 ! $ params1 ! $ pass1 ! (init ! 4 refl wt) $ pass0 ! $
           -- [_3; …; _2; …; _1; …; room for _0; …; what is had at entry]
           assigns ! (of-opd ! (load ! (from ! (fld ! refl (stop !))) (look-in ! 4 (sub ! 0 refl (whole !))))) (from ! (stop !)) (init ! 2 refl (tt, wt .1 .0)) $
