@@ -15,7 +15,7 @@ use Rattle.policy.specs.Tables.{Tables, Unmet, Waiting, noTok, decode, encode}
 use Rattle.policy.specs.Sound.{soundTables, sound}
 use Rattle.policy.proofs.Sets.{and-l, and-r, by-test, eqBytes→}
 use Rattle.policy.proofs.EveryBit.{BitIn}
-use Rattle.policy.proofs.Formed.{BitsIn, Room}
+use Rattle.policy.specs.Room.{BitsIn, Room}
 use Rattle.policy.proofs.RoundTrip.{formed-room, length-encode, round-trip}
 use Rattle.policy.proofs.SoundFacts.{sound-formed, sound-fitting}
 use Rattle.geometry.specs.declared.Table.{Table}

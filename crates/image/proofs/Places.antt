@@ -11,7 +11,7 @@ use Rattle.policy.specs.Tables.{Tables, Unmet, Waiting, writeAid, writeTok, wri
 use Rattle.policy.proofs.Sets.{and-l, and-r, and-i, cond-true, cond-false}
 use Rattle.policy.proofs.Bits.{length-bits, writeLine, length-line, length-lines}
 use Rattle.policy.proofs.Pieces.{length-aid}
-use Rattle.policy.proofs.Formed.{Room}
+use Rattle.policy.specs.Room.{Room}
 use Rattle.policy.proofs.RoundTrip.{length-aids, length-tokens, length-unmets}
 use Rattle.geometry.specs.declared.Table.{Table}
 use Rattle.geometry.specs.declared.Table.the-variants.{Calls, Grants, Needs}

@@ -11,7 +11,7 @@ use Rattle.policy.specs.Layout.{Layout, LayoutOk, unmetSize, waitingSize, usedA
 use Rattle.policy.specs.Tables.{Tables, Unmet, Waiting, writeAid, writeTok, writeUnmet, writeWaiting, writeList, writeBits, decode, encode}
 use Rattle.policy.proofs.Bits.{length-bits}
 use Rattle.policy.proofs.Pieces.{length-list, length-aid, length-unmet, length-waiting}
-use Rattle.policy.proofs.Formed.{Room}
+use Rattle.policy.specs.Room.{Room}
 use Rattle.policy.proofs.RoundTrip.{length-unmets, length-waitings}
 use Rattle.geometry.specs.declared.Table.{Table}
 use Rattle.geometry.specs.Geometry.{aidAt, tokAt, provAt, entryAt}

@@ -8,7 +8,7 @@ use Rattle.policy.specs.Contract.{Aid, Tok}
 use Rattle.policy.specs.Layout.{Layout}
 use Rattle.policy.specs.Tables.{Tables, Unmet, Waiting, decode, encode}
 use Rattle.policy.specs.Draft.{put, put2, withCalls, withGrants, withNeeds}
-use Rattle.policy.proofs.Formed.{Room}
+use Rattle.policy.specs.Room.{Room}
 use Rattle.geometry.specs.declared.Table.{Table}
 use Rattle.geometry.specs.declared.Table.the-variants.{Calls, Grants, Needs}
 

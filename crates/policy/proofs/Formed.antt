@@ -1,7 +1,7 @@
 -- What tables and drafts satisfy, as facts; and what they stand for, package by package. The interface between the laws.
 use Prim.Native.Nat.{ℕ, _≤_, _<_}
 use mathlib.Core.Path.{_≡_}
-use mathlib.Core.Logic.{_⊎_, _↔_}
+use mathlib.Core.Logic.{_↔_}
 use mathlib.Core.Bool.{Bool}
 use mathlib.Core.List.{List, [], map}
 use mathlib.Core.List.{List·Memᴰ as In}
@@ -19,7 +19,6 @@ use Rattle.policy.specs.Draft.{Draft, callRow, draft, look}
 use Rattle.policy.specs.Judge.{tableCauses}
 use Rattle.policy.specs.History.{FourSets}
 use Rattle.policy.specs.ShortCheck.{shortLook}
-use Rattle.policy.proofs.EveryBit.{BitIn}
 
 -- ---- facts about tables, by their parts, so that an unchanged part is passed on as it is
 -- Formed holds of every draft's tables; Lawful and Fitting besides of a sound image's
@@ -74,24 +73,6 @@ Lawful t = (i j k : ℕ) → T (t .calls i j k) → T (grantBit t i j k)
 pub record Fitting (L : Layout) (t : Tables) : Type 0 where
   pub unmet-fits : length (t .unmet) ≤ L .capacity
   pub waiting-fits : length (t .waiting) ≤ L .capacity
-
--- ---- tables that an image of layout L has room for: a table's bits stand in range, and so do all other parts
-abbrev pub BitsIn : Layout → (ℕ → ℕ → ℕ → Bool) → Type 0
-BitsIn L b = (x y z : ℕ) → T (b x y z) → BitIn L x y z
-
-pub record Room (L : Layout) (t : Tables) : Type 0 where
-  pub used-in : (n : ℕ) → T (t .used n) → n < L .packages
-  pub aid-short : (n : ℕ) → length (t .aid n) ≤ 16
-  pub aid-off : (n : ℕ) → L .packages ≤ n → t .aid n ≡ []
-  pub tok-off : (j k : ℕ) → (L .packages ≤ j) ⊎ (L .services ≤ k) → t .tok j k ≡ noTok
-  pub provides-in : (j k : ℕ) → T (t .provides j k) → (j < L .packages) × (k < L .services)
-  pub calls-in : BitsIn L (t .calls)
-  pub grants-in : BitsIn L (t .grants)
-  pub needs-in : BitsIn L (t .needs)
-  pub unmet-fits : length (t .unmet) ≤ L .capacity
-  pub unmet-short : (u : Unmet) → In u (t .unmet) → length (u .callee) ≤ 16
-  pub waiting-fits : length (t .waiting) ≤ L .capacity
-  pub waiting-short : (v : Waiting) → In v (t .waiting) → length (v .caller) ≤ 16
 
 -- ---- what package n of the tables provides, calls, grants and needs
 pub data ProvidesAt (t : Tables) (n : ℕ) (s : Tok) : Type 0 where

@@ -19,7 +19,8 @@ use Rattle.policy.proofs.Sets.{test}
 use Rattle.policy.proofs.Pieces.{in-or-off, length-table, piece-at, piece-only, read-at, read-off, length-list, read-list, valid-short, length-aid, read-aid, length-unmet, read-unmet}
 use Rattle.policy.proofs.Pieces.{length-waiting, read-waiting, Zeros, zeros-append, zeros-flat, zeros-list}
 use Rattle.policy.proofs.Bits.{length-bits, read-bits, zeros-bits, writeLine, length-line, length-lines, read-line, read-lines}
-use Rattle.policy.proofs.Formed.{Formed, Fitting, Room}
+use Rattle.policy.specs.Room.{Room}
+use Rattle.policy.proofs.Formed.{Formed, Fitting}
 use Rattle.policy.proofs.Facts.{no-rows, place-in, bit-in, need-bits}
 
 -- the next part of an image, after one of b bytes

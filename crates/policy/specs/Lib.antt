@@ -5,6 +5,7 @@ pub mod Record
 pub mod Causes
 pub mod Machine
 pub mod Tables
+pub mod Room
 pub mod Lookup
 pub mod Sound
 pub mod Draft

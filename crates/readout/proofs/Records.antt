@@ -23,7 +23,7 @@ use Rattle.geometry.specs.declared.Card.the-variants.{Small}
 use Rattle.geometry.specs.declared.Table.{Table}
 use Rattle.geometry.specs.declared.Table.the-variants.{Calls, Grants, Needs}
 use Rattle.geometry.specs.Geometry.{layoutOf, aidAt}
-use Rattle.policy.proofs.Formed.{Room}
+use Rattle.policy.specs.Room.{Room}
 use Rattle.image.specs.Laid.{Laid, tableOf}
 use Rattle.image.specs.Read.{aidIn, noUnmet, unmetRow, noWaiting, waitingRow}
 use Rattle.image.proofs.Laid.{sound-laid}
