@@ -129,7 +129,7 @@ judged-sound image rec z = go (test (sound small image))
   where
     go : T (sound small image) ⊎ (T (sound small image) → ⊥) → T (sound small image)
     go (inl h) = h
-    go (inr h) = let e : 1 ≡ 0 = sym (ap (λ (o : Out). o .answered) (first-cause small small-ok image rec .0 h)) ∙ z in absurd (omega arith)
+    go (inr h) = let e : _≡_ {A = ℕ} 1 0 = sym (ap (λ (o : Out). o .answered) (first-cause small small-ok image rec .0 h)) ∙ z in absurd (omega arith)
 
 pub calls-number : CallsNumber
 calls-number =
