@@ -1,14 +1,10 @@
 -- The code's turn is the definition's, and what the program does with it. Assumes nothing.
-use Prim.Native.Nat.{ℕ, _+_, _-_, _≤_, _<_}
+use Prim.Native.Nat.{ℕ, _-_, _≤_}
 use mathlib.Core.Path.{_≡_, refl, sym, ap, _∙_, subst}
-use mathlib.Core.Logic.{_⊎_, inl, inr}
-use mathlib.Core.Bool.{Bool, true, false, not, _&&_}
+use mathlib.Core.Bool.{Bool}
 use mathlib.Core.List.{List, _++_}
-use native.Mathlib.Omega.{arith}
-use lib.Dec.{ltb}
 use lib.ListN.{length, take, getD}
 use lib.Seq.{length-take-le, take-at}
-use borrow.Author.Tests.{lt-ltb, le-ltb, ltb-true, ltb-false}
 use Rattle.lines.specs.declared.Held.{Held}
 use Rattle.lines.specs.declared.Held.the-variants.{Record, Start, Bad, End}
 use Rattle.lines.specs.Lines.{recordLine, badLine, Printed}
@@ -17,7 +13,7 @@ use Rattle.lines.specs.Session.{judging, Turn, reads, prints, closes, stops, tu
 use Rattle.session.specs.declared.Then.{Then}
 use Rattle.session.specs.declared.Then.the-variants as then
 use Rattle.session.specs.declared.Progress.{Progress}
-use Rattle.session.specs.Turned.{TurnedBy, Turned, lastOrdinal, TookIn, GaveOut, Ended, AdvancedBy, Advanced}
+use Rattle.session.specs.Turned.{TurnedBy, Turned, tookIn, gaveOut, stopped, AdvancedBy, Advanced}
 
 module _ (n : ℕ) (image l : List ℕ) (ended : Bool) where
   by : {h : Held} → heldAs l ended ≡ h → turn n image l ended ≡ turnBy n image l h
@@ -56,54 +52,19 @@ module _ {t : Turn} {r : Then} {image left lent text : List ℕ} (h : Turned t r
 
 -- ---- the program's turn
 module _ {t : Turn} {p q : Progress} {image left lent buf : List ℕ} where
-  pub by-read : {k : ℕ} → (t ≡ reads k) × (left ≡ image) → TookIn k p q lent buf → Advanced t p q image left lent buf
-  by-read e h = record { is = subst (λ (z : Turn). AdvancedBy z p q image left lent buf) (sym (e .0)) (h, e .1) }
+  pub by-read : {k : ℕ} (got : ℕ) → (t ≡ reads k) × (left ≡ image) → q ≡ tookIn p (k - p .have) got → got ≤ k - p .have → take (p .have) buf ≡ take (p .have) lent
+      → Advanced t p q image left lent buf
+  by-read got e s most keeps = record { is = subst (λ (z : Turn). AdvancedBy z p q image left lent buf) (sym (e .0)) (got, most, s, keeps, e .1) }
 
-  pub by-line : {line : List ℕ} → t ≡ prints line left → GaveOut p q → Advanced t p q image left lent buf
-  by-line e h = record { is = subst (λ (z : Turn). AdvancedBy z p q image left lent buf) (sym e) (h, refl) }
+  pub by-line : {line : List ℕ} (taken : Bool) → t ≡ prints line left → q ≡ gaveOut p taken → Advanced t p q image left lent buf
+  by-line taken e s = record { is = subst (λ (z : Turn). AdvancedBy z p q image left lent buf) (sym e) (taken, s, refl) }
 
-  pub by-last : {line : List ℕ} → t ≡ closes line → left ≡ image → Ended p q lent buf → Advanced t p q image left lent buf
-  by-last e f h = record { is = subst (λ (z : Turn). AdvancedBy z p q image left lent buf) (sym e) (h, f) }
+  pub by-last : {line : List ℕ} → t ≡ closes line → q ≡ stopped p → buf ≡ lent → left ≡ image → Advanced t p q image left lent buf
+  by-last e s keeps f = record { is = subst (λ (z : Turn). AdvancedBy z p q image left lent buf) (sym e) (s, keeps, f) }
 
-  pub by-end : (t ≡ stops) × (left ≡ image) → Ended p q lent buf → Advanced t p q image left lent buf
-  by-end e h = record { is = subst (λ (z : Turn). AdvancedBy z p q image left lent buf) (sym (e .0)) (h, e .1) }
+  pub by-end : (t ≡ stops) × (left ≡ image) → q ≡ stopped p → buf ≡ lent → Advanced t p q image left lent buf
+  by-end e s keeps = record { is = subst (λ (z : Turn). AdvancedBy z p q image left lent buf) (sym (e .0)) (s, keeps, e .1) }
 
--- so many bytes were read
-pub took-in : {k : ℕ} (p : Progress) (got : ℕ) (lent rest : List ℕ) → p .have ≤ k → p .have ≤ length lent → got ≤ k - p .have
-    → TookIn k p (record { ordinal = p .ordinal; have = p .have + got; ended = ltb got (k - p .have); going = true; closed = false }) lent (take (p .have) lent ++ rest)
-took-in {k} p got lent rest a b c =
-    record {
-      keeps = take-at (take (p .have) lent) rest (p .have) (length-take-le (p .have) lent b);
-      least = omega arith;
-      most = omega arith;
-      ended = by-count (ltb got (k - p .have)) refl;
-      ordinal = refl;
-      going = refl;
-    }
-  where
-    by-count : (b : Bool) → ltb got (k - p .have) ≡ b → b ≡ ltb (p .have + got) k
-    by-count true e = let d : got < k - p .have = ltb-true got (k - p .have) e in sym (lt-ltb (p .have + got) k (omega arith))
-    by-count false e = let d : k - p .have ≤ got = ltb-false got (k - p .have) e in sym (le-ltb (p .have + got) k (omega arith))
-
--- a line was taken or not
-pub gave-out : (p : Progress) (taken : Bool) → p .ordinal < lastOrdinal
-    → GaveOut p (record { ordinal = p .ordinal + 1; have = 0; ended = p .ended; going = taken && ltb (p .ordinal + 1) lastOrdinal; closed = not taken })
-gave-out p taken h =
-    record {
-      none = refl;
-      same = refl;
-      next = omega arith;
-      going = λ e. on taken e;
-      stopped = λ e. off taken e;
-    }
-  where
-    on : (b : Bool) → b && ltb (p .ordinal + 1) lastOrdinal ≡ true → (p .ordinal + 1 < lastOrdinal) × (not b ≡ false)
-    on true e = (ltb-true (p .ordinal + 1) lastOrdinal e, refl)
-    on false e = let z : _≡_ {A = Bool} false true = e in absurd (let y : _≡_ {A = ℕ} 0 1 = cc in omega arith)
-
-    off : (b : Bool) → b && ltb (p .ordinal + 1) lastOrdinal ≡ false → (not b ≡ true) ⊎ (p .ordinal + 1 ≡ lastOrdinal)
-    off true e = let d : lastOrdinal ≤ p .ordinal + 1 = ltb-false (p .ordinal + 1) lastOrdinal e in inr (omega arith)
-    off false e = inl refl
-
-pub ended-at : (p : Progress) (buf : List ℕ) → Ended p (record { ordinal = p .ordinal; have = p .have; ended = p .ended; going = false; closed = false }) buf buf
-ended-at p buf = record { keeps = refl; have = refl; same = refl; ordinal = refl; stopped = refl }
+-- bytes behind those held are no part of them
+pub keeps-held : (n : ℕ) (lent rest : List ℕ) → n ≤ length lent → take n (take n lent ++ rest) ≡ take n lent
+keeps-held n lent rest h = take-at (take n lent) rest n (length-take-le n lent h)

@@ -1,8 +1,8 @@
 -- What the session program has done: one turn, and the run.
-use Prim.Native.Nat.{ℕ, suc, _-_, _^_, _≤_, _<_}
+use Prim.Native.Nat.{ℕ, _+_, _-_, _^_, _≤_, _<_}
 use mathlib.Core.Path.{_≡_}
 use mathlib.Core.Logic.{_⊎_}
-use mathlib.Core.Bool.{true, false}
+use mathlib.Core.Bool.{Bool, true, false, not, _&&_}
 use mathlib.Core.List.{List}
 use lib.Dec.{ltb}
 use lib.ListN.{length, take}
@@ -35,44 +35,30 @@ pub record Ready (p : Progress) (buf : List ℕ) : Type 0 where
   pub held : p .have ≤ longest
   pub below : p .ordinal < lastOrdinal
 
--- a run starts: nothing is held, and the input may go on
-pub record Started (p : Progress) : Type 0 where
-  pub ordinal : p .ordinal ≡ 1
-  pub none : p .have ≡ 0
-  pub ended : p .ended ≡ false
-  pub going : p .going ≡ true
+-- ---- where a run stands next; what it cannot know, the bytes read and whether a line was taken, is named
+-- it starts: nothing is held, and the input may go on
+abbrev pub started : Progress
+started = record { ordinal = 1; have = 0; ended = false; going = true; closed = false }
 
--- a read brings at most what was called for, keeps what is held, and fewer bytes say that the input has ended
-pub record TookIn (k : ℕ) (p q : Progress) (lent buf : List ℕ) : Type 0 where
-  pub keeps : take (p .have) buf ≡ take (p .have) lent
-  pub least : p .have ≤ q .have
-  pub most : q .have ≤ k
-  pub ended : q .ended ≡ ltb (q .have) k
-  pub ordinal : q .ordinal ≡ p .ordinal
-  pub going : q .going ≡ true
+-- so many bytes were read where so many were called for: fewer say that the input has ended
+abbrev pub tookIn : Progress → ℕ → ℕ → Progress
+tookIn p want got = record { ordinal = p .ordinal; have = p .have + got; ended = ltb got want; going = true; closed = false }
 
--- behind a line the next frame begins, and the next turn follows unless the line was not taken or no ordinal is left
-pub record GaveOut (p q : Progress) : Type 0 where
-  pub none : q .have ≡ 0
-  pub same : q .ended ≡ p .ended
-  pub next : q .ordinal ≡ suc (p .ordinal)
-  pub going : q .going ≡ true → (q .ordinal < lastOrdinal) × (q .closed ≡ false)
-  pub stopped : q .going ≡ false → (q .closed ≡ true) ⊎ (q .ordinal ≡ lastOrdinal)
+-- a line was taken or not: the next frame begins, and a turn follows a line that was taken, while an ordinal is left
+abbrev pub gaveOut : Progress → Bool → Progress
+gaveOut p taken = record { ordinal = p .ordinal + 1; have = 0; ended = p .ended; going = taken && ltb (p .ordinal + 1) lastOrdinal; closed = not taken }
 
--- the run ends where it is
-pub record Ended (p q : Progress) (lent buf : List ℕ) : Type 0 where
-  pub keeps : buf ≡ lent
-  pub have : q .have ≡ p .have
-  pub same : q .ended ≡ p .ended
-  pub ordinal : q .ordinal ≡ p .ordinal
-  pub stopped : q .going ≡ false
+-- no turn follows
+abbrev pub stopped : Progress → Progress
+stopped p = record { ordinal = p .ordinal; have = p .have; ended = p .ended; going = false; closed = false }
 
--- by what the turn calls for
+-- by what the turn calls for: a read keeps what is held and brings no more than was called for, a line leaves the image after it, all else leaves it
 abbrev pub AdvancedBy : lines.Turn → Progress → Progress → List ℕ → List ℕ → List ℕ → List ℕ → Type 0
-AdvancedBy (reads k) p q image left lent buf = TookIn k p q lent buf × (left ≡ image)
-AdvancedBy (prints line after) p q image left lent buf = GaveOut p q × (left ≡ after)
-AdvancedBy (closes line) p q image left lent buf = Ended p q lent buf × (left ≡ image)
-AdvancedBy stops p q image left lent buf = Ended p q lent buf × (left ≡ image)
+AdvancedBy (reads k) p q image left lent buf =
+    (got : ℕ) × (got ≤ k - p .have) × (q ≡ tookIn p (k - p .have) got) × (take (p .have) buf ≡ take (p .have) lent) × (left ≡ image)
+AdvancedBy (prints line after) p q image left lent buf = (taken : Bool) × (q ≡ gaveOut p taken) × (left ≡ after)
+AdvancedBy (closes line) p q image left lent buf = (q ≡ stopped p) × (buf ≡ lent) × (left ≡ image)
+AdvancedBy stops p q image left lent buf = (q ≡ stopped p) × (buf ≡ lent) × (left ≡ image)
 
 pub record Advanced (t : lines.Turn) (p q : Progress) (image left lent buf : List ℕ) : Type 0 where
   pub is : AdvancedBy t p q image left lent buf

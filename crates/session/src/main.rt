@@ -6,13 +6,13 @@ use libc::STDOUT_FILENO;
 use lines::Held;
 ghost use mathlib.Core.Path.{_≡_};
 ghost use mathlib.Core.Bool.{true};
-ghost use Prim.Native.Nat.{_≤_, _<_, _^_, _-_};
+ghost use Prim.Native.Nat.{_+_, _^_, _≤_, _<_};
 ghost use lib.ListN.{length, take, getD};
 ghost use Rattle.lines.specs.Lines.{recordLine, Printed};
 ghost use Rattle.lines.specs.Session.{judging, turn as turnOf};
 ghost use Rattle.lines.specs.Frames.{longest};
 ghost use Rattle.policy.specs.Layout.{small, size};
-ghost use Rattle.session.specs.Turned.{Turned, Ready, Started, Advanced, Ran};
+ghost use Rattle.session.specs.Turned.{Turned, lastOrdinal, Ready, started, tookIn, gaveOut, stopped, Advanced, Ran};
 
 // One record: judged on the image, and its line put into text.
 fn answer_record(image: &mut [u8], rec: &[u8], ordinal: u64, text: &mut [u8; 40]) -> usize
@@ -67,13 +67,55 @@ pub struct Progress {
 }
 
 fn start() -> Progress
-    ensures { λ r. ⌜ Started r ⌝ }
+    ensures { λ r. ⌜ r ≡ started ⌝ }
 {
     Progress {
         ordinal: 1,
         have: 0,
         ended: false,
         going: true,
+        closed: false,
+    }
+}
+
+// So many bytes were read where so many were called for: fewer say that the input has ended.
+fn took(p: Progress, want: usize, got: usize) -> Progress
+    requires { ⌜ p .have + got < 2 ^ 64 ⌝ }
+    ensures { λ r. ⌜ r ≡ tookIn p want got ⌝ }
+{
+    Progress {
+        ordinal: p.ordinal,
+        have: p.have + got,
+        ended: got < want,
+        going: true,
+        closed: false,
+    }
+}
+
+// A line was taken or not: the next frame begins, and a turn follows a line that was taken, while an ordinal is left.
+fn gave(p: Progress, taken: bool) -> Progress
+    requires { ⌜ p .ordinal < lastOrdinal ⌝ }
+    ensures { λ r. ⌜ r ≡ gaveOut p taken ⌝ }
+{
+    let next = p.ordinal + 1;
+    Progress {
+        ordinal: next,
+        have: 0,
+        ended: p.ended,
+        going: taken & (next < u64::MAX),
+        closed: !taken,
+    }
+}
+
+// No turn follows.
+fn stop(p: Progress) -> Progress
+    ensures { λ r. ⌜ r ≡ stopped p ⌝ }
+{
+    Progress {
+        ordinal: p.ordinal,
+        have: p.have,
+        ended: p.ended,
+        going: false,
         closed: false,
     }
 }
@@ -86,49 +128,22 @@ fn advance(image: &mut [u8], buf: &mut [u8], p: Progress) -> Progress
         (now (image .entry)) (now (image .exit)) (now (buf .entry)) (now (buf .exit)) ⌝ }
 {
     let mut text = [0u8; 40];
-    let ordinal = p.ordinal;
     let have = p.have;
-    let ended = p.ended;
-    match turn(image, &buf[..have], ended, ordinal, &mut text) {
+    match turn(image, &buf[..have], p.ended, p.ordinal, &mut text) {
         Then::Read(to) => {
             let want = to - have;
             let got = io::read_full(STDIN_FILENO, &mut buf[have..to]);
-            Progress {
-                ordinal,
-                have: have + got,
-                ended: got < want,
-                going: true,
-                closed: false,
-            }
+            took(p, want, got)
         }
         Then::Line(n) => {
             let taken = io::write_all(STDOUT_FILENO, &text[..n]);
-            let next = ordinal + 1;
-            Progress {
-                ordinal: next,
-                have: 0,
-                ended,
-                going: taken & (next < u64::MAX),
-                closed: !taken,
-            }
+            gave(p, taken)
         }
         Then::Last(n) => {
             io::write_all(STDOUT_FILENO, &text[..n]);
-            Progress {
-                ordinal,
-                have,
-                ended,
-                going: false,
-                closed: false,
-            }
+            stop(p)
         }
-        Then::End => Progress {
-            ordinal,
-            have,
-            ended,
-            going: false,
-            closed: false,
-        },
+        Then::End => stop(p),
     }
 }
 

@@ -1,13 +1,13 @@
 -- `session::advance` meets its contract: what the turn calls for is done. Assumes nothing.
 use Prim.Native.Nat.{_≤_}
-use mathlib.Core.Path.{_≡_, sym}
+use mathlib.Core.Path.{_≡_, refl, sym}
 use native.Mathlib.Omega.{arith}
 use borrow.Author.Needs.{needs}
 use lib.ListN.{length, take}
 use lib.Seq.{length-take-le}
 use Rattle.lines.proofs.Holding.{Begun}
 use Rattle.lines.proofs.Session.{calls}
-use Rattle.session.proofs.Turning.{told-read, told-line, told-last, told-end, by-read, by-line, by-last, by-end, took-in, gave-out, ended-at}
+use Rattle.session.proofs.Turning.{told-read, told-line, told-last, told-end, by-read, by-line, by-last, by-end, keeps-held}
 use Rattle.session.proofs.advance.Statement.{statement}
 use Rattle.session.proofs.advance.Tie as tie
 
@@ -45,8 +45,8 @@ part-read-full-end c = omega (arith, begun c .most, c .before .before .before .b
 read-full-requires : tie.Need-read-full-requires
 read-full-requires c κs = search needs
 
-add-t23 : tie.Need-add-t23
-add-t23 c = search needs
+took-requires : tie.Need-took-requires
+took-requires c κs = search needs
 
 enum-known-n : tie.Need-enum-known-n
 enum-known-n c = search needs
@@ -60,8 +60,8 @@ slice-aggregate-write-all c = told-line (c .before .before .before .before .befo
 write-all-requires : tie.Need-write-all-requires
 write-all-requires c κs = search needs
 
-add-next : tie.Need-add-next
-add-next c = search needs
+gave-requires : tie.Need-gave-requires
+gave-requires c κs = c .before .before .before .before .before .before .before .before .before .before .before .before .before .pre .below
 
 enum-known-n-2 : tie.Need-enum-known-n-2
 enum-known-n-2 c = search needs
@@ -75,8 +75,14 @@ slice-aggregate-write-all-2 c = told-last (c .before .before .before .before .be
 write-all-requires-2 : tie.Need-write-all-requires-2
 write-all-requires-2 c κs = search needs
 
+stop-requires : tie.Need-stop-requires
+stop-requires c κs = search needs
+
 enum-told : tie.Need-enum-told
 enum-told c = search needs
+
+stop-requires-2 : tie.Need-stop-requires-2
+stop-requires-2 c κs = search needs
 
 same-length : tie.Need-same-length
 same-length c = search needs
@@ -85,7 +91,9 @@ same-length-2 : tie.Need-same-length-2
 same-length-2 c = search needs
 
 returns : tie.Need-returns
-returns c = by-read (told-read (c .before .before .before .before .before .before .before .before .before .turn .ensures) (c .before .before .before .before .before .to .given .1)) (took-in _ _ _ _ (omega (arith, begun (c .before .before .before .before) .more, held (c .before .before .before .before))) (omega (arith, c .before .before .before .before .before .before .before .before .before .before .before .before .before .before .before .pre .held, c .before .before .before .before .before .before .before .before .before .before .before .before .before .before .before .pre .buffer)) (omega arith))
+returns c =
+    let s = c .before .before .before .before .before .before .before .before .before .before .before .before .before .before .before .before in
+    by-read (c .before .before .before .read-full .result) (told-read (c .before .before .before .before .before .before .before .before .before .before .turn .ensures) (c .before .before .before .before .before .before .to .given .1)) (c .took .ensures) (omega arith) (keeps-held (s .args .p .have) (s .args .buf .now) _ (omega (arith, s .pre .held, s .pre .buffer)))
 
 same-length-3 : tie.Need-same-length-3
 same-length-3 c = search needs
@@ -94,7 +102,7 @@ same-length-4 : tie.Need-same-length-4
 same-length-4 c = search needs
 
 returns-2 : tie.Need-returns-2
-returns-2 c = by-line (told-line (c .before .before .before .before .before .before .before .turn .ensures) (c .before .before .before .n .given .1) .1) (gave-out _ (c .write-all .result) (c .before .before .before .before .before .before .before .before .before .before .before .before .before .pre .below))
+returns-2 c = by-line (c .before .write-all .result) (told-line (c .before .before .before .before .before .before .before .before .turn .ensures) (c .before .before .before .before .n .given .1) .1) (c .gave .ensures)
 
 same-length-5 : tie.Need-same-length-5
 same-length-5 c = search needs
@@ -103,7 +111,7 @@ same-length-6 : tie.Need-same-length-6
 same-length-6 c = search needs
 
 returns-3 : tie.Need-returns-3
-returns-3 c = let h = told-last (c .before .before .before .before .before .before .before .turn .ensures) (c .before .before .before .n2 .given .1) in by-last (h .1) (h .3) (ended-at _ _)
+returns-3 c = let h = told-last (c .before .before .before .before .before .before .before .before .turn .ensures) (c .before .before .before .before .n2 .given .1) in by-last (h .1) (c .stop .ensures) refl (h .3)
 
 same-length-7 : tie.Need-same-length-7
 same-length-7 c = search needs
@@ -112,7 +120,7 @@ same-length-8 : tie.Need-same-length-8
 same-length-8 c = search needs
 
 returns-4 : tie.Need-returns-4
-returns-4 c = by-end (told-end (c .before .before .before .before .turn .ensures) (c .enum-told .given .1)) (ended-at _ _)
+returns-4 c = by-end (told-end (c .before .before .before .before .before .turn .ensures) (c .before .enum-told .given .1)) (c .stop2 .ensures) refl
 
 pub advance-spec : {M : Type 1} → statement M
 advance-spec =
@@ -127,17 +135,19 @@ advance-spec =
     part-read-full-start
     part-read-full-end
     read-full-requires
-    add-t23
+    took-requires
     enum-known-n
     array-share-prefix-text
     slice-aggregate-write-all
     write-all-requires
-    add-next
+    gave-requires
     enum-known-n-2
     array-share-prefix-text-2
     slice-aggregate-write-all-2
     write-all-requires-2
+    stop-requires
     enum-told
+    stop-requires-2
     same-length
     same-length-2
     returns

@@ -31,12 +31,12 @@ advance-requires : tie.Need-advance-requires Inv-loop μ-loop
 advance-requires c κs = let l = c .before .before .before .loop in ready (l .inv .2) (c .before .before .loop-test .taken) (omega (arith, l .inv .1, c .before .before .before .before .before .before .before .before .before .before .before .pre .1))
 
 loop-less : tie.Need-loop-less Inv-loop μ-loop
-loop-less c = let l = c .before .before .before .before .before .before .before .before .loop in moves _ _ _ _ _ _ (l .inv .2) (c .before .before .before .before .before .before .before .loop-test .taken) (omega (arith, l .inv .1, c .before .before .before .before .before .before .before .before .before .before .before .before .before .before .before .before .pre .1)) (c .before .before .before .before .advance .ensures) .1
+loop-less c = let l = c .before .before .before .before .before .before .before .before .loop in moves _ _ _ _ _ (l .inv .2) (c .before .before .before .before .before .before .before .loop-test .taken) (omega (arith, l .inv .1, c .before .before .before .before .before .before .before .before .before .before .before .before .before .before .before .before .pre .1)) (c .before .before .before .before .advance .ensures) .1
 
 loop-again : tie.Need-loop-again Inv-loop μ-loop
 loop-again c =
     let l = c .before .before .before .before .before .before .before .before .loop in
-    let m = moves _ _ _ _ _ _ (l .inv .2) (c .before .before .before .before .before .before .before .loop-test .taken) (omega (arith, l .inv .1, c .before .before .before .before .before .before .before .before .before .before .before .before .before .before .before .before .pre .1)) (c .before .before .before .before .advance .ensures) .0 in
+    let m = moves _ _ _ _ _ (l .inv .2) (c .before .before .before .before .before .before .before .loop-test .taken) (omega (arith, l .inv .1, c .before .before .before .before .before .before .before .before .before .before .before .before .before .before .before .before .pre .1)) (c .before .before .before .before .advance .ensures) .0 in
     search (m, needs)
 
 same-length : tie.Need-same-length Inv-loop μ-loop
