@@ -4,7 +4,7 @@ use native.Mathlib.Omega.{arith}
 use mathlib.Core.Path.{_≡_, refl, _∙_}
 use mathlib.Core.Logic.{_⊎_, inl, inr}
 use mathlib.Core.Bool.{not, _&&_}
-use mathlib.Core.List.{List, [], _∷_, tail}
+use mathlib.Core.List.{List, [], _∷_, _++_, tail}
 use mathlib.Core.List.{List·Memᴰ as In, List·Memᴰ·head as here, List·Memᴰ·tail as there}
 use mathlib.Core.Option.{Option, none, some}
 use lib.Dec.{T, eqb, eqb→eq, leb, leb→le, ltb, ltb→lt}
@@ -110,22 +110,33 @@ module _ (L : Layout) where
       (λ t. inl (refl, eqb→eq (length b) (size L) t))
       (λ _. inr (1, here refl, refl))
 
-  abbrev ReadOutInto : List ℕ → Out → Type 0
-  ReadOutInto out o = ((o .answered ≡ 0) × (length (o .bytes) ≡ length out) × (drop (o .second) (o .bytes) ≡ drop (o .second) out)) ⊎ RefusesWith (1 ∷ 5 ∷ 12 ∷ []) 0 out o
+  -- reading out, by its three tests: the record is written, or the first that fails is answered
+  module _ (img : List ℕ) (n : ℕ) (out : List ℕ) where
+    abbrev r : List ℕ
+    r = loadRecord L (contractAt L (decode L img) n)
 
-  reading : (img : List ℕ) (n : ℕ) (out : List ℕ) → ReadOutInto out (readOut L img n out)
-  unfolding readOut
+    pub read-by : (P : Out → Type 0)
+        → (T (sound L img) → T (ltb n (L .packages) && decode L img .used n) → length r ≤ length out → P (record { answered = 0; second = length r; bytes = r ++ drop (length r) out }))
+        → ((k : ℕ) → In (suc k) (1 ∷ 5 ∷ 12 ∷ []) → P (refusal (suc k) 0 out))
+        → P (readOut L img n out)
+    unfolding readOut
+    read-by P f g =
+        by-test P _ _ (sound L img)
+        (λ ok. by-test P _ _ (ltb n (L .packages) && decode L img .used n)
+        (λ un. by-test P _ _ (leb (length r) (length out)) (λ t. f ok un (leb→le (length r) (length out) t)) (λ _. g 11 (there (there (here refl)))))
+        (λ _. g 4 (there (here refl))))
+        (λ _. g 0 (here refl))
+
+  reading : (img : List ℕ) (n : ℕ) (out : List ℕ)
+      → ((readOut L img n out .answered ≡ 0) × (length (readOut L img n out .bytes) ≡ length out)
+      × (drop (readOut L img n out .second) (readOut L img n out .bytes) ≡ drop (readOut L img n out .second) out))
+      ⊎ RefusesWith (1 ∷ 5 ∷ 12 ∷ []) 0 out (readOut L img n out)
   reading img n out =
-      by-test (ReadOutInto out) _ _ (sound L img)
-      (λ _. by-test (ReadOutInto out) _ _ (ltb n (L .packages) && decode L img .used n)
-      (λ _. by-test (ReadOutInto out) _ _ (leb (length r) (length out))
-      (λ t. let h = leb→le (length r) (length out) t in inl (refl, length-append r (drop (length r) out) ∙ rw (length-drop (length r) out) (omega arith), drop-append-seam r (drop (length r) out)))
-      (λ _. inr (12, there (there (here refl)), refl)))
-      (λ _. inr (5, there (here refl), refl)))
-      (λ _. inr (1, here refl, refl))
-    where
-      r : List ℕ
-      r = loadRecord L (contractAt L (decode L img) n)
+      let r = loadRecord L (contractAt L (decode L img) n) in
+      read-by img n out
+      (λ (o : Out). ((o .answered ≡ 0) × (length (o .bytes) ≡ length out) × (drop (o .second) (o .bytes) ≡ drop (o .second) out)) ⊎ RefusesWith (1 ∷ 5 ∷ 12 ∷ []) 0 out o)
+      (λ ok un h. inl (refl, length-append r (drop (length r) out) ∙ rw (length-drop (length r) out) (omega arith), drop-append-seam r (drop (length r) out)))
+      (λ k m. inr (suc k, m, refl))
 
   pub answers-always : AnswersAlways L
   answers-always = record { judging = judging; checking = checking; emptying = emptying; reading = reading }

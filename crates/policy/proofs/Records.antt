@@ -2,25 +2,24 @@
 use Prim.Native.Nat.{ℕ, zero, suc, _≤_, _<_}
 use native.Mathlib.Omega.{arith}
 use mathlib.Core.Path.{_≡_, refl}
-use mathlib.Core.Bool.{_&&_}
 use mathlib.Core.List.{List}
 use mathlib.Core.List.{List·Memᴰ as In, List·Memᴰ·not-nil as in-nil}
 use mathlib.Core.Option.{Option, none, some}
-use lib.Dec.{leb, ltb, lit≤}
+use lib.Dec.{lit≤}
 use lib.ListN.{length, replicate}
-use Rattle.policy.specs.Contract.{Aid, Row, Contract}
+use lib.Seq.{length-take-le}
+use Rattle.policy.specs.Contract.{Aid, Row}
 use Rattle.policy.specs.Layout.{Layout, LayoutOk, small}
 use Rattle.policy.specs.Record.{Request, load, parse}
-use Rattle.policy.specs.Tables.{noTok, decode}
-use Rattle.policy.specs.Lookup.{contractAt}
-use Rattle.policy.specs.Sound.{sound}
-use Rattle.policy.specs.Judge.{Out, loadRecord, readOut}
-use Rattle.policy.specs.Records.{requestOf, ValidRow, AtMost, recordBytes, Within, longestRecord, LongestRecord}
-use Rattle.policy.proofs.Sets.{by-test, and-r, each-cons}
+use Rattle.policy.specs.Tables.{noTok}
+use Rattle.policy.specs.Judge.{readOut}
+use Rattle.policy.specs.Records.{ValidRow, AtMost, recordBytes, Within, longestRecord, LongestRecord}
+use Rattle.policy.proofs.Sets.{each-cons}
 use Rattle.policy.proofs.ParseFacts.{parsed-within, parsed-length}
 use Rattle.policy.proofs.Written.{written-read}
 use Rattle.policy.proofs.RecordsLength.{record-length, within-writable}
-use Rattle.policy.proofs.Theorems.{read-out-again, small-ok}
+use Rattle.policy.proofs.Theorems.{small-ok}
+use Rattle.policy.proofs.Numbering.{read-length}
 
 module _ (L : Layout) (lo : LayoutOk L) where
   parsed-short : (s : List ℕ) (q : Request) → parse L s ≡ some q → length s ≤ longestRecord L
@@ -33,26 +32,13 @@ module _ (L : Layout) (lo : LayoutOk L) where
       go none e = refl
       go (some q) e = let a = parsed-short s q e in absurd (omega arith)
 
-  -- what is written is no longer; a refusal is no acceptance
-  abbrev Short : Out → Type 0
-  Short o = o .answered ≡ 0 → o .second ≤ longestRecord L
-
-  read-out-short : (img : List ℕ) (n : ℕ) (out : List ℕ) → Short (readOut L img n out)
-  unfolding readOut
-  read-out-short img n out =
-      by-test Short _ _ (sound L img)
-      (λ ok. by-test Short _ _ (ltb n (L .packages) && decode L img .used n)
-      (λ un. by-test Short _ _ (leb (length r) (length out))
-      (λ _ _. parsed-short r (requestOf c) (read-out-again L lo img n ok (and-r (ltb n (L .packages)) (decode L img .used n) un) .parses c refl))
-      (λ _ e. absurd (omega arith)))
-      (λ _ e. absurd (omega arith)))
-      (λ _ e. absurd (omega arith))
-    where
-      c : Contract
-      c = contractAt L (decode L img) n
-
-      r : List ℕ
-      r = loadRecord L c
+  -- what is read out is a record that is read
+  read-out-short : (img : List ℕ) (n : ℕ) (out : List ℕ) → readOut L img n out .answered ≡ 0 → readOut L img n out .second ≤ longestRecord L
+  read-out-short img n out z =
+      let (ok, used, fits, e) = read-length L lo img n out z in
+      let a = parsed-short _ _ e in
+      let b = length-take-le (readOut L img n out .second) (readOut L img n out .bytes) fits in
+      omega arith
 
   pub longest-record : LongestRecord L
   longest-record = (too-long, read-out-short)

@@ -5,36 +5,32 @@ use mathlib.Core.Bool.{Bool}
 use mathlib.Core.List.{List, _++_}
 use lib.ListN.{length, take, getD}
 use lib.Seq.{length-take-le, take-at}
-use Rattle.lines.specs.declared.Held.{Held}
 use Rattle.lines.specs.declared.Held.the-variants.{Record, Start, Bad, End}
 use Rattle.lines.specs.Lines.{recordLine, badLine, Printed}
 use Rattle.lines.specs.Frames.{heldAs}
-use Rattle.lines.specs.Session.{judging, Turn, reads, prints, closes, stops, turnBy, turn}
+use Rattle.lines.specs.Session.{judging, Turn, reads, prints, closes, stops, turn}
+use Rattle.lines.proofs.Session.{turn-by}
 use Rattle.session.specs.declared.Then.{Then}
 use Rattle.session.specs.declared.Then.the-variants as then
 use Rattle.session.specs.declared.Progress.{Progress}
 use Rattle.session.specs.Turned.{TurnedBy, Turned, tookIn, gaveOut, stopped, AdvancedBy, Advanced}
 
 module _ (n : ℕ) (image l : List ℕ) (ended : Bool) where
-  by : {h : Held} → heldAs l ended ≡ h → turn n image l ended ≡ turnBy n image l h
-  unfolding turn
-  by e = ap (λ (h : Held). turnBy n image l h) e
-
   pub of-record : {k r : ℕ} {left lent text : List ℕ} → heldAs l ended ≡ Record k
       → Printed (recordLine n (getD (take k l) 3 0) (judging image (take k l) .0) (judging image (take k l) .1)) lent r text × (left ≡ judging image (take k l) .2)
       → Turned (turn n image l ended) (then.Line r) image left lent text
   of-record {k = k} e (p, q) =
       let line : List ℕ = recordLine n (getD (take k l) 3 0) (judging image (take k l) .0) (judging image (take k l) .1) in
-      record { is = (line, by e ∙ ap (λ (z : List ℕ). prints line z) (sym q), p) }
+      record { is = (line, turn-by n image l ended e ∙ ap (λ (z : List ℕ). prints line z) (sym q), p) }
 
   pub of-start : {k : ℕ} {lent text : List ℕ} → heldAs l ended ≡ Start k → Turned (turn n image l ended) (then.Read k) image image lent text
-  of-start e = record { is = (by e, refl) }
+  of-start e = record { is = (turn-by n image l ended e, refl) }
 
   pub of-bad : {r : ℕ} {lent text : List ℕ} → heldAs l ended ≡ Bad → Printed (badLine n) lent r text → Turned (turn n image l ended) (then.Last r) image image lent text
-  of-bad e p = record { is = (_, by e, p, refl) }
+  of-bad e p = record { is = (_, turn-by n image l ended e, p, refl) }
 
   pub of-end : {lent text : List ℕ} → heldAs l ended ≡ End → Turned (turn n image l ended) then.End image image lent text
-  of-end e = record { is = (by e, refl) }
+  of-end e = record { is = (turn-by n image l ended e, refl) }
 
 -- ---- what the code's turn tells
 module _ {t : Turn} {r : Then} {image left lent text : List ℕ} (h : Turned t r image left lent text) where
