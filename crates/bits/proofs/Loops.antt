@@ -50,7 +50,7 @@ module _ {A : Type 0} (f : A → Bool) where
 
 -- one number more
 module _ (f : ℕ → Bool) (i : ℕ) where
-  every-snoc : every f (upto (i + 1)) ≡ every f (upto i) && f i
+  pub every-snoc : every f (upto (i + 1)) ≡ every f (upto i) && f i
   every-snoc = ap (every f) (upto-split i 1) ∙ every-append f (upto i) (i ∷ []) ∙ ap (λ (b : Bool). every f (upto i) && b) (and-true (f i))
 
   pub exists-snoc : exists f (upto (i + 1)) ≡ exists f (upto i) || f i

@@ -5,7 +5,7 @@ use mathlib.Core.Path.{_≡_, refl, sym, ap, _∙_, subst}
 use mathlib.Core.Logic.{_⊎_, inl, inr, ⊎-map}
 use mathlib.Core.Bool.{Bool, true, false, not, cond}
 use mathlib.Core.List.{List, [], _∷_, map}
-use mathlib.Core.List.{List·Memᴰ as In}
+use mathlib.Core.List.{List·Memᴰ as In, List·Memᴰ·not-nil as in-nil}
 use lib.Dec.{T, eqb, leb, leb→le, ltb}
 use lib.ListN.{length, take, drop}
 use lib.Seq.{take-append-seam}
@@ -18,18 +18,20 @@ use Rattle.policy.specs.Judge.{Out, refusal, judge, check, writeEmpty, loadReco
 use Rattle.policy.specs.Lookup.{contractAt}
 use Rattle.policy.specs.Sound.{sound}
 use Rattle.policy.specs.History.{SameContract, answers, imageAfter, StandsFor, contractsAfter}
+use Rattle.policy.specs.Eras.{answersOver, imageOver, machineAnswersOver, contractsOver, imageThen, contractsThen}
 use Rattle.policy.specs.Claims.{RefusesWith, IsFirst, allCauses}
-use Rattle.policy.proofs.Sets.{and-l, and-r, test, every-in}
+use Rattle.policy.proofs.Sets.{and-l, and-r, test, every-in, each-cons}
 use Rattle.policy.proofs.Answers.{ascends, first-is}
 use Rattle.policy.proofs.ParseFacts.{first-aid-part}
 use Rattle.policy.proofs.Entries.{answers-always}
 use Rattle.policy.proofs.Numbering.{second-number, check-counts}
 use Rattle.policy.proofs.Placing.{placing}
 use Rattle.policy.proofs.Records.{longest-record}
-use Rattle.policy.proofs.Theorems.{history, first-cause, accepted-exactly, sound-stands, read-out-again, small-ok}
+use Rattle.policy.proofs.Eras.{history-from}
+use Rattle.policy.proofs.Theorems.{empty-stands, so-far, first-cause, accepted-exactly, sound-stands, read-out-again, small-ok}
 use Rattle.card.specs.Packed.{answerOf, secondOf, aidPlace}
 use Rattle.card.specs.Calls.{Returned, Calls}
-use Rattle.card.specs.Demands.{Refused, CallsAnswer, CallsCause, CallsVerdict, Restores, CallsReadOut, CallsNumber, CallsHistory, CallsAid}
+use Rattle.card.specs.Demands.{Refused, CallsAnswer, CallsCause, CallsVerdict, Restores, CallsReadOut, CallsNumber, HistoryOfCalls, CallsHistory, CallsAid}
 use Rattle.card.proofs.Packs.{placed, aid-short}
 use Rattle.card.proofs.Tells.{Tells, checked-tells, emptied-tells, judged-tells, wrote, read-tells}
 
@@ -159,16 +161,44 @@ as-history (s ∷ ss) (r ∷ rs) image (mid, c, h) =
       k .1 ∙ ap (λ (z : List ℕ). imageAfter small z ss) (c .left-is),
     )
 
-pub calls-history : CallsHistory
-calls-history lent r image c z ss rs left h =
-    let e = accepted (1 ∷ []) tt z (calls-answer .emptying lent r image c) .2 in
-    let k = as-history ss rs (emptyImage small) (subst (λ (b : List ℕ). Calls b ss rs left) e h) in
-    let d = history small small-ok ss in
+-- from an image that stands for contracts
+calls-from : (image : List ℕ) (cs : List Contract) → StandsFor small image cs → (ss : List (List ℕ)) (rs left : List ℕ) → Calls image ss rs left → HistoryOfCalls cs ss rs left
+unfolding answersOver imageOver machineAnswersOver contractsOver
+calls-from image cs f ss rs left h =
+    let k = as-history ss rs image h in
+    let d = history-from small small-ok image cs f ss [] tt in
     record {
       equal-answers = k .0 ∙ d .equal-answers;
-      stands-for = subst (λ (b : List ℕ). StandsFor small b (contractsAfter small [] ss)) (sym (k .1)) (d .stands-for);
+      stands-for = subst (λ (b : List ℕ). StandsFor small b (contractsAfter small cs ss)) (sym (k .1)) (d .stands-for);
       calls-granted = d .calls-granted;
       needs-present = d .needs-present;
+    }
+
+-- on an image that refuses all
+calls-refused : (image : List ℕ) → ((s : List ℕ) → judge small image s ≡ refusal 1 255 image) → (ss : List (List ℕ)) (rs : List ℕ) {left : List ℕ} → Calls image ss rs left
+    → ((r : ℕ) → In r rs → (answerOf r ≡ 1) × (secondOf r ≡ 255)) × (left ≡ image)
+calls-refused image all [] [] e = ((λ r m. absurd (in-nil m)), e)
+calls-refused image all [] (r ∷ rs) e = absurd e
+calls-refused image all (s ∷ ss) [] e = absurd e
+calls-refused image all (s ∷ ss) (r ∷ rs) {left} (mid, c, h) =
+    let t = judged-tells image s c in
+    let k = calls-refused image all ss rs (subst (λ (b : List ℕ). Calls b ss rs left) (c .left-is ∙ ap (λ (o : Out). o .bytes) (all s)) h) in (
+      each-cons _ r rs (t .answer ∙ ap (λ (o : Out). o .answered) (all s), t .second ∙ ap (λ (o : Out). o .second) (all s)) (k .0),
+      k .1,
+    )
+
+pub calls-history : CallsHistory
+unfolding imageAfter
+calls-history =
+    record {
+      from-empty = λ lent r image c z ss rs left h.
+          let e = accepted (1 ∷ []) tt z (calls-answer .emptying lent r image c) .2 in
+          calls-from (emptyImage small) [] (empty-stands small small-ok) ss rs left (subst (λ (b : List ℕ). Calls b ss rs left) e h);
+      over-change = λ before ss rs left al. calls-from (imageThen before) (contractsThen before) (so-far .goes-on before al) ss rs left;
+      left-out = λ before ss rs left held h.
+          let o = so-far .left-out before held in
+          let k = calls-refused (imageThen before) (o .refuses []) ss rs h in
+          record { unsound = o .unsound; each = k .0; left-is = k .1 };
     }
 
 -- ---- the first AID

@@ -19,9 +19,10 @@ use Rattle.policy.specs.Lookup.{contractAt}
 use Rattle.policy.specs.Sound.{sound}
 use Rattle.policy.specs.Judge.{loadRecord}
 use Rattle.policy.specs.Records.{loadOf, requestOf}
-use Rattle.policy.specs.History.{SameContract, StandsFor, machineAnswers, contractsAfter}
+use Rattle.policy.specs.History.{SameContract, AllAllowed, StandsFor, machineAnswers, contractsAfter}
 use Rattle.policy.specs.Numbering.{Numbered}
 use Rattle.policy.specs.Placing.{Placed}
+use Rattle.policy.specs.Eras.{imageThen, contractsThen}
 use Rattle.policy.specs.Claims.{CallsGranted, NeedsPresent, FitsLimits, IsFirst, allCauses}
 use Rattle.card.specs.Packed.{answerOf, secondOf}
 use Rattle.card.specs.Calls.{Checked, Emptied, Judged, ReadInto, AidFound, Calls}
@@ -96,16 +97,29 @@ pub record CallsNumber : Type 0 where
   pub judging : (image rec : List ℕ) (r : ℕ) (left : List ℕ) (q : Request) → Judged image rec r left → answerOf r ≡ 0 → parse small rec ≡ some q → NumberOfCall image rec r left q
   pub reading : (image : List ℕ) (number : ℕ) (lent : List ℕ) (r : ℕ) (left : List ℕ) → ReadInto image number lent r left → answerOf r ≡ 0 → secondOf r ≤ 4145
 
--- ---- demand 3: a call that wrote the empty image, and after it calls that judge a record each
-pub record HistoryOfCalls (ss : List (List ℕ)) (rs left : List ℕ) : Type 0 where
-  pub equal-answers : map answerOf rs ≡ machineAnswers small [] ss
-  pub stands-for : StandsFor small left (contractsAfter small [] ss)
-  pub calls-granted : CallsGranted (contractsAfter small [] ss)
-  pub needs-present : NeedsPresent (contractsAfter small [] ss)
+-- ---- demand 3: calls that judge a record each, with these contracts held at first
+pub record HistoryOfCalls (cs : List Contract) (ss : List (List ℕ)) (rs left : List ℕ) : Type 0 where
+  pub equal-answers : map answerOf rs ≡ machineAnswers small cs ss
+  pub stands-for : StandsFor small left (contractsAfter small cs ss)
+  pub calls-granted : CallsGranted (contractsAfter small cs ss)
+  pub needs-present : NeedsPresent (contractsAfter small cs ss)
 
-abbrev pub CallsHistory : Type 0
-CallsHistory = (lent : List ℕ) (r : ℕ) (image : List ℕ) → Emptied lent r image → answerOf r ≡ 0
-    → (ss : List (List ℕ)) (rs left : List ℕ) → Calls image ss rs left → HistoryOfCalls ss rs left
+-- each is refused with 1, and the image stays
+pub record AllRefused (image rs left : List ℕ) : Type 0 where
+  pub unsound : T (sound small image) → ⊥
+  pub each : (r : ℕ) → In r rs → (answerOf r ≡ 1) × (secondOf r ≡ 255)
+  pub left-is : left ≡ image
+
+pub record CallsHistory : Type 0 where
+  -- from a call that wrote the empty image
+  pub from-empty : (lent : List ℕ) (r : ℕ) (image : List ℕ) → Emptied lent r image → answerOf r ≡ 0
+      → (ss : List (List ℕ)) (rs left : List ℕ) → Calls image ss rs left → HistoryOfCalls [] ss rs left
+  -- over R-7's change, on a card whose records before it were judged by document 01's rules: where it holds no method token of 128 or more,
+  pub over-change : (before ss : List (List ℕ)) (rs left : List ℕ) → AllAllowed small (contractsThen before) → Calls (imageThen before) ss rs left
+      → HistoryOfCalls (contractsThen before) ss rs left
+  -- and where it holds one: 'that card is unsound from then on'
+  pub left-out : (before ss : List (List ℕ)) (rs left : List ℕ) → (AllAllowed small (contractsThen before) → ⊥) → Calls (imageThen before) ss rs left
+      → AllRefused (imageThen before) rs left
 
 -- ---- the first AID: 0 for a malformed record, else 5 and the length of the AID, which stands there
 pub record AidTold (rec : List ℕ) (r : ℕ) : Type 0 where

@@ -80,8 +80,8 @@ settled-by L img a c ask = go (answer (tableCauses L (decode L img) a c)) (answe
   where
     go : (m n : ℕ) → answer (tableCauses L (decode L img) a c) ≡ m → answer (lookCauses (shortLook L (decode L img) a c)) ≡ n
         → settled L img a c ≡ judged L img (numberFor L (decode L img) a) (draft L (decode L img) a c .tables) (firstOf m n)
-    go zero zero e f = settled-accepted L img a c (ask .is-sound) (ask .valid) (ask .is-proper) e f
-    go zero (suc n) e f = settled-short L img a c (ask .is-sound) (ask .valid) (ask .is-proper) e n f
+    go zero zero e f = settled-accepted L img a c (ask .is-sound) (ask .within) (ask .is-proper) e f
+    go zero (suc n) e f = settled-short L img a c (ask .is-sound) (ask .within) (ask .is-proper) e n f
     go (suc m) n e f = settled-refused L img a c m e
 
 module _ (L : Layout) (img : List ℕ) (a : Aid) (r : Row) where

@@ -41,12 +41,12 @@ module _ (L : Layout) (img : List ℕ) (a : Aid) (c : Change) where
     gives-late : (m : ℕ) → m ≡ answer (lookCauses k) → (m ≡ 0 → ⊥) → Gives (settled L img a c) m 255 img
     gives-late zero e ne = absurd (ne refl)
     gives-late (suc m) e ne =
-        gives (suc m) 255 img (settled-short L img a c (ask .is-sound) (ask .valid) (ask .is-proper) early m (ap (λ (z : Look). answer (lookCauses z)) short-is ∙ sym e))
+        gives (suc m) 255 img (settled-short L img a c (ask .is-sound) (ask .within) (ask .is-proper) early m (ap (λ (z : Look). answer (lookCauses z)) short-is ∙ sym e))
 
     gives-done : (m : ℕ) → m ≡ answer (lookCauses k) → m ≡ 0 → {img′ : List ℕ} → Wrote L img′ (d .tables) → Gives (settled L img a c) 0 n img′
     gives-done m e z {img′} w =
         gives 0 n img′
-        (settled-accepted L img a c (ask .is-sound) (ask .valid) (ask .is-proper) early (ap (λ (z : Look). answer (lookCauses z)) short-is ∙ sym e ∙ z)
+        (settled-accepted L img a c (ask .is-sound) (ask .within) (ask .is-proper) early (ap (λ (z : Look). answer (lookCauses z)) short-is ∙ sym e ∙ z)
         ∙ λ i. refusal 0 (number-is i) ((ap (λ (x : Draft). encode L (x .tables)) draft-is ∙ wrote-is L w) i))
 
 -- ---- kind 2

@@ -6,12 +6,12 @@ use Rattle.policy.specs.Contract.{Aid, Row, validAid}
 use Rattle.policy.specs.Layout.{Layout}
 use Rattle.policy.specs.Record.{Change, proper}
 use Rattle.policy.specs.Sound.{sound}
-use Rattle.policy.proofs.Formed.{Valid}
+use Rattle.policy.specs.Records.{WithinChange}
 
 pub record Asked (L : Layout) (img : List ℕ) (a : Aid) (c : Change) : Type 0 where
   pub is-sound : T (sound L img)
   pub first-valid : T (validAid a)
-  pub valid : Valid L c
+  pub within : WithinChange L c
   pub is-proper : T (proper a c)
 
 -- a row of AID a with the tokens x and y

@@ -64,6 +64,15 @@ pub fn version(c: Card) -> u8
     }
 }
 
+// Method tokens are below this.
+pub fn methods(c: Card) -> u8
+    ensures { λ r. ⌜ r ≡ layoutOf c .methods ⌝ }
+{
+    match c {
+        Card::Small => 128,
+    }
+}
+
 // The most calls, grants and needs of a load.
 pub fn most_rows(c: Card) -> usize
     ensures { λ r. ⌜ r ≡ layoutOf c .mostRows ⌝ }

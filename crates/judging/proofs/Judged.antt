@@ -48,7 +48,7 @@ module _ (L : Layout) (img s : List ℕ) {ok : Bool} (e : ok ≡ sound L img) wh
       asked t = record {
         is-sound = passed e h;
         first-valid = parsed-valid p q .0;
-        valid = parsed-valid p q .1;
+        within = parsed-valid p q .1;
         is-proper = passed d t;
       }
 

@@ -51,7 +51,7 @@ module _ (L : Layout) (img : List ℕ) (a : Aid) (p : List Tok) (c g n : List Ro
       → settled L img a ch ≡ record { answered = 0; second = m; bytes = encode L (loadAt L t m contract .tables) }
   unfolding draft numberFor
   accepted-at m o f e =
-      settled-accepted L img a ch (ask .is-sound) (ask .valid) (ask .is-proper) (early none (some m) o f) e
+      settled-accepted L img a ch (ask .is-sound) (ask .within) (ask .is-proper) (early none (some m) o f) e
       ∙ ap₂ (λ (x y : Option ℕ). record { answered = 0; second = orElse x (orElse y 255 (λ k. k)) (λ k. k); bytes = encode L (orElse y (kept t) (λ k. loadAt L t k contract) .tables) }) o f
 
   pub decides-late : L .capacity ≤ 32 → (r : Decided) → numberOf L t a ≡ none → freeNumber L t ≡ some (r .at) → r .met ≡ maskOf (meets a p) (t .unmet) → r .waiting ≡ maskOf (waitsFor a) (t .waiting)
@@ -66,4 +66,4 @@ module _ (L : Layout) (img : List ℕ) (a : Aid) (p : List Tok) (c g n : List Ro
         refused = λ q. absurd (q z);
         accepted = λ q. record { outcome = accepted-at (r .at) o f (sym late ∙ z); away = o; free = f; met-is = e; waiting-is = w };
       }
-      go (suc k) z = refuses r k z (settled-short L img a ch (ask .is-sound) (ask .valid) (ask .is-proper) (early none (some (r .at)) o f) k (sym late ∙ z))
+      go (suc k) z = refuses r k z (settled-short L img a ch (ask .is-sound) (ask .within) (ask .is-proper) (early none (some (r .at)) o f) k (sym late ∙ z))

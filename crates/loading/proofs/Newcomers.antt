@@ -52,7 +52,7 @@ module _ (L : Layout) (img : List ℕ) (a : Aid) (p : List Tok) (c g n : List Ro
       go : (k : ℕ) → answer (lookCauses (shortLook L t a ch)) ≡ k → answer (lookCauses (shortLook L t a ch)) ≡ 0
       go zero e = e
       go (suc k) e =
-          let q : suc k ≡ 0 = ap (λ (o : Out). o .answered) (sym (settled-short L img a ch (ask .is-sound) (ask .valid) (ask .is-proper) none-early k e) ∙ ok .outcome) in
+          let q : suc k ≡ 0 = ap (λ (o : Out). o .answered) (sym (settled-short L img a ch (ask .is-sound) (ask .within) (ask .is-proper) none-early k e) ∙ ok .outcome) in
           absurd (omega (arith, q))
 
   draft-is : draft L t a ch ≡ loadAt L t (r .at) contract
@@ -62,7 +62,7 @@ module _ (L : Layout) (img : List ℕ) (a : Aid) (p : List Tok) (c g n : List Ro
   pub newcomer-at : Newcomer L (decode L img) (r .at) contract
   newcomer-at =
       let q = load-reached L t a p c g n (λ (d : Draft) (k : Look). (m : ℕ) × Newcomer L t m contract × (d .tables .used ≡ put m true (t .used)))
-      formed (ask .valid .0) (ask .is-proper) (λ m new. (m, new, refl)) none-early in
+      formed (ask .within .0 .0) (ask .is-proper) (λ m new. (m, new, refl)) none-early in
       let free : FreeIs (L .packages) (t .used) (some (r .at)) = subst (FreeIs (L .packages) (t .used)) (ok .free) (free-number-is L t) in
       by-number (q .0) (λ (x : ℕ). T (put (q .0) true (t .used) x) → (T (t .used x) → ⊥) → Newcomer L t x contract) (r .at)
       (λ u f. q .1) (λ ne u f. absurd (f (subst T (at-old (q .0) true (t .used (r .at)) (r .at) ne) u)))
@@ -70,10 +70,10 @@ module _ (L : Layout) (img : List ℕ) (a : Aid) (p : List Tok) (c g n : List Ro
 
   pub load-fits : Fitting L (loadAt L (decode L img) (r .at) contract .tables)
   load-fits = subst (λ (d : Draft). Fitting L (d .tables)) draft-is
-      (accepted-formed L img a ch (ask .is-sound) (ask .first-valid) (ask .valid) (ask .is-proper) none-early none-late .1)
+      (accepted-formed L img a ch (ask .is-sound) (ask .first-valid) (ask .within) (ask .is-proper) none-early none-late .1)
 
   pub load-kept : loadAt L (decode L img) (r .at) contract .lost ≡ []
   load-kept = subst (λ (d : Draft). d .lost ≡ []) draft-is
-      (accepted L (draft L t a ch) (accepted-formed L img a ch (ask .is-sound) (ask .first-valid) (ask .valid) (ask .is-proper) none-early none-late .0)
+      (accepted L (draft L t a ch) (accepted-formed L img a ch (ask .is-sound) (ask .first-valid) (ask .within) (ask .is-proper) none-early none-late .0)
       (ap (λ (k : Look). answer (lookCauses k))
-      (kinds ch .1 L t a formed (sound-lawful L img (ask .is-sound)) (sound-fitting L img (ask .is-sound)) (ask .valid) (ask .is-proper) none-early) ∙ none-late) .2)
+      (kinds ch .1 L t a formed (sound-lawful L img (ask .is-sound)) (sound-fitting L img (ask .is-sound)) (ask .within) (ask .is-proper) none-early) ∙ none-late) .2)

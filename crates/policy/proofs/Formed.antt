@@ -10,18 +10,19 @@ use lib.ListN.{length}
 use Rattle.policy.specs.Lists.{NoRepeat}
 use Rattle.policy.specs.Contract.{Aid, Tok, Row, Contract, validAid}
 use Rattle.policy.specs.Layout.{Layout}
-use Rattle.policy.specs.Record.{Change, load, remove, addService, removeService, addCall, removeCall, addGrant, removeGrant, addNeed, removeNeed, proper}
+use Rattle.policy.specs.Record.{Change, proper}
 use Rattle.policy.specs.Causes.{answer}
 use Rattle.policy.specs.Machine.{effect}
 use Rattle.policy.specs.Tables.{Tables, Unmet, Waiting, noTok}
 use Rattle.policy.specs.Lookup.{serviceAt}
 use Rattle.policy.specs.Draft.{Draft, callRow, draft, look}
 use Rattle.policy.specs.Judge.{tableCauses}
+use Rattle.policy.specs.Records.{ValidTok, WithinChange}
 use Rattle.policy.specs.History.{FourSets}
 use Rattle.policy.specs.ShortCheck.{shortLook}
 
 -- ---- facts about tables, by their parts, so that an unchanged part is passed on as it is
--- Formed holds of every draft's tables; Lawful and Fitting besides of a sound image's
+-- Formed holds of every draft's tables; Lawful, Fitting and Ruled besides of a sound image's
 pub record Names (L : Layout) (used : ℕ → Bool) (aid : ℕ → Aid) (tok : ℕ → ℕ → Tok) (provides : ℕ → ℕ → Bool) : Type 0 where
   pub used-lt : (n : ℕ) → T (used n) → n < L .packages
   pub prov-lt : (j k : ℕ) → T (provides j k) → k < L .services
@@ -74,6 +75,11 @@ pub record Fitting (L : Layout) (t : Tables) : Type 0 where
   pub unmet-fits : length (t .unmet) ≤ L .capacity
   pub waiting-fits : length (t .waiting) ≤ L .capacity
 
+-- the rules of L allow the tables: the method tokens of provided services and of unmet calls are L's
+pub record Ruled (L : Layout) (t : Tables) : Type 0 where
+  pub provided : (j k : ℕ) → T (t .provides j k) → ValidTok L (t .tok j k)
+  pub unmet : (u : Unmet) → In u (t .unmet) → ValidTok L (u .tok)
+
 -- ---- what package n of the tables provides, calls, grants and needs
 pub data ProvidesAt (t : Tables) (n : ℕ) (s : Tok) : Type 0 where
   at : (k : ℕ) → T (t .provides n k) → s ≡ t .tok n k → ProvidesAt t n s
@@ -102,22 +108,6 @@ pub record Stands (t : Tables) (lost : List Unmet) (cs : List Contract) : Type 0
   pub one-each : NoRepeat (map (λ c. c .aid) cs)
   pub four-sets : (c : Contract) → In c cs → FourSets c
 
--- ---- what reading gives of a change
-abbrev pub ValidRows : List Row → Type 0
-ValidRows l = (r : Row) → In r l → T (validAid (r .aid))
-
-abbrev pub Valid : Layout → Change → Type 0
-Valid L (load p c g n) = (length p ≤ L .services) × ValidRows c × ValidRows g × ValidRows n
-Valid L remove = Unit {0}
-Valid L (addService s l) = (a : Aid) → In a l → T (validAid a)
-Valid L (removeService s) = Unit {0}
-Valid L (addCall r) = T (validAid (r .aid))
-Valid L (removeCall r) = T (validAid (r .aid))
-Valid L (addGrant r) = T (validAid (r .aid))
-Valid L (removeGrant r) = T (validAid (r .aid))
-Valid L (addNeed r) = T (validAid (r .aid))
-Valid L (removeNeed r) = T (validAid (r .aid))
-
 -- ---- what each kind has to show: its draft is formed, and stands for the contracts that the record would leave
 pub record Turns (L : Layout) (d : Draft) (ds : List Contract) : Type 0 where
   pub formed : Formed L (d .tables)
@@ -125,10 +115,10 @@ pub record Turns (L : Layout) (d : Draft) (ds : List Contract) : Type 0 where
   pub stands : Stands (d .tables) (d .lost) ds
 
 abbrev pub KindTurns : Change → Type 0
-KindTurns c = (L : Layout) (t : Tables) (cs : List Contract) (a : Aid) → Formed L t → Stands t [] cs → T (validAid a) → Valid L c → T (proper a c)
+KindTurns c = (L : Layout) (t : Tables) (cs : List Contract) (a : Aid) → Formed L t → Stands t [] cs → T (validAid a) → WithinChange L c → T (proper a c)
     → answer (tableCauses L t a c) ≡ 0 → Turns L (draft L t a c) (effect cs a c)
 
 -- and its short check says what the full look at its draft says, where the tables are lawful and fit
 abbrev pub KindShort : Change → Type 0
-KindShort c = (L : Layout) (t : Tables) (a : Aid) → Formed L t → Lawful t → Fitting L t → Valid L c → T (proper a c) → answer (tableCauses L t a c) ≡ 0
+KindShort c = (L : Layout) (t : Tables) (a : Aid) → Formed L t → Lawful t → Fitting L t → WithinChange L c → T (proper a c) → answer (tableCauses L t a c) ≡ 0
     → look L (draft L t a c) ≡ shortLook L t a c

@@ -268,7 +268,7 @@ pub kind-3 : (s : Tok) (l : List Aid) → KindTurns (addService s l)
 unfolding proper
 kind-3 s l L t cs a f st va vl pr =
     reach-3 L t f a (λ d _. Turns L d (alter a (altered (addService s l)) cs)) s l (λ j k uj aj fresh free.
-    service-turns L t f j k uj (free .0) (free .1) s fresh l vl (λ b m e. apart b m (e ∙ aj))
+    service-turns L t f j k uj (free .0) (free .1) s fresh l (vl .1 .1) (λ b m e. apart b m (e ∙ aj))
     (distinct→once eqAid eqAid→ eqAid-refl l (and-r (every (λ b. not (eqAid b a)) l) (distinct eqAid l) pr)) cs a st aj)
   where
     apart : (b : Aid) → In b l → b ≡ a → ⊥

@@ -99,7 +99,7 @@ module _ (L : Layout) (t : Tables) (cs : List Contract) (a : Aid) (fo : Formed L
 pub kind-5 : (r : Row) → KindTurns (addCall r)
 unfolding proper
 kind-5 r L t cs a fo st va vr own =
-    reach-5 L t fo a (λ d _. Turns L d (alter a (altered (addCall r)) cs)) r (λ i ui ai. more-call L t cs a fo st r i ui ai vr (λ e. not-e (eqAid (r .aid) a) own (eqAid-of e)))
+    reach-5 L t fo a (λ d _. Turns L d (alter a (altered (addCall r)) cs)) r (λ i ui ai. more-call L t cs a fo st r i ui ai (vr .0) (λ e. not-e (eqAid (r .aid) a) own (eqAid-of e)))
 
 pub kind-6 : (r : Row) → KindTurns (removeCall r)
 kind-6 r L t cs a fo st va vr own = reach-6 L t fo a (λ d _. Turns L d (alter a (altered (removeCall r)) cs)) r (less-call L t cs a fo st r)

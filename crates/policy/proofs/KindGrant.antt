@@ -168,7 +168,7 @@ pub kind-7 : (r : Row) → KindTurns (addGrant r)
 unfolding proper
 kind-7 r L t cs a f st va vr own =
     reach-7 L t f a (λ d _. Turns L d (alter a (altered (addGrant r)) cs)) r
-    (λ j k p aj ek. add-turns L t f r j k p ek cs st a aj vr (λ e. not-e (eqAid (r .aid) a) own (eqAid-of e)))
+    (λ j k p aj ek. add-turns L t f r j k p ek cs st a aj (vr .0) (λ e. not-e (eqAid (r .aid) a) own (eqAid-of e)))
 
 pub kind-8 : (r : Row) → KindTurns (removeGrant r)
 kind-8 r L t cs a f st va vr own =

@@ -220,9 +220,9 @@ module _ (L : Layout) (t : Tables) (m : ℕ) (k : Contract) (new : Newcomer L t 
 pub kind-1 : (p : List Tok) (c g n : List Row) → KindTurns (load p c g n)
 kind-1 p c g n L t cs a f st va v pr =
     let k : Contract = record { aid = a; provides = p; calls = c; grants = g; needs = n } in
-    load-reached L t a p c g n (λ d _. Turns L d (k ∷ cs)) f (v .0) pr
+    load-reached L t a p c g n (λ d _. Turns L d (k ∷ cs)) f (v .0 .0) pr
     (λ m new. record {
-      formed = load-formed L t m k new va (v .1) (v .2);
+      formed = load-formed L t m k new va (λ r i. v .1 .1 r i .0) (λ r i. v .2 .1 r i .0);
       lost-off = left-off L t m k new va n;
       stands = load-stands L t m k new va cs st;
     })

@@ -10,6 +10,7 @@ pub mod Found
 pub mod Facts
 pub mod ContractAt
 pub mod LawfulCard
+pub mod Ruled
 pub mod RoundTrip
 pub mod SoundFacts
 pub mod Written
@@ -38,6 +39,7 @@ pub mod ShortRemove
 pub mod ShortRows
 pub mod AllKinds
 pub mod Step
+pub mod Eras
 pub mod Theorems
 pub mod Entries
 pub mod Records

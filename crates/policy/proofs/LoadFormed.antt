@@ -15,7 +15,7 @@ use Rattle.policy.specs.Draft.{callRow, loadedNames, notServed, loadedSe
 use Rattle.policy.proofs.Sets.{and-i, not-e, none-to, keep-in, once-keep, once-map, each-map-keep, once-append, each-append}
 use Rattle.policy.proofs.Equal.{eqAid-of, tok-has}
 use Rattle.policy.proofs.Put.{by-number}
-use Rattle.policy.proofs.Formed.{Names, Bits, Off, UnmetRows, WaitingRows, grantBit, Formed, ValidRows}
+use Rattle.policy.proofs.Formed.{Names, Bits, Off, UnmetRows, WaitingRows, grantBit, Formed}
 use Rattle.policy.proofs.Found.{NumberIs, ServiceIs, ServerIs, number-is, service-is, server-is}
 use Rattle.policy.proofs.LoadNames.{Newcomer, Loaded, loaded, tok-in, in-tok, names-loaded}
 use Rattle.policy.proofs.LoadBits.{CallIs, GrantIs, call-is, grant-is, need-new, need-old}
@@ -147,6 +147,10 @@ module _ (L : Layout) (t : Tables) (m : ℕ) (k : Contract) where
         → ((r : Row) → In r (k .grants) → T (uninstalled r) → P (waitingFor r)) → (w : Waiting) → In w (after .waiting) → P w
     each-waiting P f g = each-append {P = P} (keep waitsStill (t .waiting)) (map waitingFor (keep uninstalled (k .grants)))
         (λ w i. let q = keep-in waitsStill (t .waiting) i in f w (q .0) (q .1)) (each-waits P g)
+
+    -- rows that name valid AIDs
+    abbrev ValidRows : List Row → Type 0
+    ValidRows l = (r : Row) → In r l → T (validAid (r .aid))
 
     unmet-rows : ValidRows (k .calls) → UnmetRows (on .used) (on .aid) (on .tok) (on .provides) (after .unmet)
     unmet-rows v =

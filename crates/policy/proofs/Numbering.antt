@@ -17,7 +17,7 @@ use Rattle.policy.specs.Judge.{Out, refusal, check, loadRecord}
 use Rattle.policy.specs.Records.{requestOf}
 use Rattle.policy.specs.Numbering.{SecondNumber, CheckCounts, ReadLength}
 use Rattle.policy.proofs.Sets.{T-true, and-r}
-use Rattle.policy.proofs.SoundFacts.{sound-formed, sound-fitting}
+use Rattle.policy.proofs.SoundFacts.{sound-formed, sound-ruled, sound-fitting}
 use Rattle.policy.proofs.ReadOut.{read-out-parses}
 use Rattle.policy.proofs.Tests.{count}
 use Rattle.policy.proofs.Step.{stands-of}
@@ -46,6 +46,6 @@ read-length L lo img n out =
       ok,
       used,
       omega (arith, length-append r (drop (length r) out)),
-      ap (parse L) (take-at r (drop (length r) out) (length r) refl) ∙ read-out-parses L lo (decode L img) (sound-formed L img ok) (sound-fitting L img ok) n used,
+      ap (parse L) (take-at r (drop (length r) out) (length r) refl) ∙ read-out-parses L lo (decode L img) (sound-formed L img ok) (sound-ruled L img ok) (sound-fitting L img ok) n used,
     ))
     (λ k m e. absurd (omega arith))

@@ -10,18 +10,17 @@ use lib.Dec.{T, eqb, eqb→eq, leb, leb→le}
 use lib.ListN.{length, getD, take, drop, length-append, take-append-drop}
 use lib.Seq.{length-take-le, take-append-seam}
 use Rattle.policy.specs.Lists.{flat, orElse}
-use Rattle.policy.specs.Contract.{Aid, Row, validAid}
+use Rattle.policy.specs.Contract.{Aid, Tok, Row, validAid}
 use Rattle.policy.specs.Layout.{Layout}
 use Rattle.policy.specs.Record.{Change, load, remove, addService, removeService, addCall, removeCall, addGrant, removeGrant, addNeed, removeNeed, Request, Got, got, bad, Reader, andThen, _>>=_, done, given}
-use Rattle.policy.specs.Record.{byte, bytes, numberFrom, number, aid, tokens, aRow, many, counted, rowList, aLoad, aService, kinds, change, fields, whole, parse, firstAid}
+use Rattle.policy.specs.Record.{byte, bytes, numberFrom, number, aid, tokens, rowOf, validTok, validTokens, validRow, many, counted, rowList, aLoad, aService, kinds, change, fields, whole, parse, firstAid}
 use Rattle.policy.specs.Tables.{writeNumber, writeTok}
 use Rattle.policy.specs.Judge.{aidBytes, rowBytes, rowsBytes}
-use Rattle.policy.specs.Records.{kindOf, ValidAid, ValidRow, AtMost, Bytes, changeBytes, bodyBytes, recordBytes, WithinChange, Within, ReadWritten}
+use Rattle.policy.specs.Records.{kindOf, ValidAid, ValidTok, ValidRow, AtMost, Bytes, changeBytes, bodyBytes, recordBytes, WithinChange, Within, ReadWritten}
 use Rattle.policy.specs.Claims.{FirstAidPart}
 use Rattle.policy.proofs.Sets.{and-l, and-r, each-cons}
 use Rattle.policy.proofs.Bits.{length-number}
 use Rattle.policy.proofs.Written.{number-last, number-append}
-use Rattle.policy.proofs.Formed.{Valid}
 
 -- ---- s is d and then u: its length always, and itself where it is of bytes
 record Starts (s d u : List ℕ) : Type 0 where
@@ -134,7 +133,7 @@ module _ {A : Type 0} (P : A → Type 0) (f : A → List ℕ) (p : Reader A) (ok
       Q : List A → List ℕ → Type 0
       Q = Took (AtMost most P) (λ l. count (length l) ++ flat f l) s
 
--- ---- an AID, exactly; tokens and a row
+-- ---- an AID, exactly
 abbrev AidAt : List ℕ → Aid → List ℕ → Type 0
 AidAt s a u = ValidAid a × (s ≡ aidBytes a ++ u)
 
@@ -150,21 +149,6 @@ reads-aid-at (n ∷ s) =
 reads-aid : (s : List ℕ) → Reads (Took ValidAid aidBytes s) (aid s)
 reads-aid s = reads-as (AidAt s) (Took ValidAid aidBytes s) (aid s) (λ a u h. (h .0, starts (aidBytes a) u (h .1))) (reads-aid-at s)
 
-abbrev Any : {A : Type 0} → A → Type 0
-Any a = Unit {0}
-
-reads-tokens : (s : List ℕ) → Reads (Took Any writeTok s) (tokens s)
-unfolding tokens byte
-reads-tokens [] = tt
-reads-tokens (i ∷ []) = tt
-reads-tokens (i ∷ m ∷ s) = (tt, starts (i ∷ m ∷ []) s refl)
-
-reads-row : (s : List ℕ) → Reads (Took ValidRow rowBytes s) (aRow s)
-unfolding aRow
-reads-row s =
-    reads-then (Took ValidAid aidBytes s) (Took ValidRow rowBytes s) (aid s) _ (reads-aid s) (λ a t h.
-    reads-then (Took Any writeTok t) (Took ValidRow rowBytes s) (tokens t) _ (reads-tokens t) (λ k u e. (h .0, starts-then (h .1) (e .1))))
-
 -- ---- what follows the first AID, by kind
 abbrev All : {A : Type 0} → (ℕ → A → Type 0) → List A → Type 0
 All P [] = Unit {0}
@@ -176,6 +160,21 @@ all-getD P (x ∷ l) d h e zero = h .0
 all-getD P (x ∷ l) d h e (suc k) = all-getD (λ k. P (suc k)) l d (h .1) (λ k. e (suc k)) k
 
 module _ (L : Layout) where
+  -- 'The token reading promises that range.'
+  reads-tokens : (s : List ℕ) → Reads (Took (ValidTok L) writeTok s) (validTokens L s)
+  unfolding validTokens tokens byte
+  reads-tokens [] = tt
+  reads-tokens (i ∷ []) = tt
+  reads-tokens (i ∷ m ∷ s) =
+      let k : Tok = record { itf = i; mth = m } in
+      reads-given (Took (ValidTok L) writeTok (i ∷ m ∷ s)) (validTok L k) (done k) s (λ v. (v, starts (i ∷ m ∷ []) s refl))
+
+  reads-row : (s : List ℕ) → Reads (Took (ValidRow L) rowBytes s) (validRow L s)
+  unfolding rowOf
+  reads-row s =
+      reads-then (Took ValidAid aidBytes s) (Took (ValidRow L) rowBytes s) (aid s) _ (reads-aid s) (λ a t h.
+      reads-then (Took (ValidTok L) writeTok t) (Took (ValidRow L) rowBytes s) (validTokens L t) _ (reads-tokens t) (λ k u e. ((h .0, e .0), starts-then (h .1) (e .1))))
+
   -- a change of kind k, read from s
   abbrev Changes : ℕ → List ℕ → Change → List ℕ → Type 0
   Changes k s c u = (kindOf c ≡ k) × Took (WithinChange L) (changeBytes L) s c u
@@ -184,33 +183,33 @@ module _ (L : Layout) where
   ReadsChange k p = (s : List ℕ) → Reads (Changes k s) (p s)
 
   abbrev Rows : List ℕ → List Row → List ℕ → Type 0
-  Rows = Took (AtMost (L .mostRows) ValidRow) (rowsBytes L)
+  Rows = Took (AtMost (L .mostRows) (ValidRow L)) (rowsBytes L)
 
   reads-rows : (s : List ℕ) → Reads (Rows s) (rowList L s)
   reads-rows s =
-      subst (λ (f : List Row → List ℕ). Reads (Took (AtMost (L .mostRows) ValidRow) f s) (rowList L s)) (λ i l. number-append (L .countWidth) (length l) [] (flat rowBytes l) i)
-      (reads-counted ValidRow rowBytes aRow reads-row (L .countWidth) (L .mostRows) (wide (L .countWidth)) (reads-number (L .countWidth)) s)
+      subst (λ (f : List Row → List ℕ). Reads (Took (AtMost (L .mostRows) (ValidRow L)) f s) (rowList L s)) (λ i l. number-append (L .countWidth) (length l) [] (flat rowBytes l) i)
+      (reads-counted (ValidRow L) rowBytes (validRow L) reads-row (L .countWidth) (L .mostRows) (wide (L .countWidth)) (reads-number (L .countWidth)) s)
 
   reads-load : ReadsChange 1 (aLoad L)
   unfolding aLoad
   reads-load s =
-      reads-then (Took (AtMost (L .services) Any) (λ l. length l ∷ flat writeTok l) s) (Changes 1 s) (counted 1 (L .services) tokens s) _
-      (reads-counted Any writeTok tokens reads-tokens 1 (L .services) (λ n. n ∷ []) reads-byte s) (λ p t hp.
+      reads-then (Took (AtMost (L .services) (ValidTok L)) (λ l. length l ∷ flat writeTok l) s) (Changes 1 s) (counted 1 (L .services) (validTokens L) s) _
+      (reads-counted (ValidTok L) writeTok (validTokens L) reads-tokens 1 (L .services) (λ n. n ∷ []) reads-byte s) (λ p t hp.
       reads-then (Rows t) (Changes 1 s) (rowList L t) _ (reads-rows t) (λ c u hc.
       reads-then (Rows u) (Changes 1 s) (rowList L u) _ (reads-rows u) (λ g v hg.
       reads-then (Rows v) (Changes 1 s) (rowList L v) _ (reads-rows v) (λ n w hn.
-      (refl, ((hp .0 .0, hc .0, hg .0, hn .0), starts-then (hp .1) (starts-then (hc .1) (starts-then (hg .1) (hn .1)))))))))
+      (refl, ((hp .0, hc .0, hg .0, hn .0), starts-then (hp .1) (starts-then (hc .1) (starts-then (hg .1) (hn .1)))))))))
 
   reads-service : ReadsChange 3 (aService L)
   unfolding aService
   reads-service s =
-      reads-then (Took Any writeTok s) (Changes 3 s) (tokens s) _ (reads-tokens s) (λ k t h.
+      reads-then (Took (ValidTok L) writeTok s) (Changes 3 s) (validTokens L s) _ (reads-tokens s) (λ k t h.
       reads-then (Took (AtMost (L .mostCallers) ValidAid) (λ l. length l ∷ flat aidBytes l) t) (Changes 3 s) (counted 1 (L .mostCallers) aid t) _
-      (reads-counted ValidAid aidBytes aid reads-aid 1 (L .mostCallers) (λ n. n ∷ []) reads-byte t) (λ l u e. (refl, (e .0, starts-then (h .1) (e .1)))))
+      (reads-counted ValidAid aidBytes aid reads-aid 1 (L .mostCallers) (λ n. n ∷ []) reads-byte t) (λ l u e. (refl, ((h .0, e .0), starts-then (h .1) (e .1)))))
 
   -- kinds 5 to 10
-  reads-one : (k : ℕ) (f : Row → Change) → ((r : Row) (s u : List ℕ) → Took ValidRow rowBytes s r u → Changes k s (f r) u) → ReadsChange k (aRow >>= λ r. done (f r))
-  reads-one k f h s = reads-then (Took ValidRow rowBytes s) (Changes k s) (aRow s) _ (reads-row s) (λ r u. h r s u)
+  reads-one : (k : ℕ) (f : Row → Change) → ((r : Row) (s u : List ℕ) → Took (ValidRow L) rowBytes s r u → Changes k s (f r) u) → ReadsChange k (validRow L >>= λ r. done (f r))
+  reads-one k f h s = reads-then (Took (ValidRow L) rowBytes s) (Changes k s) (validRow L s) _ (reads-row s) (λ r u. h r s u)
 
   reads-kinds : All ReadsChange (kinds L)
   reads-kinds = (
@@ -222,7 +221,7 @@ module _ (L : Layout) where
         (
           reads-service,
           (
-            (λ s. reads-then (Took Any writeTok s) (Changes 4 s) (tokens s) _ (reads-tokens s) (λ k t h. (refl, h))),
+            (λ s. reads-then (Took (ValidTok L) writeTok s) (Changes 4 s) (validTokens L s) _ (reads-tokens s) (λ k t h. (refl, h))),
             (
               reads-one 5 addCall (λ r s u h. (refl, h)),
               (
@@ -307,22 +306,7 @@ module _ (L : Layout) where
         (h .within, subst (λ (z : ℕ). z < 256 ^ 2) (parsed-length s q e) (h .two-bytes b)),
       )
 
--- ---- what the kinds ask of a change that was read
-within-valid : (L : Layout) (c : Change) → WithinChange L c → Valid L c
-within-valid L (load p c g n) v = (v .0, v .1 .1, v .2 .1, v .3 .1)
-within-valid L remove v = tt
-within-valid L (addService s l) v = v .1
-within-valid L (removeService s) v = tt
-within-valid L (addCall r) v = v
-within-valid L (removeCall r) v = v
-within-valid L (addGrant r) v = v
-within-valid L (removeGrant r) v = v
-within-valid L (addNeed r) v = v
-within-valid L (removeNeed r) v = v
-
-pub parse-valid : (L : Layout) (s : List ℕ) (q : Request) → parse L s ≡ some q → T (validAid (q .aid)) × Valid L (q .change)
-parse-valid L s q e = let h = parsed-within L s q e in (h .0, within-valid L (q .change) (h .1))
-
+-- ---- the first AID
 pub first-aid-part : (L : Layout) → FirstAidPart L
 unfolding firstAid
 first-aid-part L s = (λ e. part e, λ q e. let h = parsed L s q e in (part e, h .first, h .within .0))

@@ -16,7 +16,7 @@ use Rattle.policy.specs.Judge.{Out, tableCauses, lookCauses, judgeCauses
 use Rattle.policy.specs.Placing.{Placing}
 use Rattle.policy.proofs.Sets.{not-false}
 use Rattle.policy.proofs.Answers.{answer-zero, answer-append-zero}
-use Rattle.policy.proofs.ParseFacts.{parse-valid}
+use Rattle.policy.proofs.ParseFacts.{parsed-within}
 use Rattle.policy.proofs.ContractAt.{stands-self}
 use Rattle.policy.proofs.RoundTrip.{formed-room, round-trip}
 use Rattle.policy.proofs.SoundFacts.{sound-formed}
@@ -50,7 +50,7 @@ module _ (L : Layout) (lo : LayoutOk L) where
     pub acceptance : Settles L t (sound-formed L img ok) (q .aid) (q .change) (decode L (judge L img s .bytes)) (judge L img s .second)
     acceptance =
         let f = sound-formed L img ok in
-        let v = parse-valid L s q e in
+        let v = parsed-within L s q e in
         let bad = not (proper (q .aid) (q .change)) in
         let early = tableCauses L t (q .aid) (q .change) in
         let p = answer-append-zero 2 (3 when bad ∷ early) (lookCauses (look L d)) (judge-ascends L t (q .aid) bad (q .change)) none-applies in

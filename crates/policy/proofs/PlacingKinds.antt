@@ -24,7 +24,8 @@ use Rattle.policy.proofs.Sets.{and-l, each-map-keep, each-one, pairs, p
 use Rattle.policy.proofs.Equal.{row-path}
 use Rattle.policy.proofs.Put.{by-number, NewPlace, new-place}
 use Rattle.policy.proofs.Pieces.{in-or-off}
-use Rattle.policy.proofs.Formed.{Formed, ProvidesAt, at, RowAt, GrantAt, Valid}
+use Rattle.policy.specs.Records.{WithinChange}
+use Rattle.policy.proofs.Formed.{Formed, ProvidesAt, at, RowAt, GrantAt}
 use Rattle.policy.proofs.Found.{NumberIs, FreeIs, free-number-is, number-is}
 use Rattle.policy.proofs.Reach.{reach-2, reach-3, reach-4, reach-5, reach-6, reach-7, reach-8, reach-9, reach-10}
 use Rattle.policy.proofs.LoadNames.{Newcomer, Loaded, loaded, load-reached}
@@ -305,8 +306,8 @@ module _ (L : Layout) (t : Tables) (fm : Formed L t) (a : Aid) where
   provider : (j k : ℕ) → T (t .provides j k) → t .aid j ≡ a → HasNumber t a j
   provider j k p e = (fm .names .prov-used j k p, e)
 
-  pub settles : (c : Change) → T (validAid a) → Valid L c → T (proper a c) → answer (tableCauses L t a c) ≡ 0 → Settles c (draft L t a c .tables) (numberFor L t a)
-  settles (load p c g n) va v pr = load-reached L t a p c g n (Settled (load p c g n)) fm (v .0) pr (λ m new.
+  pub settles : (c : Change) → T (validAid a) → WithinChange L c → T (proper a c) → answer (tableCauses L t a c) ≡ 0 → Settles c (draft L t a c .tables) (numberFor L t a)
+  settles (load p c g n) va v pr = load-reached L t a p c g n (Settled (load p c g n)) fm (v .0 .0) pr (λ m new.
       subst (Settles (load p c g n) (joined p c g n va m)) (number-new m (contract p c g n va m) refl new) (load-settles p c g n va m new))
   settles remove va v pr = reach-2 L t fm a (Settled remove) (λ n u e. under remove n (u, e) ((u, e), remove-placed n u))
   settles (addService s l) va v pr =

@@ -15,14 +15,16 @@ use Rattle.policy.specs.Contract.{Aid, eqAid, eqTok, Row, eqRow, Contrac
 use Rattle.policy.specs.Layout.{Layout, LayoutOk}
 use Rattle.policy.specs.Record.{notOwn, parse, proper}
 use Rattle.policy.specs.Tables.{Tables}
-use Rattle.policy.specs.Lookup.{numbers, places, serviceAt, wanted, grantAt, contractAt}
+use Rattle.policy.specs.Lookup.{numbers, places, usedNumbers, serviceAt, wanted, grantAt, contractAt}
 use Rattle.policy.specs.Judge.{loadRecord}
 use Rattle.policy.specs.Records.{loadOf, requestOf}
-use Rattle.policy.proofs.Sets.{and-i, not-i, cond-false, in-every, length-keep, length-flat-le, once→distinct, pairs, length-from, in-upto}
+use Rattle.policy.specs.History.{Allowed}
+use Rattle.policy.proofs.Sets.{and-i, not-i, cond-false, in-every, in-map, in-keep, length-keep, length-flat-le, once→distinct, pairs, length-from, in-upto}
 use Rattle.policy.proofs.Equal.{eqAid→, eqTok→, eqTok-refl, eqRow→, eqRow-refl, tok-has, row-has}
-use Rattle.policy.proofs.Formed.{Formed, Fitting, RowAt, GrantAt}
+use Rattle.policy.proofs.Formed.{Formed, Fitting, Ruled, RowAt, GrantAt}
 use Rattle.policy.proofs.Facts.{need-bits, granted-provided}
-use Rattle.policy.proofs.ContractAt.{provides-at, calls-at, needs-at, grants-at, four-sets-at}
+use Rattle.policy.proofs.ContractAt.{provides-at, calls-at, needs-at, grants-at, four-sets-at, stands-self}
+use Rattle.policy.proofs.Ruled.{ruled-allowed}
 use Rattle.policy.proofs.Written.{written-read, load-record}
 use Rattle.policy.proofs.RecordsLength.{load-writable}
 
@@ -52,7 +54,7 @@ module _ {A : Type 0} (f : ℕ → List A) (most : ℕ) (each : (x : ℕ) → le
           rw (less l) (omega arith)
       go (inr p) ih = let a = more l p (ih p) in let s = length-append (f x) (flat f l) in rw (less l) (omega arith)
 
-module _ (L : Layout) (lo : LayoutOk L) (t : Tables) (g : Formed L t) (fit : Fitting L t) (n : ℕ) (un : T (t .used n)) where
+module _ (L : Layout) (lo : LayoutOk L) (t : Tables) (g : Formed L t) (ru : Ruled L t) (fit : Fitting L t) (n : ℕ) (un : T (t .used n)) where
   abbrev c : Contract
   c = contractAt L t n
 
@@ -148,15 +150,19 @@ module _ (L : Layout) (lo : LayoutOk L) (t : Tables) (g : Formed L t) (fit : Fit
   unfolding contractAt
   valid-aid = g .names .aid-valid n un
 
+  -- the rules allow it
+  allowed : Allowed L c
+  allowed = ruled-allowed L t (map (contractAt L t) (usedNumbers L t)) g (stands-self L t g) ru c (in-map (contractAt L t) (in-keep (t .used) (in-upto (L .packages) n (g .names .used-lt n un)) un))
+
   pub read-out-parses : parse L (loadRecord L c) ≡ some (requestOf c)
   read-out-parses =
       ap (parse L) (load-record L c) ∙ written-read L lo (requestOf c) (load-writable L lo c (
         valid-aid,
         (
-          provides-length,
-          (calls-length, λ r m. call-other r m .0),
-          (grants-length, λ r m. grant-other r m .0),
-          (needs-length, λ r m. call-other r (need-called r m) .0),
+          (provides-length, allowed .provides),
+          (calls-length, λ r m. (call-other r m .0, allowed .calls r m)),
+          (grants-length, λ r m. (grant-other r m .0, allowed .grants r m)),
+          (needs-length, λ r m. let i = need-called r m in (call-other r i .0, allowed .calls r i)),
         ),
       ))
 

@@ -13,7 +13,7 @@ use Rattle.policy.specs.Layout.{Layout, LayoutOk, small}
 use Rattle.policy.specs.Record.{Request, load, parse}
 use Rattle.policy.specs.Tables.{noTok}
 use Rattle.policy.specs.Judge.{readOut}
-use Rattle.policy.specs.Records.{ValidRow, AtMost, recordBytes, Within, longestRecord, LongestRecord}
+use Rattle.policy.specs.Records.{ValidTok, ValidRow, AtMost, recordBytes, Within, longestRecord, LongestRecord}
 use Rattle.policy.proofs.Sets.{each-cons}
 use Rattle.policy.proofs.ParseFacts.{parsed-within, parsed-length}
 use Rattle.policy.proofs.Written.{written-read}
@@ -62,6 +62,6 @@ small-longest-read =
     let a : Aid = replicate 16 0 in
     let r : Row = record { aid = a; tok = noTok } in
     let rows = replicate 72 r in
-    let within : AtMost 72 ValidRow rows = (lit≤ tt, each-same ValidRow 72 r tt) in
+    let within : AtMost 72 (ValidRow small) rows = (lit≤ tt, each-same (ValidRow small) 72 r (tt, tt)) in
     let q : Request = record { aid = a; change = load (replicate 8 noTok) rows rows rows } in
-    (q, refl, small-written-read q (tt, (lit≤ tt, within, within, within)))
+    (q, refl, small-written-read q (tt, ((lit≤ tt, each-same (ValidTok small) 8 noTok tt), within, within, within)))

@@ -10,7 +10,7 @@ use Rattle.policy.specs.Layout.{Layout, LayoutOk}
 use Rattle.policy.specs.Record.{Request, Change, load, remove, addService, removeService, addCall, removeCall, addGrant, removeGrant, addNeed, removeNeed}
 use Rattle.policy.specs.Tables.{writeTok}
 use Rattle.policy.specs.Judge.{aidBytes, rowBytes, rowsBytes}
-use Rattle.policy.specs.Records.{kindOf, requestOf, ValidAid, ValidRow, AtMost, changeBytes, bodyBytes, recordBytes, WithinChange, Within, Writable, longestLoad, longestRecord}
+use Rattle.policy.specs.Records.{kindOf, requestOf, ValidAid, ValidTok, ValidRow, AtMost, changeBytes, bodyBytes, recordBytes, WithinChange, Within, Writable, longestLoad, longestRecord}
 use Rattle.policy.proofs.Sets.{length-flat-le}
 use Rattle.policy.proofs.Pieces.{valid-short}
 use Rattle.policy.proofs.Bits.{length-number}
@@ -18,7 +18,7 @@ use Rattle.policy.proofs.Bits.{length-number}
 aid-length : (a : Aid) → ValidAid a → length (aidBytes a) ≤ 17
 aid-length a v = let h = valid-short a v in omega arith
 
-row-length : (r : Row) → ValidRow r → length (rowBytes r) ≤ 19
+row-length : (r : Row) → ValidAid (r .aid) → length (rowBytes r) ≤ 19
 row-length r v = let h = aid-length (r .aid) v in let e = length-append (aidBytes (r .aid)) (writeTok (r .tok)) in omega arith
 
 -- the rows of a list, of at most k bytes each
@@ -29,10 +29,10 @@ list-length P f k h most l v =
     omega arith
 
 module _ (L : Layout) where
-  rows-length : (l : List Row) → AtMost (L .mostRows) ValidRow l → length (rowsBytes L l) ≤ L .countWidth + L .mostRows * 19
+  rows-length : (l : List Row) → AtMost (L .mostRows) (ValidRow L) l → length (rowsBytes L l) ≤ L .countWidth + L .mostRows * 19
   rows-length l v =
       let e = length-number (L .countWidth) (length l) (flat rowBytes l) in
-      let a = list-length ValidRow rowBytes 19 row-length (L .mostRows) l v in
+      let a = list-length (ValidRow L) rowBytes 19 (λ r v. row-length r (v .0)) (L .mostRows) l v in
       omega arith
 
   load-length : (p : List Tok) (c g n : List Row) → WithinChange L (load p c g n) → length (changeBytes L (load p c g n)) ≤ longestLoad L
@@ -40,7 +40,7 @@ module _ (L : Layout) where
       let e1 = length-append (length p ∷ flat writeTok p) (rowsBytes L c ++ (rowsBytes L g ++ rowsBytes L n)) in
       let e2 = length-append (rowsBytes L c) (rowsBytes L g ++ rowsBytes L n) in
       let e3 = length-append (rowsBytes L g) (rowsBytes L n) in
-      let t = list-length (λ s. Unit {0}) writeTok 2 (λ s _. omega arith) (L .services) p (v .0, λ s m. tt) in
+      let t = list-length (ValidTok L) writeTok 2 (λ s _. omega arith) (L .services) p (v .0) in
       let x = rows-length c (v .1) in
       let y = rows-length g (v .2) in
       let z = rows-length n (v .3) in
@@ -49,14 +49,14 @@ module _ (L : Layout) where
   change-length : (c : Change) → WithinChange L c → 21 + length (changeBytes L c) ≤ longestRecord L
   change-length (load p c g n) v = let h = load-length p c g n v in omega arith
   change-length remove v = omega arith
-  change-length (addService s l) v = let h = list-length ValidAid aidBytes 17 aid-length (L .mostCallers) l v in omega arith
+  change-length (addService s l) v = let h = list-length ValidAid aidBytes 17 aid-length (L .mostCallers) l (v .1) in omega arith
   change-length (removeService s) v = omega arith
-  change-length (addCall r) v = let h = row-length r v in omega arith
-  change-length (removeCall r) v = let h = row-length r v in omega arith
-  change-length (addGrant r) v = let h = row-length r v in omega arith
-  change-length (removeGrant r) v = let h = row-length r v in omega arith
-  change-length (addNeed r) v = let h = row-length r v in omega arith
-  change-length (removeNeed r) v = let h = row-length r v in omega arith
+  change-length (addCall r) v = let h = row-length r (v .0) in omega arith
+  change-length (removeCall r) v = let h = row-length r (v .0) in omega arith
+  change-length (addGrant r) v = let h = row-length r (v .0) in omega arith
+  change-length (removeGrant r) v = let h = row-length r (v .0) in omega arith
+  change-length (addNeed r) v = let h = row-length r (v .0) in omega arith
+  change-length (removeNeed r) v = let h = row-length r (v .0) in omega arith
 
   -- head, first AID, and what follows
   parts-length : (q : Request) → ValidAid (q .aid) → length (recordBytes L q) ≤ 21 + length (changeBytes L (q .change))

@@ -18,7 +18,8 @@ use Rattle.policy.specs.ShortCheck.{shortLook}
 use Rattle.policy.specs.Judge.{Out, refusal, tableCauses, lookCauses, judged, judgeTables, judge}
 use Rattle.policy.specs.Settled.{settled}
 use Rattle.policy.proofs.Sets.{T-true, and-l, and-r}
-use Rattle.policy.proofs.Formed.{Formed, Fitting, Valid}
+use Rattle.policy.specs.Records.{WithinChange}
+use Rattle.policy.proofs.Formed.{Formed, Fitting}
 use Rattle.policy.proofs.Answers.{ascends}
 use Rattle.policy.proofs.SoundFacts.{sound-formed, sound-lawful, sound-fitting}
 use Rattle.policy.proofs.ContractAt.{stands-self}
@@ -88,7 +89,7 @@ module _ (L : Layout) (img : List ℕ) (a : Aid) (c : Change) where
   settled-refused n e = settled-is ∙ ap (λ (k : ℕ). byAnswers k (answer (lookCauses (look L d)))) e
 
   -- none of them applies: the short check of causes 8 to 11 is the full look
-  module _ (ok : T (sound L img)) (vc : Valid L c) (pr : T (proper a c)) (none-early : answer (tableCauses L (decode L img) a c) ≡ 0) where
+  module _ (ok : T (sound L img)) (vc : WithinChange L c) (pr : T (proper a c)) (none-early : answer (tableCauses L (decode L img) a c) ≡ 0) where
     short : look L d ≡ shortLook L (decode L img) a c
     short = kinds c .1 L (decode L img) a (sound-formed L img ok) (sound-lawful L img ok) (sound-fitting L img ok) vc pr none-early
 
@@ -103,7 +104,7 @@ module _ (L : Layout) (img : List ℕ) (a : Aid) (c : Change) where
     settled-accepted e = settled-late 0 e
 
   -- after acceptance the draft's tables are formed and fit
-  pub accepted-formed : T (sound L img) → T (validAid a) → Valid L c → T (proper a c) → answer (tableCauses L (decode L img) a c) ≡ 0
+  pub accepted-formed : T (sound L img) → T (validAid a) → WithinChange L c → T (proper a c) → answer (tableCauses L (decode L img) a c) ≡ 0
       → answer (lookCauses (shortLook L (decode L img) a c)) ≡ 0 → Formed L (draft L (decode L img) a c .tables) × Fitting L (draft L (decode L img) a c .tables)
   accepted-formed ok va vc pr none-early e =
       let t = decode L img in

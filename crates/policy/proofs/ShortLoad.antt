@@ -247,4 +247,4 @@ module _ (L : Layout) (t : Tables) (m : ℕ) (k : Contract) (new : Newcomer L t 
 
 pub short-1 : (p : List Tok) (c g n : List Row) → KindShort (load p c g n)
 short-1 p c g n L t a formed lawful _ v pr =
-    load-reached L t a p c g n (λ d k. look L d ≡ k) formed (v .0) pr (λ m new. look-1 L t m (record { aid = a; provides = p; calls = c; grants = g; needs = n }) new lawful)
+    load-reached L t a p c g n (λ d k. look L d ≡ k) formed (v .0 .0) pr (λ m new. look-1 L t m (record { aid = a; provides = p; calls = c; grants = g; needs = n }) new lawful)

@@ -10,16 +10,17 @@ use lib.ListN.{length, getD, take, drop, length-map}
 use Rattle.policy.specs.Lists.{implies, every, keep, distinct, isNil, isSome, upto, eqBytes, NoRepeat}
 use Rattle.policy.specs.Contract.{eqAid, validAid, Tok, eqTok}
 use Rattle.policy.specs.Layout.{Layout, size, aidSize, usedAt, aidsAt, tokensAt, providesAt, callsAt, grantsAt, needsAt}
+use Rattle.policy.specs.Record.{validTok}
 use Rattle.policy.specs.Tables.{Tables, Unmet, Waiting, noTok, bit, readNumber, readAid, readTok, pieces, bitOf, readTable, decode, encode}
 use Rattle.policy.specs.Lookup.{numbers, places, usedNumbers, numberOf, serverOf, wanted}
-use Rattle.policy.specs.Sound.{eqUnmet, eqWaiting, unmetOk, waitingOk, aidsOk, tokensOk, blanksOk, entriesOk, bitsProvided, needsCalled, bitsGranted, listsOk, rowsOk, soundTables, sound}
+use Rattle.policy.specs.Sound.{eqUnmet, eqWaiting, unmetOk, waitingOk, aidsOk, tokensOk, blanksOk, entriesOk, bitsProvided, needsCalled, bitsGranted, listsOk, rowsOk, methodsOk, soundTables, sound}
 use Rattle.policy.proofs.Sets.{false-T, and-l, and-r, and-i, or-l, or-r, or-e, implies-i, implies-e, not-i, not-e, none-to, none-back, nil-is, is-nil, every-in, in-every, keep-in, in-keep}
-use Rattle.policy.proofs.Sets.{once-keep, once-map, map-inj, distinct→once, once→distinct, in-upto, once-upto, below-in, in-below, eqBytes-refl}
+use Rattle.policy.proofs.Sets.{once-keep, once-map, map-inj, distinct→once, once→distinct, in-upto, once-upto, below-in, in-below, eqBytes→, eqBytes-refl}
 use Rattle.policy.proofs.Equal.{eqAid→, eqAid-refl, eqAid-of, eqb-of, eqTok→, eqTok-refl, eqTok-of, eqUnmet→, eqUnmet-refl, eqWaiting→, eqWaiting-refl}
 use Rattle.policy.proofs.EveryBit.{BitIn, among-to, among-back}
 use Rattle.policy.proofs.Pieces.{length-pieces}
 use Rattle.policy.proofs.Bits.{bit-none}
-use Rattle.policy.proofs.Formed.{Names, Bits, UnmetRows, WaitingRows, grantBit, Formed, Lawful, Fitting}
+use Rattle.policy.proofs.Formed.{Names, Bits, UnmetRows, WaitingRows, grantBit, Formed, Lawful, Fitting, Ruled}
 use Rattle.policy.proofs.Found.{NumberIs, ServerIs, number-is, server-is}
 use Rattle.policy.proofs.Facts.{need-bits, lawful-of, of-lawful}
 
@@ -364,11 +365,39 @@ module _ (L : Layout) (t : Tables) where
         (none-back (NumberIs t (w .caller)) (λ n h. s .wait-off w m n (h .0) (h .1)) (numberOf L t (w .caller)) (number-is L t names (w .caller)))
         (names .prov-used (w .callee) (w .service) (s .wait-prov w m)) (s .wait-prov w m)))
 
+  -- ---- the rules
+  abbrev placeValid : ℕ → ℕ → Bool
+  placeValid j k = implies (t .provides j k) (validTok L (t .tok j k))
+
+  abbrev rowValid : Unmet → Bool
+  rowValid u = validTok L (u .tok)
+
+  ruled-to : InRange L t → T (methodsOk L t) → Ruled L t
+  unfolding methodsOk
+  ruled-to r h =
+      let p = both (everyPlace placeValid) (every rowValid (t .unmet)) h in
+      record {
+        provided = λ j k s. let c = r .prov-in j k s in implies-e (t .provides j k) (validTok L (t .tok j k)) (place-to placeValid (p .0) j k (c .0) (c .1)) s;
+        unmet = λ u m. every-in rowValid (t .unmet) (p .1) m;
+      }
+
+  ruled-back : Ruled L t → T (methodsOk L t)
+  unfolding methodsOk
+  ruled-back r = and-i (everyPlace placeValid) (every rowValid (t .unmet))
+      (place-back placeValid (λ j k. implies-i (t .provides j k) (validTok L (t .tok j k)) (r .provided j k))) (in-every rowValid (t .unmet) (r .unmet))
+
   -- ---- all items together
+  abbrev nineItems : Bool
+  nineItems = nine (aidsOk L t) (tokensOk L t) (blanksOk L t) (entriesOk L t) (bitsProvided L t) (needsCalled L t) (bitsGranted L t) (listsOk L t) (rowsOk L t)
+
   module _ (r : InRange L t) (ok : T (soundTables L t)) where
     items : T (aidsOk L t) × T (tokensOk L t) × T (blanksOk L t) × T (entriesOk L t) × T (bitsProvided L t) × T (needsCalled L t) × T (bitsGranted L t) × T (listsOk L t) × T (rowsOk L t)
     unfolding soundTables
-    items = nine-to (aidsOk L t) (tokensOk L t) (blanksOk L t) (entriesOk L t) (bitsProvided L t) (needsCalled L t) (bitsGranted L t) (listsOk L t) (rowsOk L t) ok
+    items = nine-to (aidsOk L t) (tokensOk L t) (blanksOk L t) (entriesOk L t) (bitsProvided L t) (needsCalled L t) (bitsGranted L t) (listsOk L t) (rowsOk L t) (and-l nineItems (methodsOk L t) ok)
+
+    tables-ruled : Ruled L t
+    unfolding soundTables
+    tables-ruled = ruled-to r (and-r nineItems (methodsOk L t) ok)
 
     tables-formed : Formed L t
     tables-formed =
@@ -389,12 +418,14 @@ module _ (L : Layout) (t : Tables) where
     tables-fitting : Fitting L t
     tables-fitting = lists-to (items .7) .0
 
-  pub sound-tables : Formed L t → Lawful t → Fitting L t → T (soundTables L t)
+  pub sound-tables : Formed L t → Ruled L t → Lawful t → Fitting L t → T (soundTables L t)
   unfolding soundTables
-  sound-tables f l w =
-      nine-back (aidsOk L t) (tokensOk L t) (blanksOk L t) (entriesOk L t) (bitsProvided L t) (needsCalled L t) (bitsGranted L t) (listsOk L t) (rowsOk L t)
-      (aids-back (f .names)) (tokens-back (f .names)) (blanks-back (f .names)) (entries-back f) (provided-back f) (needs-back f) (granted-back l)
-      (lists-back w (f .unmet .unmet-once) (f .waiting .wait-once)) (rows-back (f .names) (f .unmet) (f .waiting))
+  sound-tables f r l w = and-i nineItems (methodsOk L t) nine-hold (ruled-back r)
+    where
+      nine-hold : T nineItems
+      nine-hold = nine-back (aidsOk L t) (tokensOk L t) (blanksOk L t) (entriesOk L t) (bitsProvided L t) (needsCalled L t) (bitsGranted L t) (listsOk L t) (rowsOk L t)
+          (aids-back (f .names)) (tokens-back (f .names)) (blanks-back (f .names)) (entries-back f) (provided-back f) (needs-back f) (granted-back l)
+          (lists-back w (f .unmet .unmet-once) (f .waiting .wait-once)) (rows-back (f .names) (f .unmet) (f .waiting))
 
 -- ---- the whole image
 module _ (L : Layout) where
@@ -412,18 +443,26 @@ module _ (L : Layout) where
     unfolding sound
     sound-decoded = four (sized img) (headed img) (written img (decode L img)) (soundTables L (decode L img)) ok .3
 
+    -- no byte but those that the tables give
+    pub sound-written : encode L (decode L img) ≡ img
+    unfolding sound
+    sound-written = eqBytes→ (encode L (decode L img)) img (four (sized img) (headed img) (written img (decode L img)) (soundTables L (decode L img)) ok .2)
+
     pub sound-formed : Formed L (decode L img)
     sound-formed = tables-formed L (decode L img) (decode-in L img) sound-decoded
 
     pub sound-lawful : Lawful (decode L img)
     sound-lawful = tables-lawful L (decode L img) (decode-in L img) sound-decoded
 
+    pub sound-ruled : Ruled L (decode L img)
+    sound-ruled = tables-ruled L (decode L img) (decode-in L img) sound-decoded
+
     pub sound-fitting : Fitting L (decode L img)
     sound-fitting = tables-fitting L (decode L img) (decode-in L img) sound-decoded
 
-  pub sound-image : (t : Tables) → length (encode L t) ≡ size L → take 3 (encode L t) ≡ L .header → decode L (encode L t) ≡ t → Formed L t → Lawful t → Fitting L t → T (sound L (encode L t))
+  pub sound-image : (t : Tables) → length (encode L t) ≡ size L → take 3 (encode L t) ≡ L .header → decode L (encode L t) ≡ t → Formed L t → Ruled L t → Lawful t → Fitting L t → T (sound L (encode L t))
   unfolding sound
-  sound-image t s h d f l w =
+  sound-image t s h d f r l w =
       let img = encode L t in
       subst (λ (x : Tables). T ((sized img && headed img) && (written img x && soundTables L x))) (sym d)
-      (four-back (sized img) (headed img) (written img t) (soundTables L t) (eqb-of s) (eqAid-of h) (eqBytes-refl img) (sound-tables L t f l w))
+      (four-back (sized img) (headed img) (written img t) (soundTables L t) (eqb-of s) (eqAid-of h) (eqBytes-refl img) (sound-tables L t f r l w))

@@ -17,16 +17,18 @@ use Rattle.policy.specs.Lookup.{contractAt}
 use Rattle.policy.specs.Sound.{sound}
 use Rattle.policy.specs.Draft.{Look, Draft, look, draft, numberFor}
 use Rattle.policy.specs.Judge.{Out, refusal, tableCauses, lookCauses, judgeCauses, judged, judgeTables, judge}
-use Rattle.policy.specs.History.{SameContract, StandsFor}
+use Rattle.policy.specs.Records.{WithinChange}
+use Rattle.policy.specs.History.{SameContract, AllAllowed, StandsFor}
 use Rattle.policy.specs.ShortCheck.{fine}
-use Rattle.policy.proofs.Sets.{T-true, not-false, nil-is}
+use Rattle.policy.proofs.Sets.{T-true, not-false, nil-is, cond-false}
 use Rattle.policy.proofs.Answers.{answer-zero, answer-append, ascends, answer-append-zero, ascends-front, none-of-four}
-use Rattle.policy.proofs.Formed.{Formed, Lawful, Fitting, Stands, Valid, Turns}
+use Rattle.policy.proofs.Formed.{Formed, Lawful, Fitting, Stands, Turns}
 use Rattle.policy.proofs.Facts.{lawful-of}
 use Rattle.policy.proofs.ContractAt.{same-contract, has-contract}
-use Rattle.policy.proofs.ParseFacts.{parse-valid}
+use Rattle.policy.proofs.Ruled.{ruled-allowed, allowed-ruled, effect-allowed}
+use Rattle.policy.proofs.ParseFacts.{parsed-within}
 use Rattle.policy.proofs.RoundTrip.{formed-room, header-encode, length-encode, round-trip}
-use Rattle.policy.proofs.SoundFacts.{sound-formed, sound-image}
+use Rattle.policy.proofs.SoundFacts.{sound-formed, sound-ruled, sound-image}
 use Rattle.policy.proofs.Tests.{tests-agree}
 use Rattle.policy.proofs.Verdict.{looks-agree}
 use Rattle.policy.proofs.AllKinds.{kinds}
@@ -40,18 +42,22 @@ stands-of L img cs f = record {
   four-sets = f .four-sets;
 }
 
-pub image-stands : (L : Layout) → LayoutOk L → (t : Tables) (cs : List Contract) → Formed L t → Lawful t → Fitting L t → Stands t [] cs → StandsFor L (encode L t) cs
-image-stands L lo t cs g w fit st =
+pub image-stands : (L : Layout) → LayoutOk L → (t : Tables) (cs : List Contract) → Formed L t → Lawful t → Fitting L t → Stands t [] cs → AllAllowed L cs → StandsFor L (encode L t) cs
+image-stands L lo t cs g w fit st al =
     let room = formed-room L t g fit in
     let e = round-trip L lo t room in
     record {
-      is-sound = sound-image L t (length-encode L lo t room) (header-encode L lo t) e g w fit;
+      is-sound = sound-image L t (length-encode L lo t room) (header-encode L lo t) e g (allowed-ruled L L t cs g st al) w fit;
       these = λ c m. let p = st .these c m in
           (p .0, subst (λ (z : Tables). T (z .used (p .0))) (sym e) (p .1), subst (λ (z : Tables). SameContract c (contractAt L z (p .0))) (sym e) (same-contract L t g (p .0) c (p .2)));
       no-others = λ n u. let p = st .no-others n (subst (λ (z : Tables). T (z .used n)) e u) in (p .0, p .1, p .2 ∙ ap (λ (z : Tables). z .aid n) (sym e));
       one-each = st .one-each;
       four-sets = st .four-sets;
     }
+
+-- the rules allow what an image stands for
+pub standing-allowed : (L : Layout) (img : List ℕ) (cs : List Contract) → StandsFor L img cs → AllAllowed L cs
+standing-allowed L img cs f = ruled-allowed L (decode L img) cs (sound-formed L img (f .is-sound)) (stands-of L img cs f) (sound-ruled L img (f .is-sound))
 
 -- ---- an accepted draft
 -- no cause from 8 on: the tables are lawful and fit, and no need is lost
@@ -87,7 +93,7 @@ module _ (L : Layout) (t : Tables) (a : Aid) where
   judge-ascends b c = ascends-front 2 (3 when b ∷ tableCauses L t a c) (lookCauses fine) (judge-causes fine b c .1)
 
 module _ (L : Layout) (lo : LayoutOk L) (t : Tables) (cs : List Contract) (g : Formed L t) (st : Stands t [] cs)
-    (q : Request) (va : T (validAid (q .aid))) (vc : Valid L (q .change)) where
+    (q : Request) (va : T (validAid (q .aid))) (vc : WithinChange L (q .change)) (al : AllAllowed L cs) where
   abbrev a : Aid
   a = q .aid
 
@@ -117,7 +123,12 @@ module _ (L : Layout) (lo : LayoutOk L) (t : Tables) (cs : List Contract) (g : F
       let p = answer-append-zero 2 early (lookCauses (look L d)) (judge-ascends L t a (not (proper a c)) c) e in
       let h = turns (p .0) in
       let w = accepted L d (h .formed) (p .1) in
-      image-stands L lo (d .tables) ds (h .formed) (w .0) (w .1) (subst (λ (l : List Unmet). Stands (d .tables) l ds) (w .2) (h .stands))
+      image-stands L lo (d .tables) ds (h .formed) (w .0) (w .1) (subst (λ (l : List Unmet). Stands (d .tables) l ds) (w .2) (h .stands)) (effect-allowed L cs a al c vc)
+
+-- an image that is not sound is refused
+pub unsound-refused : (L : Layout) (img s : List ℕ) → (T (sound L img) → ⊥) → judge L img s ≡ refusal 1 255 img
+unfolding judge
+unsound-refused L img s h = cond-false (sound L img) (judgeTables L img (decode L img) (parse L s)) (refusal 1 255 img) h
 
 -- ---- the step
 module _ (L : Layout) (lo : LayoutOk L) (img s : List ℕ) (cs : List Contract) (f : StandsFor L img cs) where
@@ -132,13 +143,14 @@ module _ (L : Layout) (lo : LayoutOk L) (img s : List ℕ) (cs : List Contract) 
   read : (o : Option Request) → parse L s ≡ o → Steps (judgeTables L img (decode L img) o) (elim o [ none ↦ held L cs cs 2 | some q ↦ held L cs (effect cs (q .aid) (q .change)) (answer (causes3to11 L cs q)) ])
   read none e = (refl, f)
   read (some q) e =
-      let v = parse-valid L s q e in
+      let v = parsed-within L s q e in
       let g = sound-formed L img (f .is-sound) in
       let st = stands-of L img cs f in
       let d = draft L (decode L img) (q .aid) (q .change) in
-      let same = answers-agree L lo (decode L img) cs g st q (v .0) (v .1) in
+      let al = standing-allowed L img cs f in
+      let same = answers-agree L lo (decode L img) cs g st q (v .0) (v .1) al in
       subst (λ (n : ℕ). Steps (judged L img (numberFor L (decode L img) (q .aid)) (d .tables) (answer (judgeCauses L (decode L img) q))) (held L cs (effect cs (q .aid) (q .change)) n)) same
-      (settle (numberFor L (decode L img) (q .aid)) (d .tables) (effect cs (q .aid) (q .change)) (answer (judgeCauses L (decode L img) q)) (accepted-stands L lo (decode L img) cs g st q (v .0) (v .1)))
+      (settle (numberFor L (decode L img) (q .aid)) (d .tables) (effect cs (q .aid) (q .change)) (answer (judgeCauses L (decode L img) q)) (accepted-stands L lo (decode L img) cs g st q (v .0) (v .1) al))
 
   pub step : (judge L img s .answered ≡ machine L cs s .answered) × StandsFor L (judge L img s .bytes) (machine L cs s .contracts)
   unfolding judge machine

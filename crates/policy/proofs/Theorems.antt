@@ -12,7 +12,7 @@ use lib.Dec.{T, leb, leb→le, le→leb, ltb, ltb→lt, lit≤}
 use lib.ListN.{length, length-append}
 use Rattle.policy.specs.Lists.{every, orElse}
 use Rattle.policy.specs.Contract.{Aid, eqAid, Tok, Contract, under, lawful, callsGranted, needsMet, unmetCalls, waitingGrants}
-use Rattle.policy.specs.Layout.{Layout, LayoutOk, small, aidsAt, tokensAt, providesAt, callsAt, grantsAt, needsAt, unmetAt, waitingAt, size}
+use Rattle.policy.specs.Layout.{Layout, LayoutOk, cardOf, base, narrow, small, aidsAt, tokensAt, providesAt, callsAt, grantsAt, needsAt, unmetAt, waitingAt, size}
 use Rattle.policy.specs.Record.{Request, Change, load, remove, addService, removeService, addCall, removeCall, addGrant, removeGrant, addNeed, removeNeed, parse, proper}
 use Rattle.policy.specs.Causes.{Cause, _when_, answer}
 use Rattle.policy.specs.Machine.{Held, held, effect, altered, causes4to7, causes8to11, causes3to11, machine}
@@ -21,20 +21,21 @@ use Rattle.policy.specs.Lookup.{usedNumbers, contractAt}
 use Rattle.policy.specs.Sound.{sound}
 use Rattle.policy.specs.Judge.{Out, refusal, judgeTables, judge, loadRecord}
 use Rattle.policy.specs.Records.{loadOf, requestOf}
-use Rattle.policy.specs.History.{SameContract, StandsFor, answers, imageAfter, machineAnswers, contractsAfter}
-use Rattle.policy.specs.Marked.{Line, lineOf, linesFrom, cases}
-use Rattle.policy.specs.Claims.{MarkedCases, Agreement, History, FitsLimits, AcceptedExactly, IsFirst, FirstCause, SoundStands, ShortIsFull, ReadOutAgain}
+use Rattle.policy.specs.History.{SameContract, AllAllowed, StandsFor, answers, imageAfter, machineAnswers, contractsAfter}
+use Rattle.policy.specs.Marked.{Line, lineOf, linesFrom, removalOf, loadH, loadB, cases, CaseOver, providing128, calling128, lost128, holding127}
+use Rattle.policy.specs.Eras.{answersOver, imageOver, machineAnswersOver, contractsOver, LeftOut, Stays, imageThen, contractsThen, SoFar}
+use Rattle.policy.specs.Claims.{MarkedCases, MarkedOver, Agreement, History, FitsLimits, AcceptedExactly, IsFirst, FirstCause, SoundStands, ShortIsFull, ReadOutAgain}
 use Rattle.policy.proofs.Sets.{and-l, and-r, and-i, test, not-e, cond-true, cond-false, every-in, exists-in, in-map, each-one}
 use Rattle.policy.proofs.Answers.{ascends, answer-append-zero, first-is, ascends-front, none-of-four, four-none}
 use Rattle.policy.proofs.ContractAt.{same-contract, stands-self}
-use Rattle.policy.proofs.LawfulCard.{calls-granted, needs-present}
-use Rattle.policy.proofs.ParseFacts.{parse-valid}
+use Rattle.policy.proofs.ParseFacts.{parsed-within}
 use Rattle.policy.proofs.RoundTrip.{emptyTables, empty-formed, empty-fitting, empty-encode}
-use Rattle.policy.proofs.SoundFacts.{sound-formed, sound-lawful, sound-fitting}
+use Rattle.policy.proofs.SoundFacts.{sound-formed, sound-ruled, sound-lawful, sound-fitting}
 use Rattle.policy.proofs.ReadOut.{read-out-parses, read-out-proper}
 use Rattle.policy.proofs.Tests.{packages-fit, services-fit}
 use Rattle.policy.proofs.AllKinds.{kinds}
-use Rattle.policy.proofs.Step.{stands-of, image-stands, step}
+use Rattle.policy.proofs.Step.{stands-of, image-stands, unsound-refused, step}
+use Rattle.policy.proofs.Eras.{history-from, stays}
 
 -- ---- 2. one record
 pub agreement : (L : Layout) → LayoutOk L → Agreement L
@@ -45,36 +46,14 @@ agreement L lo img s cs f = step L lo img s cs f
 pub empty-stands : (L : Layout) → LayoutOk L → StandsFor L (emptyImage L) []
 empty-stands L lo = subst (λ (z : List ℕ). StandsFor L z []) (empty-encode L lo)
     (image-stands L lo emptyTables [] (empty-formed L) (λ i j k b. absurd b) (empty-fitting L)
-    (record { these = λ c m. absurd (in-nil m); no-others = λ n u. absurd u; one-each = tt; four-sets = λ c m. absurd (in-nil m) }))
+    (record { these = λ c m. absurd (in-nil m); no-others = λ n u. absurd u; one-each = tt; four-sets = λ c m. absurd (in-nil m) }) (λ c m. absurd (in-nil m)))
 
-module _ (L : Layout) (lo : LayoutOk L) where
-  equal-answers : (ss : List (List ℕ)) (img : List ℕ) (cs : List Contract) → StandsFor L img cs → answers L img ss ≡ machineAnswers L cs ss
-  unfolding answers machineAnswers
-  equal-answers [] img cs f = refl
-  equal-answers (s ∷ ss) img cs f = let p = step L lo img s cs f in λ i. p .0 i ∷ equal-answers ss (judge L img s .bytes) (machine L cs s .contracts) (p .1) i
-
-  stands-after : (ss : List (List ℕ)) (img : List ℕ) (cs : List Contract) → StandsFor L img cs → StandsFor L (imageAfter L img ss) (contractsAfter L cs ss)
-  unfolding imageAfter contractsAfter
-  stands-after [] img cs f = f
-  stands-after (s ∷ ss) img cs f = stands-after ss (judge L img s .bytes) (machine L cs s .contracts) (step L lo img s cs f .1)
-
-  -- the contracts that an image stands for are lawful, as facts
-  module _ (img : List ℕ) (cs : List Contract) (f : StandsFor L img cs) where
-    pub standing-granted : Rattle.policy.specs.Claims.CallsGranted cs
-    standing-granted = calls-granted L (decode L img) cs (sound-formed L img (f .is-sound)) (sound-lawful L img (f .is-sound)) (stands-of L img cs f)
-
-    pub standing-present : Rattle.policy.specs.Claims.NeedsPresent cs
-    standing-present = needs-present L (decode L img) cs (sound-formed L img (f .is-sound)) (sound-lawful L img (f .is-sound)) (stands-of L img cs f)
-
-  pub history : History L
-  history ss =
-      let f = stands-after ss (emptyImage L) [] (empty-stands L lo) in
-      record {
-        equal-answers = equal-answers ss (emptyImage L) [] (empty-stands L lo);
-        stands-for = f;
-        calls-granted = standing-granted (imageAfter L (emptyImage L) ss) (contractsAfter L [] ss) f;
-        needs-present = standing-present (imageAfter L (emptyImage L) ss) (contractsAfter L [] ss) f;
-      }
+-- no change of the rules
+pub history : (L : Layout) → LayoutOk L → History L
+unfolding answersOver imageOver machineAnswersOver contractsOver
+history L lo ss =
+    let h = history-from L lo (emptyImage L) [] (empty-stands L lo) ss [] tt in
+    record { equal-answers = h .equal-answers; stands-for = h .stands-for; calls-granted = h .calls-granted; needs-present = h .needs-present }
 
 -- ---- 4. demand 2
 module _ (L : Layout) (lo : LayoutOk L) where
@@ -107,12 +86,8 @@ module _ (L : Layout) (lo : LayoutOk L) where
   machine-ascends : (cs : List Contract) (a : Aid) (b : Bool) (c : Change) → T (ascends 1 (2 when false ∷ 3 when b ∷ causes4to7 L cs a c))
   machine-ascends cs a b c = ascends-front 1 (2 when false ∷ 3 when b ∷ causes4to7 L cs a c) (causes8to11 L []) (causes-ascend cs [] a b c)
 
-  pub unsound-refused : (img s : List ℕ) → (T (sound L img) → ⊥) → judge L img s ≡ refusal 1 255 img
-  unfolding judge
-  unsound-refused img s h = cond-false (sound L img) (judgeTables L img (decode L img) (parse L s)) (refusal 1 255 img) h
-
   pub first-cause : FirstCause L
-  first-cause img s = (unsound-refused img s, λ cs f. go cs f (parse L s) refl)
+  first-cause img s = (unsound-refused L img s, λ cs f. go cs f (parse L s) refl)
     where
       go : (cs : List Contract) → StandsFor L img cs → (o : Option Request) → parse L s ≡ o → IsFirst (judge L img s .answered) (orElse o (2 when true ∷ []) (λ q. 2 when false ∷ causes3to11 L cs q))
       go cs f none e = subst (λ (n : ℕ). IsFirst n (2 when true ∷ [])) (sym (step L lo img s cs f .0 ∙ ap (λ (h : Held L). h .answered) (machine-read cs s none e))) (first-is 1 (2 when true ∷ []) tt)
@@ -234,7 +209,7 @@ module _ (L : Layout) (lo : LayoutOk L) where
 -- ---- 5. short check = full look
 pub short-is-full : (L : Layout) → ShortIsFull L
 short-is-full L img s q ok e =
-    kinds (q .change) .1 L (decode L img) (q .aid) (sound-formed L img ok) (sound-lawful L img ok) (sound-fitting L img ok) (parse-valid L s q e .1)
+    kinds (q .change) .1 L (decode L img) (q .aid) (sound-formed L img ok) (sound-lawful L img ok) (sound-fitting L img ok) (parsed-within L s q e .1)
 
 -- ---- 6. reading out
 module _ (L : Layout) (lo : LayoutOk L) where
@@ -242,12 +217,13 @@ module _ (L : Layout) (lo : LayoutOk L) where
   read-out-again img n ok un =
       let t = decode L img in
       let g = sound-formed L img ok in
+      let ru = sound-ruled L img ok in
       let fit = sound-fitting L img ok in
       let parses : (c : Contract) → c ≡ contractAt L t n → parse L (loadRecord L c) ≡ some (requestOf c) =
-      λ c e. subst (λ (k : Contract). parse L (loadRecord L k) ≡ some (requestOf k)) (sym e) (read-out-parses L lo t g fit n un) in
+      λ c e. subst (λ (k : Contract). parse L (loadRecord L k) ≡ some (requestOf k)) (sym e) (read-out-parses L lo t g ru fit n un) in
       record {
         parses = parses;
-        is-proper = λ c e. subst (λ (k : Contract). T (proper (k .aid) (loadOf k))) (sym e) (read-out-proper L lo t g fit n un);
+        is-proper = λ c e. subst (λ (k : Contract). T (proper (k .aid) (loadOf k))) (sym e) (read-out-proper L lo t g ru fit n un);
         loads-again = λ c e. again c (parses c e);
       }
     where
@@ -261,14 +237,17 @@ module _ (L : Layout) (lo : LayoutOk L) where
               let p = sound-stands L lo img₂ h in
               let n = sym (read-answer L lo img₂ (loadRecord L c) (p .0) (requestOf c) (p .1) e) ∙ z in
               accepted-contracts L lo img₂ (loadRecord L c) (p .0) (requestOf c) (p .1) e n .these c (here refl)
-          go (inr h) = absurd (one-not-zero (sym (ap (λ (o : Out). o .answered) (unsound-refused L lo img₂ (loadRecord L c) h)) ∙ z))
+          go (inr h) = absurd (one-not-zero (sym (ap (λ (o : Out). o .answered) (unsound-refused L img₂ (loadRecord L c) h)) ∙ z))
             where
               one-not-zero : _≡_ {A = ℕ} 1 0 → ⊥
               one-not-zero e = omega arith
 
--- ---- the card of 1,094 bytes
+-- ---- the card of 1,094 bytes, by any rules on method tokens
+pub card-ok : {m : ℕ} → LayoutOk (cardOf m)
+card-ok = record { header-size = refl; packages-fit = lit≤ tt; services-fit = lit≤ tt; rows-fit = lit≤ tt; counts-fit = lit≤ tt; records-fit = lit≤ tt }
+
 pub small-ok : LayoutOk small
-small-ok = record { header-size = refl; packages-fit = lit≤ tt; services-fit = lit≤ tt; rows-fit = lit≤ tt; counts-fit = lit≤ tt; records-fit = lit≤ tt }
+small-ok = card-ok
 
 -- where document 01 says that its parts stand, and its size
 pub small-parts : aidsAt small ∷ tokensAt small ∷ providesAt small ∷ callsAt small ∷ grantsAt small ∷ needsAt small ∷ unmetAt small ∷ waitingAt small ∷ size small ∷ []
@@ -294,3 +273,53 @@ marked = (
   ap (λ (f : List (List ℕ) → List Line). map (λ c. f (c .records)) cases) (λ i ss. sound-lines small small-ok ss (emptyImage small) [] (empty-stands small small-ok) i),
   refl,
 )
+
+-- ---- the change of R-7
+narrow-stays : Stays base narrow
+narrow-stays = stays base narrow (record { packages = refl; services = refl; width = refl; capacity = refl; header = refl }) card-ok
+
+then-stands : (ss : List (List ℕ)) → StandsFor base (imageThen ss) (contractsThen ss)
+then-stands ss = history base card-ok ss .stands-for
+
+pub so-far : SoFar
+so-far = record {
+  history = λ ss ts al. history-from base card-ok (emptyImage base) [] (empty-stands base card-ok) ss _
+      (record { is-ok = card-ok; widens = record { packages = lit≤ tt; services = lit≤ tt; capacity = lit≤ tt }; allowed = λ _. al }, tt);
+  same-image = λ ss. narrow-stays .same-image (imageThen ss) (then-stands ss .is-sound);
+  goes-on = λ ss. narrow-stays .goes-on (imageThen ss) (contractsThen ss) (then-stands ss);
+  left-out = λ ss. narrow-stays .left-out (imageThen ss) (contractsThen ss) (then-stands ss);
+}
+
+-- ---- the cases over it: computed but for the images that are not sound, which refuse all
+refused-lines : (L : Layout) (img : List ℕ) → LeftOut L img → (ss : List (List ℕ)) → linesFrom L img ss ≡ map (λ s. lineOf s (refusal 1 255 img)) ss
+unfolding linesFrom imageAfter
+refused-lines L img h [] = refl
+refused-lines L img h (s ∷ ss) =
+    ap (λ (o : Out). lineOf s o ∷ linesFrom L (o .bytes) ss) (h .refuses [] s) ∙ ap (λ (l : List Line). lineOf s (refusal 1 255 img) ∷ l) (refused-lines L img h ss)
+
+holds-provided : AllAllowed narrow (contractsThen providing128) → ⊥
+unfolding contractsAfter
+holds-provided h = h _ (here refl) .provides _ (here refl)
+
+holds-called : AllAllowed narrow (contractsThen calling128) → ⊥
+unfolding contractsAfter
+holds-called h = h _ (here refl) .calls _ (here refl)
+
+abbrev Comes : CaseOver → Type 0
+Comes c = linesFrom small (imageThen (c .before)) (c .records) ≡ c .lines
+
+lost : Comes lost128
+unfolding linesFrom imageAfter emptyImage sound
+lost = refl
+
+low : Comes holding127
+unfolding linesFrom imageAfter emptyImage sound
+low = refl
+
+pub marked-over : MarkedOver
+marked-over i =
+    refused-lines small (imageThen providing128) (so-far .left-out providing128 holds-provided) (loadB ∷ removalOf 1 ∷ [] ∷ []) i
+    ∷ refused-lines small (imageThen calling128) (so-far .left-out calling128 holds-called) (removalOf 1 ∷ loadH ∷ []) i
+    ∷ lost i
+    ∷ low i
+    ∷ []

@@ -3,6 +3,7 @@ use Prim.Native.Nat.{ℕ, zero, suc, _+_, _*_, _/_, _%_, _^_, _≤_, _<_}
 use native.Mathlib.Omega.{arith}
 use native.Mathlib.Nat.{div-add-mod', div-lt-iff-lt-mul, pow-suc, zero-lt-suc}
 use mathlib.Core.Path.{_≡_, refl, sym, ap, _∙_, subst}
+use mathlib.Core.Bool.{Bool}
 use mathlib.Core.List.{List, [], _∷_, _++_, append-assoc, append-nil}
 use mathlib.Core.List.{List·Memᴰ as In, List·Memᴰ·head as here, List·Memᴰ·tail as there}
 use lib.Dec.{T, eqb, eqb-refl, leb, le→leb}
@@ -11,11 +12,11 @@ use lib.Seq.{take-append-seam, drop-append-seam}
 use Rattle.policy.specs.Lists.{flat}
 use Rattle.policy.specs.Contract.{Aid, Tok, Row, Contract, validAid}
 use Rattle.policy.specs.Layout.{Layout, LayoutOk}
-use Rattle.policy.specs.Record.{Change, load, remove, addService, removeService, addCall, removeCall, addGrant, removeGrant, addNeed, removeNeed, Got, got, Reader, andThen, byte, bytes}
-use Rattle.policy.specs.Record.{numberFrom, number, aid, tokens, aRow, many, counted, rowList, aLoad, aService, change, fields, parse}
+use Rattle.policy.specs.Record.{Change, load, remove, addService, removeService, addCall, removeCall, addGrant, removeGrant, addNeed, removeNeed, Got, got, Reader, andThen, done, given, byte, bytes}
+use Rattle.policy.specs.Record.{numberFrom, number, aid, tokens, rowOf, validTok, validTokens, validRow, many, counted, rowList, aLoad, aService, change, fields, parse}
 use Rattle.policy.specs.Tables.{writeNumber, writeTok}
 use Rattle.policy.specs.Judge.{aidBytes, rowBytes, rowsBytes, loadRecord}
-use Rattle.policy.specs.Records.{kindOf, requestOf, ValidRow, AtMost, changeBytes, bodyBytes, recordBytes, WithinChange, WrittenRead}
+use Rattle.policy.specs.Records.{kindOf, requestOf, ValidAid, ValidTok, ValidRow, AtMost, changeBytes, bodyBytes, recordBytes, WithinChange, WrittenRead}
 use Rattle.policy.proofs.Sets.{T-true}
 use Rattle.policy.proofs.Bits.{length-number}
 
@@ -58,21 +59,25 @@ unfolding number byte
 number-byte n rest = let e : 0 * 256 + n ≡ n = omega arith in ap (λ (z : ℕ). got z rest) e
 
 -- ---- rows and lists
-aid-written : (a rest : List ℕ) → T (validAid a) → aid (aidBytes a ++ rest) ≡ got a rest
+aid-written : (a rest : List ℕ) → ValidAid a → aid (aidBytes a ++ rest) ≡ got a rest
 unfolding aid byte bytes
 aid-written a rest v =
     rw (T-true (leb (length a) (length (a ++ rest))) (le→leb (length a) (length (a ++ rest)) (omega (arith, length-append a rest))), take-append-seam a rest, drop-append-seam a rest, T-true (validAid a) v)
 
-tokens-written : (s : Tok) (rest : List ℕ) → tokens (writeTok s ++ rest) ≡ got s rest
-unfolding tokens byte
-tokens-written s rest = refl
+row-written : (p : Reader Tok) (r : Row) (rest : List ℕ) → ValidAid (r .aid) → p (writeTok (r .tok) ++ rest) ≡ got (r .tok) rest → rowOf p (rowBytes r ++ rest) ≡ got r rest
+unfolding rowOf
+row-written p r rest v e =
+    ap (rowOf p) (append-assoc (aidBytes (r .aid)) (writeTok (r .tok)) rest)
+    ∙ ap (λ (z : Got Aid). andThen z (λ a u. andThen (p u) (λ s. got (record { aid = a; tok = s })))) (aid-written (r .aid) (writeTok (r .tok) ++ rest) v)
+    ∙ ap (λ (z : Got Tok). andThen z (λ s. got (record { aid = r .aid; tok = s }))) e
 
-row-written : (r : Row) (rest : List ℕ) → T (validAid (r .aid)) → aRow (rowBytes r ++ rest) ≡ got r rest
-unfolding aRow
-row-written r rest v =
-    ap aRow (append-assoc (aidBytes (r .aid)) (writeTok (r .tok)) rest)
-    ∙ ap (λ (z : Got Aid). andThen z (λ a u. andThen (tokens u) (λ s. got (record { aid = a; tok = s })))) (aid-written (r .aid) (writeTok (r .tok) ++ rest) v)
-    ∙ ap (λ (z : Got Tok). andThen z (λ s. got (record { aid = r .aid; tok = s }))) (tokens-written (r .tok) rest)
+module _ (L : Layout) where
+  tokens-written : (s : Tok) (rest : List ℕ) → ValidTok L s → validTokens L (writeTok s ++ rest) ≡ got s rest
+  unfolding validTokens tokens byte
+  tokens-written s rest v = ap (λ (b : Bool). given b (done s) rest) (T-true (validTok L s) v)
+
+  valid-row-written : (r : Row) (rest : List ℕ) → ValidRow L r → validRow L (rowBytes r ++ rest) ≡ got r rest
+  valid-row-written r rest v = row-written (validTokens L) r rest (v .0) (tokens-written (r .tok) rest (v .1))
 
 module _ {A : Type 0} (p : Reader A) (f : A → List ℕ) where
   many-written : (l : List A) (rest : List ℕ) → ((x : A) → In x l → (u : List ℕ) → p (f x ++ u) ≡ got x u) → many p (length l) (flat f l ++ rest) ≡ got l rest
@@ -88,19 +93,19 @@ module _ {A : Type 0} (p : Reader A) (f : A → List ℕ) where
 
 -- ---- what follows the first AID, by kind
 module _ (L : Layout) (lo : LayoutOk L) where
-  rows-written : (l : List Row) (rest : List ℕ) → AtMost (L .mostRows) ValidRow l → rowList L (rowsBytes L l ++ rest) ≡ got l rest
+  rows-written : (l : List Row) (rest : List ℕ) → AtMost (L .mostRows) (ValidRow L) l → rowList L (rowsBytes L l ++ rest) ≡ got l rest
   rows-written l rest v =
       let fits : length l < 256 ^ L .countWidth = let h = lo .counts-fit in let n = v .0 in omega arith in
-      counted-written aRow rowBytes (L .countWidth) (L .mostRows) (rowsBytes L l ++ rest) l rest
+      counted-written (validRow L) rowBytes (L .countWidth) (L .mostRows) (rowsBytes L l ++ rest) l rest
       (ap (number (L .countWidth)) (number-append (L .countWidth) (length l) (flat rowBytes l) rest) ∙ number-written (L .countWidth) (length l) (flat rowBytes l ++ rest) fits)
-      (v .0) (λ r m u. row-written r u (v .1 r m))
+      (v .0) (λ r m u. valid-row-written L r u (v .1 r m))
 
   -- kinds 5 to 10
-  one-written : (f : Row → Change) (r : Row) (rest : List ℕ) → ValidRow r → andThen (aRow (rowBytes r ++ rest)) (λ x. got (f x)) ≡ got (f r) rest
-  one-written f r rest v = ap (λ (z : Got Row). andThen z (λ x. got (f x))) (row-written r rest v)
+  one-written : (f : Row → Change) (r : Row) (rest : List ℕ) → ValidRow L r → andThen (validRow L (rowBytes r ++ rest)) (λ x. got (f x)) ≡ got (f r) rest
+  one-written f r rest v = ap (λ (z : Got Row). andThen z (λ x. got (f x))) (valid-row-written L r rest v)
 
   change-written : (c : Change) (rest : List ℕ) → WithinChange L c → change L (kindOf c) (changeBytes L c ++ rest) ≡ got c rest
-  unfolding change aLoad aService tokens byte
+  unfolding change aLoad aService
   change-written (load p c g n) rest v =
       let cs = rowsBytes L c in
       let gs = rowsBytes L g in
@@ -110,16 +115,18 @@ module _ (L : Layout) (lo : LayoutOk L) where
         append-assoc (flat writeTok p) (cs ++ (gs ++ ns)) rest,
         append-assoc cs (gs ++ ns) rest,
         append-assoc gs ns rest,
-        counted-written tokens writeTok 1 (L .services) (length p ∷ flat writeTok p ++ after) p after (number-byte (length p) _) (v .0) (λ s m u. refl),
+        counted-written (validTokens L) writeTok 1 (L .services) (length p ∷ flat writeTok p ++ after) p after (number-byte (length p) _) (v .0 .0) (λ s m u. tokens-written L s u (v .0 .1 s m)),
         rows-written c (gs ++ (ns ++ rest)) (v .1),
         rows-written g (ns ++ rest) (v .2),
         rows-written n rest (v .3),
       )
   change-written remove rest v = refl
   change-written (addService s l) rest v =
-      ap (λ (z : Got (List Aid)). andThen z (λ m. got (addService s m)))
-      (counted-written aid aidBytes 1 (L .mostCallers) (length l ∷ flat aidBytes l ++ rest) l rest (number-byte (length l) _) (v .0) (λ a m u. aid-written a u (v .1 a m)))
-  change-written (removeService s) rest v = refl
+      rw (
+        tokens-written L s (length l ∷ flat aidBytes l ++ rest) (v .0),
+        counted-written aid aidBytes 1 (L .mostCallers) (length l ∷ flat aidBytes l ++ rest) l rest (number-byte (length l) _) (v .1 .0) (λ a m u. aid-written a u (v .1 .1 a m)),
+      )
+  change-written (removeService s) rest v = ap (λ (z : Got Tok). andThen z (λ x. got (removeService x))) (tokens-written L s rest v)
   change-written (addCall r) rest v = one-written addCall r rest v
   change-written (removeCall r) rest v = one-written removeCall r rest v
   change-written (addGrant r) rest v = one-written addGrant r rest v

@@ -10,7 +10,7 @@ use lib.Dec.{T}
 use lib.ListN.{length, take, drop}
 use Rattle.policy.specs.Lists.{orElse}
 use Rattle.policy.specs.Contract.{Row, Contract, validAid, lawful, unmetCalls, waitingGrants}
-use Rattle.policy.specs.Layout.{Layout, small, size}
+use Rattle.policy.specs.Layout.{Layout, base, small, size}
 use Rattle.policy.specs.Record.{Request, load, parse, proper, firstAid}
 use Rattle.policy.specs.Causes.{Cause, _when_, answer}
 use Rattle.policy.specs.Machine.{machine, effect, causes4to7, causes3to11}
@@ -21,13 +21,17 @@ use Rattle.policy.specs.Draft.{look, draft}
 use Rattle.policy.specs.ShortCheck.{shortLook}
 use Rattle.policy.specs.Judge.{Out, refusal, tableCauses, judge, check, writeEmpty, loadRecord, readOut}
 use Rattle.policy.specs.History.{SameContract, StandsFor, answers, imageAfter, machineAnswers, contractsAfter}
-use Rattle.policy.specs.Marked.{linesFrom, cases}
+use Rattle.policy.specs.Marked.{linesFrom, cases, casesOver}
 
 -- ---- 1. the marked cases: whole lines on the engine's definition, and answers on the machine
 abbrev pub MarkedCases : Type 0
 MarkedCases =
     (map (λ c. linesFrom small (emptyImage small) (c .records)) cases ≡ map (λ c. c .lines) cases)
     × (map (λ c. machineAnswers small [] (c .records)) cases ≡ map (λ c. map (λ l. l .answer) (c .lines)) cases)
+
+-- those over R-7's change
+abbrev pub MarkedOver : Type 0
+MarkedOver = map (λ c. linesFrom small (imageAfter base (emptyImage base) (c .before)) (c .records)) casesOver ≡ map (λ c. c .lines) casesOver
 
 -- ---- 2. one record: equal answers, and the image after it stands for the machine's contracts after it
 abbrev pub Agreement : Layout → Type 0

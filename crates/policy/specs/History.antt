@@ -5,13 +5,14 @@ use mathlib.Core.List.{List, [], _∷_, map}
 use mathlib.Core.List.{List·Memᴰ as In}
 use lib.Dec.{T}
 use Rattle.policy.specs.Lists.{SameSet, NoRepeat}
-use Rattle.policy.specs.Contract.{Contract}
+use Rattle.policy.specs.Contract.{Tok, Row, Contract}
 use Rattle.policy.specs.Layout.{Layout}
 use Rattle.policy.specs.Machine.{machine}
 use Rattle.policy.specs.Tables.{decode}
 use Rattle.policy.specs.Lookup.{contractAt}
 use Rattle.policy.specs.Sound.{sound}
 use Rattle.policy.specs.Judge.{judge}
+use Rattle.policy.specs.Records.{ValidTok}
 
 -- 'the same AIDs, and under each the same services, calls, grants and needs'
 pub record SameContract (c k : Contract) : Type 0 where
@@ -27,6 +28,15 @@ pub record FourSets (c : Contract) : Type 0 where
   pub calls : NoRepeat (c .calls)
   pub grants : NoRepeat (c .grants)
   pub needs : NoRepeat (c .needs)
+
+-- the rules of L allow the contract: its method tokens are L's. Needs are among the calls
+pub record Allowed (L : Layout) (c : Contract) : Type 0 where
+  pub provides : (s : Tok) → In s (c .provides) → ValidTok L s
+  pub calls : (r : Row) → In r (c .calls) → ValidTok L (r .tok)
+  pub grants : (r : Row) → In r (c .grants) → ValidTok L (r .tok)
+
+abbrev pub AllAllowed : Layout → List Contract → Type 0
+AllAllowed L cs = (c : Contract) → In c cs → Allowed L c
 
 -- 'The tables of an image stand for contracts when it is sound and they are these and no others, one for each used number
 -- under its AID'. The contract of a number is `contractAt`: 'provides, the token pairs at its set bits; calls, the bits of its row,

@@ -1,4 +1,4 @@
--- A card's sizes and limits, as a value: where the parts of its image stand, and what its records may hold.
+-- A card's sizes and rules, as a value: where the parts of its image stand, and what its records and contracts may hold.
 use Prim.Native.Nat.{ℕ, _+_, _*_, _-_, _^_, _≤_, _<_}
 use mathlib.Core.Path.{_≡_}
 use mathlib.Core.List.{List, [], _∷_}
@@ -20,10 +20,12 @@ pub record Layout : Type 0 where
   pub countWidth : ℕ
   pub mostRows : ℕ
   pub mostCallers : ℕ
+  -- method tokens are below this
+  pub methods : ℕ
 
--- the card of 1,094 bytes
-abbrev pub small : Layout
-small = record {
+-- the card of 1,094 bytes, with method tokens below m
+abbrev pub cardOf : ℕ → Layout
+cardOf m = record {
   packages = 8;
   services = 8;
   width = 1;
@@ -33,7 +35,20 @@ small = record {
   countWidth = 1;
   mostRows = 72;
   mostCallers = 32;
+  methods = m;
 }
+
+-- its rules by time: document 01's, 'Each token may be 0 to 255';
+abbrev pub base : Layout
+base = cardOf 256
+
+-- R-7's, 'Method tokens stop at 127';
+abbrev pub narrow : Layout
+narrow = cardOf 128
+
+-- and those in force
+abbrev pub small : Layout
+small = narrow
 
 -- bytes of an AID's place, of a row of unmet calls and of a row of waiting grants
 abbrev pub aidSize : ℕ

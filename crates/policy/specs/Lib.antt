@@ -15,6 +15,7 @@ pub mod History
 pub mod Marked
 pub mod ShortCheck
 pub mod Claims
+pub mod Eras
 pub mod Settled
 pub mod Numbering
 pub mod Placing

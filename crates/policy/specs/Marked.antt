@@ -1,4 +1,4 @@
--- The marked cases of document 01, 'At the edges', in one table.
+-- The marked cases of document 01, 'At the edges', in one table, and those that requests add.
 use Prim.Native.Nat.{ℕ, _+_, _/_, _%_}
 use mathlib.Core.Bool.{true, cond}
 use mathlib.Core.List.{List, [], _∷_, _++_, map}
@@ -71,9 +71,16 @@ removalOf n = recordOf 2 (aidOf n)
 abbrev pub callsOn9 : ℕ → List (List ℕ)
 callsOn9 m = map (rowOf 9) (from 1 m)
 
--- kind 5: package n calls service m of package k
-abbrev pub callOf : ℕ → ℕ → ℕ → List ℕ
-callOf n k m = recordOf 5 (aidOf n ++ rowOf k m)
+-- kinds 5 to 10: package n, and service m of package k
+abbrev pub rowChange : ℕ → ℕ → ℕ → ℕ → List ℕ
+rowChange kind n k m = recordOf kind (aidOf n ++ rowOf k m)
+
+-- kind 3 without callers, and kind 4: service m of package n
+abbrev pub addService : ℕ → ℕ → List ℕ
+addService n m = recordOf 3 (aidOf n ++ (0 ∷ m ∷ 0 ∷ []))
+
+abbrev pub removeService : ℕ → ℕ → List ℕ
+removeService n m = recordOf 4 (aidOf n ++ (0 ∷ m ∷ []))
 
 -- the records of the session, to the byte
 abbrev pub loadH : List ℕ
@@ -104,7 +111,7 @@ cases =
     -- the ninth package
     ∷ record { records = map (λ n. loadOf n [] [] [] []) (from 1 9); lines = map (taken 1) (upto 8) ++ (refused 1 7 ∷ []) }
     -- a 17th unmet call
-    ∷ record { records = loadOf 1 [] (callsOn9 16) [] [] ∷ callOf 1 9 17 ∷ []; lines = taken 1 0 ∷ refused 5 10 ∷ [] }
+    ∷ record { records = loadOf 1 [] (callsOn9 16) [] [] ∷ rowChange 5 1 9 17 ∷ []; lines = taken 1 0 ∷ refused 5 10 ∷ [] }
     -- with 16 standing, a granted load that meets one and adds one
     ∷ record { records = loadOf 1 [] (callsOn9 16) [] [] ∷ loadOf 9 (1 ∷ []) (rowOf 10 20 ∷ []) (rowOf 1 1 ∷ []) [] ∷ []; lines = taken 1 0 ∷ taken 1 1 ∷ [] }
     -- removing a server whose callers' calls would make 17 unmet
@@ -114,4 +121,52 @@ cases =
     }
     -- a load failing on grant and on need
     ∷ record { records = loadH ∷ loadOf 4 [] (rowOf 1 0 ∷ rowOf 9 0 ∷ []) [] (rowOf 9 0 ∷ []) ∷ []; lines = taken 1 0 ∷ refused 1 8 ∷ [] }
+    -- R-7: a method token of 127 is read, one of 128 is not: in each list of a load
+    ∷ record { records = loadOf 1 (127 ∷ []) [] [] [] ∷ loadOf 2 (128 ∷ []) [] [] [] ∷ []; lines = taken 1 0 ∷ refused 1 2 ∷ [] }
+    ∷ record { records = loadOf 1 [] (rowOf 9 127 ∷ []) [] [] ∷ loadOf 2 [] (rowOf 9 128 ∷ []) [] [] ∷ []; lines = taken 1 0 ∷ refused 1 2 ∷ [] }
+    ∷ record { records = loadOf 1 (127 ∷ []) [] (rowOf 2 127 ∷ []) [] ∷ loadOf 3 (127 ∷ []) [] (rowOf 2 128 ∷ []) [] ∷ []; lines = taken 1 0 ∷ refused 1 2 ∷ [] }
+    ∷ record {
+      records = loadOf 1 (127 ∷ []) [] (rowOf 2 127 ∷ []) [] ∷ loadOf 2 [] (rowOf 1 127 ∷ []) [] (rowOf 1 127 ∷ []) ∷ loadOf 3 [] [] [] (rowOf 1 128 ∷ []) ∷ [];
+      lines = taken 1 0 ∷ taken 1 1 ∷ refused 1 2 ∷ [];
+    }
+    -- in kinds 3 to 10
+    ∷ record {
+      records = loadOf 1 [] [] [] [] ∷ loadOf 2 [] [] [] []
+          ∷ flat (λ f. f 128 ∷ f 127 ∷ [])
+          (addService 1 ∷ rowChange 7 1 2 ∷ rowChange 5 2 1 ∷ rowChange 9 2 1 ∷ rowChange 10 2 1 ∷ rowChange 6 2 1 ∷ rowChange 8 1 2 ∷ removeService 1 ∷ []);
+      lines = taken 1 0 ∷ taken 1 1
+          ∷ refused 3 2 ∷ taken 3 0 ∷ refused 7 2 ∷ taken 7 0 ∷ refused 5 2 ∷ taken 5 1 ∷ refused 9 2 ∷ taken 9 1
+          ∷ refused 10 2 ∷ taken 10 1 ∷ refused 6 2 ∷ taken 6 1 ∷ refused 8 2 ∷ taken 8 0 ∷ refused 4 2 ∷ taken 4 0 ∷ [];
+    }
+    -- interface tokens are 0 to 255
+    ∷ record { records = recordOf 1 (aidOf 1 ++ (1 ∷ 255 ∷ 127 ∷ 0 ∷ 0 ∷ 0 ∷ [])) ∷ []; lines = taken 1 0 ∷ [] }
+    ∷ []
+
+-- ---- cases over a change of the rules
+-- a history from the empty card by the rules of then, records by those in force, and the lines of these
+pub record CaseOver : Type 0 where
+  pub before : List (List ℕ)
+  pub records : List (List ℕ)
+  pub lines : List Line
+
+-- R-7: a card that provides a service with a method token of 128, and one with an unmet call on such a service
+abbrev pub providing128 : List (List ℕ)
+providing128 = loadOf 1 (128 ∷ []) [] [] [] ∷ []
+
+abbrev pub calling128 : List (List ℕ)
+calling128 = loadOf 1 [] (rowOf 9 128 ∷ []) [] [] ∷ []
+
+-- one that lost it before the change, and one that holds 127 in both places
+abbrev pub lost128 : CaseOver
+lost128 = record { before = providing128 ++ (removalOf 1 ∷ []); records = loadH ∷ loadOf 2 (128 ∷ []) [] [] [] ∷ []; lines = taken 1 0 ∷ refused 1 2 ∷ [] }
+
+abbrev pub holding127 : CaseOver
+holding127 = record { before = loadOf 1 (127 ∷ []) (rowOf 9 127 ∷ []) [] [] ∷ []; records = removalOf 1 ∷ []; lines = taken 2 0 ∷ [] }
+
+abbrev pub casesOver : List CaseOver
+casesOver =
+    record { before = providing128; records = loadB ∷ removalOf 1 ∷ [] ∷ []; lines = refused 1 1 ∷ refused 2 1 ∷ refusedShort 1 ∷ [] }
+    ∷ record { before = calling128; records = removalOf 1 ∷ loadH ∷ []; lines = refused 2 1 ∷ refused 1 1 ∷ [] }
+    ∷ lost128
+    ∷ holding127
     ∷ []

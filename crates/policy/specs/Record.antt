@@ -4,7 +4,7 @@ use mathlib.Core.Bool.{Bool, true, false, not, _&&_}
 use mathlib.Core.List.{List, [], _∷_}
 use mathlib.Core.Option.{Option, none, some}
 use lib.ListN.{length, take, drop, getD}
-use lib.Dec.{leb, eqb}
+use lib.Dec.{leb, ltb, eqb}
 use Rattle.policy.specs.Lists.{every, distinct, orElse}
 use Rattle.policy.specs.Contract.{Aid, eqAid, Tok, eqTok, Row, eqRow, hasTok, hasRow, validAid}
 use Rattle.policy.specs.Layout.{Layout}
@@ -71,6 +71,7 @@ aid = do
   a ← bytes n
   given (validAid a) (done a)
 
+-- two token bytes, 'interface then method', of any value
 unfoldable pub tokens : Reader Tok
 unfolding byte
 tokens = do
@@ -78,12 +79,17 @@ tokens = do
   m ← byte
   done (record { itf = i; mth = m })
 
-unfoldable pub aRow : Reader Row
-unfolding aid tokens
-aRow = do
+-- a row: an AID, and tokens as they are read
+unfoldable pub rowOf : Reader Tok → Reader Row
+unfolding aid
+rowOf p = do
   a ← aid
-  s ← tokens
+  s ← p
   done (record { aid = a; tok = s })
+
+-- with tokens of any value
+abbrev pub aRow : Reader Row
+aRow = rowOf tokens
 
 -- n things of one sort, one after another
 abbrev pub many : {A : Type 0} → Reader A → ℕ → Reader (List A)
@@ -104,17 +110,30 @@ whole (got a (b ∷ s)) = none
 whole bad = none
 
 module _ (L : Layout) where
+  -- R-7: 'A method token of 128 or more in a record is now a wrong record'
+  abbrev pub validTok : Tok → Bool
+  validTok s = ltb (s .mth) (L .methods)
+
+  unfoldable pub validTokens : Reader Tok
+  unfolding tokens
+  validTokens = do
+    s ← tokens
+    given (validTok s) (done s)
+
+  abbrev pub validRow : Reader Row
+  validRow = rowOf validTokens
+
   abbrev pub tokenList : Reader (List Tok)
-  tokenList = counted 1 (L .services) tokens
+  tokenList = counted 1 (L .services) validTokens
 
   abbrev pub rowList : Reader (List Row)
-  rowList = counted (L .countWidth) (L .mostRows) aRow
+  rowList = counted (L .countWidth) (L .mostRows) validRow
 
   abbrev pub callerList : Reader (List Aid)
   callerList = counted 1 (L .mostCallers) aid
 
   unfoldable pub aLoad : Reader Change
-  unfolding counted tokens aRow
+  unfolding counted rowOf validTokens
   aLoad = do
     p ← tokenList
     c ← rowList
@@ -123,9 +142,9 @@ module _ (L : Layout) where
     done (load p c g n)
 
   unfoldable pub aService : Reader Change
-  unfolding counted tokens aid
+  unfolding counted validTokens aid
   aService = do
-    s ← tokens
+    s ← validTokens
     l ← callerList
     done (addService s l)
 
@@ -136,17 +155,17 @@ module _ (L : Layout) where
       ∷ aLoad
       ∷ done remove
       ∷ aService
-      ∷ (tokens >>= λ s. done (removeService s))
-      ∷ (aRow >>= λ r. done (addCall r))
-      ∷ (aRow >>= λ r. done (removeCall r))
-      ∷ (aRow >>= λ r. done (addGrant r))
-      ∷ (aRow >>= λ r. done (removeGrant r))
-      ∷ (aRow >>= λ r. done (addNeed r))
-      ∷ (aRow >>= λ r. done (removeNeed r))
+      ∷ (validTokens >>= λ s. done (removeService s))
+      ∷ (validRow >>= λ r. done (addCall r))
+      ∷ (validRow >>= λ r. done (removeCall r))
+      ∷ (validRow >>= λ r. done (addGrant r))
+      ∷ (validRow >>= λ r. done (removeGrant r))
+      ∷ (validRow >>= λ r. done (addNeed r))
+      ∷ (validRow >>= λ r. done (removeNeed r))
       ∷ []
 
   unfoldable pub change : ℕ → Reader Change
-  unfolding aLoad aService tokens aRow
+  unfolding aLoad aService rowOf validTokens
   change k = getD kinds k (λ s. bad)
 
   -- a record of l bytes: 'its whole length in two bytes, big-endian, then the version byte, then a kind byte'

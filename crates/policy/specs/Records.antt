@@ -7,9 +7,9 @@ use mathlib.Core.Option.{none, some}
 use lib.Dec.{T}
 use lib.ListN.{length}
 use Rattle.policy.specs.Lists.{flat}
-use Rattle.policy.specs.Contract.{Aid, Row, Contract, validAid}
+use Rattle.policy.specs.Contract.{Aid, Tok, Row, Contract, validAid}
 use Rattle.policy.specs.Layout.{Layout}
-use Rattle.policy.specs.Record.{Request, Change, load, remove, addService, removeService, addCall, removeCall, addGrant, removeGrant, addNeed, removeNeed, parse}
+use Rattle.policy.specs.Record.{Request, Change, load, remove, addService, removeService, addCall, removeCall, addGrant, removeGrant, addNeed, removeNeed, validTok, parse}
 use Rattle.policy.specs.Tables.{writeNumber, writeTok}
 use Rattle.policy.specs.Judge.{aidBytes, rowBytes, rowsBytes, readOut}
 
@@ -37,9 +37,6 @@ requestOf c = record { aid = c .aid; change = loadOf c }
 abbrev pub ValidAid : Aid → Type 0
 ValidAid a = T (validAid a)
 
-abbrev pub ValidRow : Row → Type 0
-ValidRow r = ValidAid (r .aid)
-
 -- a list of at most so many, each as it must be
 abbrev pub AtMost : {A : Type 0} → ℕ → (A → Type 0) → List A → Type 0
 AtMost {A} most P l = (length l ≤ most) × ((x : A) → In x l → P x)
@@ -49,6 +46,12 @@ abbrev pub Bytes : List ℕ → Type 0
 Bytes s = (b : ℕ) → In b s → b < 256
 
 module _ (L : Layout) where
+  abbrev pub ValidTok : Tok → Type 0
+  ValidTok s = T (validTok L s)
+
+  abbrev pub ValidRow : Row → Type 0
+  ValidRow r = ValidAid (r .aid) × ValidTok (r .tok)
+
   -- ---- writing
   -- what follows the first AID: document 01's table. 'An AID is written as a length byte and its bytes. A list is a count byte and its rows.'
   abbrev pub changeBytes : Change → List ℕ
@@ -70,12 +73,12 @@ module _ (L : Layout) where
   abbrev pub recordBytes : Request → List ℕ
   recordBytes q = writeNumber 2 (4 + length (bodyBytes q)) (L .version ∷ kindOf (q .change) ∷ bodyBytes q)
 
-  -- ---- what can be written: every AID is valid, and each list is within the layout's limits
+  -- ---- what can be written: every AID and method token is valid, and each list is within the layout's limits
   abbrev pub WithinChange : Change → Type 0
-  WithinChange (load p c g n) = (length p ≤ L .services) × AtMost (L .mostRows) ValidRow c × AtMost (L .mostRows) ValidRow g × AtMost (L .mostRows) ValidRow n
+  WithinChange (load p c g n) = AtMost (L .services) ValidTok p × AtMost (L .mostRows) ValidRow c × AtMost (L .mostRows) ValidRow g × AtMost (L .mostRows) ValidRow n
   WithinChange remove = Unit {0}
-  WithinChange (addService s l) = AtMost (L .mostCallers) ValidAid l
-  WithinChange (removeService s) = Unit {0}
+  WithinChange (addService s l) = ValidTok s × AtMost (L .mostCallers) ValidAid l
+  WithinChange (removeService s) = ValidTok s
   WithinChange (addCall r) = ValidRow r
   WithinChange (removeCall r) = ValidRow r
   WithinChange (addGrant r) = ValidRow r

@@ -1,4 +1,4 @@
--- A sound image: document 01, 'An image is sound when', item by item.
+-- A sound image: document 01, 'An image is sound when', item by item; and what requests add.
 use Prim.Native.Nat.{ℕ}
 use mathlib.Core.Bool.{Bool, not, _&&_, _||_}
 use mathlib.Core.List.{List, map}
@@ -7,6 +7,7 @@ use lib.ListN.{length, take}
 use Rattle.policy.specs.Lists.{implies, every, keep, distinct, isNil, isSome, upto, eqBytes}
 use Rattle.policy.specs.Contract.{eqAid, validAid, eqTok}
 use Rattle.policy.specs.Layout.{Layout, size}
+use Rattle.policy.specs.Record.{validTok}
 use Rattle.policy.specs.Tables.{Tables, Unmet, Waiting, noTok, decode, encode}
 use Rattle.policy.specs.Lookup.{numbers, places, usedNumbers, numberOf, serverOf, wanted}
 
@@ -71,10 +72,16 @@ module _ (L : Layout) where
     unfolding numberOf serverOf
     rowsOk = every unmetOk (t .unmet) && every waitingOk (t .waiting)
 
+    -- R-7: 'A method token of 128 or more .. in an image makes it unsound': of a provided service, and so of a grant, or of an unmet call
+    unfoldable pub methodsOk : Bool
+    methodsOk =
+        every (λ j. every (λ k. implies (t .provides j k) (validTok L (t .tok j k))) (places L)) (numbers L)
+        && every (λ u. validTok L (u .tok)) (t .unmet)
+
     unfoldable pub soundTables : Bool
-    unfolding aidsOk tokensOk blanksOk entriesOk bitsProvided needsCalled bitsGranted listsOk rowsOk
+    unfolding aidsOk tokensOk blanksOk entriesOk bitsProvided needsCalled bitsGranted listsOk rowsOk methodsOk
     soundTables =
-        (aidsOk && tokensOk) && (blanksOk && entriesOk) && (bitsProvided && needsCalled) && (bitsGranted && (listsOk && rowsOk))
+        (aidsOk && tokensOk) && (blanksOk && entriesOk) && (bitsProvided && needsCalled) && (bitsGranted && (listsOk && rowsOk)) && methodsOk
 
   -- 'the first three bytes are as above'; and no byte but those that the tables give: fill bytes, and list places past the count, are zero
   unfoldable pub sound : List ℕ → Bool

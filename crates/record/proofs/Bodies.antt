@@ -11,9 +11,9 @@ use lib.Seq.{drop-cons}
 use borrow.Author.Tests.{ltb-true, ltb-false}
 use Rattle.policy.specs.Contract.{Row}
 use Rattle.policy.specs.Layout.{Layout}
-use Rattle.policy.specs.Record.{Got, got, bad, Reader, andThen, tokens, aRow, whole, change, kinds, aLoad, aService}
+use Rattle.policy.specs.Record.{Got, got, bad, Reader, andThen, validRow, whole, change, kinds, aLoad, aService}
 use Rattle.policy.specs.Record.{Change, addCall, removeCall, addGrant, removeGrant, addNeed, removeNeed}
-use Rattle.record.specs.Meaning.{reader, listReader, Places, Served, RowStands, rowIn, AidFits, kindOf, KindFits, loadBy, loadOf, serviceBy, serviceOf, rowKind, Bodies}
+use Rattle.record.specs.Meaning.{Takes, reader, listReader, Places, Served, RowStands, rowIn, AidFits, kindOf, KindFits, loadBy, loadOf, serviceBy, serviceOf, rowKind, Bodies}
 use Rattle.record.specs.declared.Sort.{Sort}
 use Rattle.record.specs.declared.Sort.the-variants as sort
 use Rattle.record.specs.declared.Placed.{Placed}
@@ -26,8 +26,10 @@ use Rattle.record.specs.declared.Body.the-variants as body
 use Rattle.record.specs.declared.Aid.{Aid}
 use Rattle.record.specs.declared.Tokens.{Tokens}
 use Rattle.record.specs.declared.RowAt.{RowAt}
+use Rattle.record.specs.declared.Took.the-variants.{Bytes}
 use Rattle.record.specs.declared.Kind.{Kind}
 use Rattle.record.specs.declared.Kind.the-variants.{Load, Remove, AddService, RemoveService, AddCall, RemoveCall, AddGrant, RemoveGrant, AddNeed, RemoveNeed}
+use Rattle.record.proofs.Fronts.{took, valid-only}
 
 -- a list of a sort, at a position
 abbrev pub At : Layout → Sort → ℕ → List ℕ → ListAt → Type 0
@@ -125,18 +127,18 @@ module _ (L : Layout) where
     load-is p c g n hp hc hg hn = load-by (p .list) (c .list) (g .list) (n .list) hp hc hg hn
 
     -- a service and its callers
-    service-by : (t : Service) (l : Placed) {at₂ end : ℕ} → Served at s (record { service = t; next = at₂ }) → At L sort.Caller at₂ s (record { list = l; next = end })
+    service-by : (t : Service) (l : Placed) {at₂ end : ℕ} → Served L at s (record { service = t; next = at₂ }) → At L sort.Caller at₂ s (record { list = l; next = end })
         → Bodies L (aService L (drop at s)) s (serviceBy (length s) end t l)
     unfolding aService
     service-by service.Malformed l ht hl = body-bad (rw (← (ht .same)))
     service-by (service.Found t) placed.Malformed ht hl = body-bad (rw (← (ht .same), ← (hl .same)))
     service-by (service.Found t) (placed.Found l) {end = end} ht hl = ends end s (AddService t l) (hl .fits) (rw (← (ht .same), ← (hl .same))) (ltb end (length s)) refl
 
-    pub service-is : (t : TokensAt) (l : ListAt) → Served at s t → At L sort.Caller (t .next) s l → Bodies L (aService L (drop at s)) s (serviceOf (length s) t l)
+    pub service-is : (t : TokensAt) (l : ListAt) → Served L at s t → At L sort.Caller (t .next) s l → Bodies L (aService L (drop at s)) s (serviceOf (length s) t l)
     service-is t l ht hl = service-by (t .service) (l .list) ht hl
 
     -- a service alone
-    module _ {t : TokensAt} (h : Served at s t) where
+    module _ {t : TokensAt} (h : Served L at s t) where
       pub alone-bad : t .service ≡ service.Malformed → Bodies L (change L 4 (drop at s)) s body.Malformed
       unfolding change
       alone-bad e = body-bad (rw (← (h .same), e))
@@ -153,7 +155,7 @@ module _ (L : Layout) where
         alone-good m = body-whole s (RemoveService x) tt alone-got m
 
   -- one row
-  change-row : (k : ℕ) (t : List ℕ) → 5 ≤ k → k ≤ 10 → change L k t ≡ andThen (aRow t) (λ r u. got (rowChange k r) u)
+  change-row : (k : ℕ) (t : List ℕ) → 5 ≤ k → k ≤ 10 → change L k t ≡ andThen (validRow L t) (λ r u. got (rowChange k r) u)
   unfolding change rowChange
   change-row zero t l h = absurd (omega arith)
   change-row (suc zero) t l h = absurd (omega arith)
@@ -169,12 +171,12 @@ module _ (L : Layout) where
   change-row (suc (suc (suc (suc (suc (suc (suc (suc (suc (suc (suc k))))))))))) t l h = absurd (omega arith)
 
   module _ (s : List ℕ) (k at : ℕ) (l : 5 ≤ k) (h : k ≤ 10) where
-    pub row-bad : aRow (drop at s) ≡ bad → Bodies L (change L k (drop at s)) s body.Malformed
+    pub row-bad : validRow L (drop at s) ≡ bad → Bodies L (change L k (drop at s)) s body.Malformed
     row-bad e = body-bad (rw (change-row k (drop at s) l h, e))
 
-    module _ {x : RowAt} (w : RowStands at s x) where
+    module _ {n : ℕ} (t : Takes (validRow L) (drop at s) (Bytes n)) {x : RowAt} (w : RowStands at s x) where
       row-got : change L k (drop at s) ≡ got (rowChange k (rowIn s (x .other) (x .tokens))) (drop (x .next) s)
-      row-got = rw (change-row k (drop at s) l h, w .same)
+      row-got = rw (change-row k (drop at s) l h, took t .1 ∙ sym (valid-only L sort.Row _ _ _ (took t .1)), w .same)
 
       pub row-left : x .next < length s → Bodies L (change L k (drop at s)) s body.Malformed
       row-left m = body-left s row-got m

@@ -7,22 +7,55 @@ use mathlib.Core.Option.{none, some}
 use native.Mathlib.Omega.{arith}
 use native.Mathlib.Nat.{zero-add}
 use native.Mathlib.Numerals.{add-one, sub-one}
-use lib.Dec.{leb}
+use lib.Dec.{leb, ltb}
 use lib.ListN.{length, take, drop, getD, length-drop}
 use lib.Seq.{drop-drop, take-all, length-take-le}
-use borrow.Author.Tests.{le-leb, lt-leb, leb-true}
-use Rattle.policy.specs.Contract.{Tok, Row}
-use Rattle.policy.specs.Record.{Got, got, bad, Reader, andThen, given, done, byte, bytes, number, aid, tokens, aRow, many, counted}
+use borrow.Author.Tests.{le-leb, lt-leb, leb-true, lt-ltb}
+use Rattle.policy.specs.Contract.{Tok}
+use Rattle.policy.specs.Layout.{Layout}
+use Rattle.policy.specs.Record.{Got, got, bad, Reader, andThen, _>>=_, given, done, byte, bytes, number, aid, tokens, rowOf, validTok, validTokens, validRow, many, counted}
 use Rattle.geometry.specs.declared.Card.{Card}
 use Rattle.geometry.specs.declared.Card.the-variants.{Small}
 use Rattle.geometry.specs.Geometry.{layoutOf}
-use Rattle.record.specs.Meaning.{tokAt, after, valueOf, Takes, widthOf, Counts, Lists}
+use Rattle.record.specs.Meaning.{tokAt, after, valueOf, Takes, TokensTaken, reader, validReader, widthOf, Counts, Lists}
 use Rattle.record.specs.declared.Sort.{Sort}
 use Rattle.record.specs.declared.Sort.the-variants as sort
 use Rattle.record.specs.declared.Took.{Took}
 use Rattle.record.specs.declared.Took.the-variants.{Bytes, Malformed}
 use Rattle.record.specs.declared.Count.the-variants as count
 use Rattle.record.specs.declared.Listed.the-variants as listed
+
+-- v reads only what p reads: where v reads something, p reads the same of the same bytes
+abbrev pub ReadsOnly : {A : Type 0} → Reader A → Reader A → Type 0
+ReadsOnly {A} v p = (s : List ℕ) (a : A) (u : List ℕ) → v s ≡ got a u → p s ≡ got a u
+
+-- so does a reader under a test on its value
+given-only : {A : Type 0} (ok : A → Bool) (p : Reader A) → ReadsOnly (p >>= λ x. given (ok x) (done x)) p
+given-only {A} ok p s a u e = go (p s) e
+  where
+    by-test : (x : A) (t : List ℕ) (b : Bool) → given b (done x) t ≡ got a u → got x t ≡ got a u
+    by-test x t true q = q
+    by-test x t false q = absurd (let z : _≡_ {A = ℕ} 0 1 = cc in omega arith)
+
+    go : (g : Got A) → andThen g (λ x. given (ok x) (done x)) ≡ got a u → g ≡ got a u
+    go (got x t) q = by-test x t (ok x) q
+    go bad q = q
+
+-- one reader after another, a row, and many of them
+then-only : {A B : Type 0} {v p : Reader A} {f g : A → Reader B} → ReadsOnly v p → ((a : A) → ReadsOnly (f a) (g a)) → ReadsOnly (v >>= f) (p >>= g)
+then-only {A} {v = v} {p} {f} {g} h k s b u e = go (v s) refl e
+  where
+    go : (x : Got A) → v s ≡ x → andThen x f ≡ got b u → andThen (p s) g ≡ got b u
+    go (got a t) q j = rw (h s a t q) (k a t b u j)
+    go bad q j = absurd (let z : _≡_ {A = ℕ} 0 1 = cc in omega arith)
+
+row-only : {v p : Reader Tok} → ReadsOnly v p → ReadsOnly (rowOf v) (rowOf p)
+unfolding rowOf
+row-only {v} {p} h = then-only {v = aid} (λ s a u e. e) (λ a. then-only {v = v} {f = λ k. done (record { aid = a; tok = k })} h (λ k s r u e. e))
+
+many-only : {A : Type 0} {v p : Reader A} → ReadsOnly v p → (n : ℕ) → ReadsOnly (many v n) (many p n)
+many-only h zero = λ s l u e. e
+many-only h (suc n) = then-only h (λ a. then-only (many-only h n) (λ l s k u e. e))
 
 -- what is read, under a test that must hold
 abbrev test : {A : Type 0} → Bool → Got A → Got A
@@ -33,9 +66,12 @@ test false g = bad
 pub rest : (a : ℕ) (s : List ℕ) → take (length s - a) (drop a s) ≡ drop a s
 rest a s = take-all (length s - a) (drop a s) (omega (arith, length-drop a s))
 
+given-test : {A : Type 0} (x : Bool) (p : Reader A) (t : List ℕ) → given x p t ≡ test x (p t)
+given-test true p t = refl
+given-test false p t = refl
+
 given-both : {A : Type 0} (x y : Bool) (a : A) (t : List ℕ) → given (x && y) (done a) t ≡ test x (test y (got a t))
-given-both true true a t = refl
-given-both true false a t = refl
+given-both true y a t = given-test y (done a) t
 given-both false y a t = refl
 
 aid-form : (s : List ℕ) → aid s
@@ -111,7 +147,7 @@ took-bad {p = p} {s} h = after-none (p s) (h .same)
 pub took : {A : Type 0} {p : Reader A} {s : List ℕ} {n : ℕ} → Takes p s (Bytes n) → (a : A) × (p s ≡ got a (drop n s))
 took {p = p} {s} {n} h = after-some (p s) (drop n s) (h .same)
 
-pub tokens-form : (s : List ℕ) → tokens s ≡ test (leb 2 (length s)) (got (tokAt s 0) (drop 2 s))
+tokens-form : (s : List ℕ) → tokens s ≡ test (leb 2 (length s)) (got (tokAt s 0) (drop 2 s))
 unfolding tokens byte
 tokens-form [] = refl
 tokens-form (i ∷ []) = refl
@@ -124,32 +160,65 @@ pub record TokensFront (s : List ℕ) : Type 0 where
 pub tokens-good : (s : List ℕ) → TokensFront s → tokens s ≡ got (tokAt s 0) (drop 2 s)
 tokens-good s h = simp (tokens-form, le-leb _ _ (h .long))
 
-pub tokens-bad : (s : List ℕ) → (TokensFront s → ⊥) → tokens s ≡ bad
-tokens-bad s not = tokens-form s ∙ leb-bad 2 (length s) _ (λ a. absurd (not (omega arith)))
-
 pub tokens-fit : (s : List ℕ) {v : Tok} {t : List ℕ} → tokens s ≡ got v t → TokensFront s
 tokens-fit s e = let h1 = leb-got 2 (length s) _ (sym (tokens-form s) ∙ e) in omega arith
 
-pub tokens-two : {s : List ℕ} {n : ℕ} → Takes tokens s (Bytes n) → (n ≡ 2) × TokensFront s
-tokens-two {s} {n} h =
-    let f : TokensFront s = tokens-fit s (took h .1) in
-    let e : got (took h .0) (drop n s) ≡ got (tokAt s 0) (drop 2 s) = sym (took h .1) ∙ tokens-good s f in
-    let d : drop n s ≡ drop 2 s = cc in
-    (omega (arith, h .fits, simp length-drop at (ap length d)), f)
+module _ (L : Layout) where
+  -- where tokens of the card stand at the front of s
+  pub record ValidFront (s : List ℕ) : Type 0 where
+    pub long : 2 ≤ length s
+    pub in-range : getD s 1 0 < L .methods
 
-pub row-none : {s : List ℕ} → Takes aid s Malformed → Takes aRow s Malformed
-unfolding aRow
-row-none h = takes-bad aRow (rw (took-bad h))
+  valid-form : (s : List ℕ) → validTokens L s ≡ test (leb 2 (length s)) (test (ltb (getD s 1 0) (L .methods)) (got (tokAt s 0) (drop 2 s)))
+  unfolding validTokens
+  valid-form s = rw (tokens-form s) (go (leb 2 (length s)))
+    where
+      go : (x : Bool) → andThen (test x (got (tokAt s 0) (drop 2 s))) (λ k. given (validTok L k) (done k)) ≡ test x (test (validTok L (tokAt s 0)) (got (tokAt s 0) (drop 2 s)))
+      go true = given-test (validTok L (tokAt s 0)) (done (tokAt s 0)) (drop 2 s)
+      go false = refl
 
-pub row-short : {s : List ℕ} {n : ℕ} → Takes aid s (Bytes n) → Takes tokens (drop n s) Malformed → Takes aRow s Malformed
-unfolding aRow
-row-short h k = takes-bad aRow (rw (took h .1, took-bad k))
+  pub valid-good : (s : List ℕ) → ValidFront s → validTokens L s ≡ got (tokAt s 0) (drop 2 s)
+  valid-good s h = simp (valid-form, le-leb _ _ (h .long), lt-ltb _ _ (h .in-range))
 
-pub row-good : {s : List ℕ} {n m : ℕ} → Takes aid s (Bytes n) → Takes tokens (drop n s) (Bytes m) → Takes aRow s (Bytes (n + m))
-unfolding aRow
-row-good {s} {n} {m} h k =
-    takes aRow {a = record { aid = took h .0; tok = took k .0 }} (omega (arith, h .fits, k .fits, length-drop n s))
-    (rw (took h .1, took k .1, drop-drop m n s))
+  valid-bad : (s : List ℕ) → (ValidFront s → ⊥) → validTokens L s ≡ bad
+  valid-bad s not = valid-form s ∙ leb-bad 2 (length s) _ (λ a. leb-bad (suc (getD s 1 0)) (L .methods) _ (λ b. absurd (not (record { long = a; in-range = b }))))
+
+  valid-fit : (s : List ℕ) {v : Tok} {t : List ℕ} → validTokens L s ≡ got v t → ValidFront s
+  valid-fit s e =
+      let h1 = leb-got 2 (length s) _ (sym (valid-form s) ∙ e) in
+      let h2 = leb-got (suc (getD s 1 0)) (L .methods) _ (h1 .1) in
+      record { long = h1 .0; in-range = h2 .0 }
+
+  -- what the code took, by the same tests
+  pub tokens-none : {s : List ℕ} → (ValidFront s → ⊥) → TokensTaken L s Malformed
+  tokens-none {s} not = record { takes = takes-bad (validTokens L) (valid-bad s not); in-range = tt }
+
+  pub tokens-two : {s : List ℕ} → ValidFront s → TokensTaken L s (Bytes 2)
+  tokens-two {s} f = record { takes = takes (validTokens L) (f .long) (valid-good s f); in-range = f .in-range }
+
+  pub took-tokens : {s : List ℕ} {n : ℕ} → Takes (validTokens L) s (Bytes n) → ValidFront s
+  took-tokens {s} h = valid-fit s (took h .1)
+
+  pub row-none : {s : List ℕ} → Takes aid s Malformed → Takes (validRow L) s Malformed
+  unfolding rowOf
+  row-none h = takes-bad (validRow L) (rw (took-bad h))
+
+  pub row-short : {s : List ℕ} {n : ℕ} → Takes aid s (Bytes n) → Takes (validTokens L) (drop n s) Malformed → Takes (validRow L) s Malformed
+  unfolding rowOf
+  row-short h k = takes-bad (validRow L) (rw (took h .1, took-bad k))
+
+  pub row-good : {s : List ℕ} {n m : ℕ} → Takes aid s (Bytes n) → Takes (validTokens L) (drop n s) (Bytes m) → Takes (validRow L) s (Bytes (n + m))
+  unfolding rowOf
+  row-good {s} {n} {m} h k =
+      takes (validRow L) {a = record { aid = took h .0; tok = took k .0 }} (omega (arith, h .fits, k .fits, length-drop n s))
+      (rw (took h .1, took k .1, drop-drop m n s))
+
+  -- what a card's reader reads is what it stands for
+  pub valid-only : (k : Sort) → ReadsOnly (validReader L k) (reader k)
+  unfolding rowOf validTokens
+  valid-only sort.Service = given-only (validTok L) tokens
+  valid-only sort.Caller = λ s a u e. e
+  valid-only sort.Row = row-only (given-only (validTok L) tokens)
 
 -- what an AID's reader took is the length byte and the AID
 pub aid-value : {s : List ℕ} {n : ℕ} → Takes aid s (Bytes n) → (6 ≤ n) × (n ≤ 17) × (aid s ≡ got (take (n - 1) (drop 1 s)) (drop n s))
@@ -219,34 +288,31 @@ unfolding number byte
 count-one [] h = absurd (omega arith)
 count-one (b ∷ s) h = record { fits = omega arith; same = rw (zero-add b) }
 
--- a count, and as many things
-module _ {A : Type 0} (p : Reader A) (w most : ℕ) where
-  lists-bad : {s : List ℕ} → counted w most p s ≡ bad → Lists p (counted w most p) s listed.Malformed
+-- a count, and as many things: v reads them, and p says what they are
+module _ {A : Type 0} (v p : Reader A) (w most : ℕ) where
+  lists-bad : {s : List ℕ} → counted w most v s ≡ bad → Lists p (counted w most v) s listed.Malformed
   lists-bad e = record { fits = tt; same = sym e }
 
-  pub list-none : {s : List ℕ} → Counts w s count.Malformed → Lists p (counted w most p) s listed.Malformed
+  pub list-none : {s : List ℕ} → Counts w s count.Malformed → Lists p (counted w most v) s listed.Malformed
   unfolding counted
   list-none h = lists-bad (rw (← (h .same)))
 
   module _ {s : List ℕ} {n k : ℕ} (h : Counts w s (count.Found n k)) where
-    counted-some : counted w most p s ≡ test (leb n most) (many p n (drop k s))
+    counted-some : counted w most v s ≡ test (leb n most) (many v n (drop k s))
     unfolding counted
-    counted-some = rw (← (h .same)) (go (leb n most))
-      where
-        go : (b : Bool) → given b (many p n) (drop k s) ≡ test b (many p n (drop k s))
-        go true = refl
-        go false = refl
+    counted-some = rw (← (h .same)) (given-test (leb n most) (many v n) (drop k s))
 
-    pub list-over : most < n → Lists p (counted w most p) s listed.Malformed
+    pub list-over : most < n → Lists p (counted w most v) s listed.Malformed
     list-over l = lists-bad (counted-some ∙ simp (lt-leb n most l))
 
-    pub list-bad : Takes (many p n) (drop k s) Malformed → Lists p (counted w most p) s listed.Malformed
+    pub list-bad : Takes (many v n) (drop k s) Malformed → Lists p (counted w most v) s listed.Malformed
     list-bad t = lists-bad (counted-some ∙ leb-bad n most _ (λ l. took-bad t))
 
-    pub list-good : {m : ℕ} → n ≤ most → Takes (many p n) (drop k s) (Bytes m) → Lists p (counted w most p) s (listed.Found k n (k + m))
-    list-good {m} l t =
+    pub list-good : {m : ℕ} → ReadsOnly v p → n ≤ most → Takes (many v n) (drop k s) (Bytes m) → Lists p (counted w most v) s (listed.Found k n (k + m))
+    list-good {m} only l t =
         let e = took t .1 in
+        let f : many p n (drop k s) ≡ got (took t .0) (drop m (drop k s)) = many-only only n _ _ _ e in
         record {
-          fits = (omega arith, omega (arith, t .fits, h .fits, length-drop k s), rw e tt);
-          same = sym (counted-some ∙ simp (le-leb n most l) (e ∙ ap (λ (g : Got (List A)). got (valueOf [] g) (drop m (drop k s))) (sym e) ∙ rw (drop-drop m k s)));
+          fits = (omega arith, omega (arith, t .fits, h .fits, length-drop k s), rw f tt);
+          same = sym (counted-some ∙ simp (le-leb n most l) (e ∙ ap (λ (g : Got (List A)). got (valueOf [] g) (drop m (drop k s))) (sym f) ∙ rw (drop-drop m k s)));
         }

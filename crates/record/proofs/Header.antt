@@ -5,15 +5,15 @@ use mathlib.Core.Bool.{_&&_}
 use mathlib.Core.List.{List, [], _∷_}
 use mathlib.Core.Option.{none, some}
 use native.Mathlib.Omega.{arith}
-use lib.Dec.{T, eqb}
+use lib.Dec.{eqb}
 use lib.ListN.{length, take, drop, getD, length-drop}
 use lib.Seq.{drop-drop}
 use borrow.Author.Tests.{ne-eqb, eq-eqb}
 use Rattle.policy.specs.Layout.{Layout}
-use Rattle.policy.specs.Contract.{Aid, validAid}
+use Rattle.policy.specs.Contract.{Aid}
 use Rattle.policy.specs.Record.{Got, got, bad, andThen, given, Change, Request, byte, number, aid, change, fields, whole, parse, firstAid}
-use Rattle.policy.proofs.Formed.{Valid}
-use Rattle.policy.proofs.ParseFacts.{parse-valid}
+use Rattle.policy.specs.Records.{ValidAid, WithinChange}
+use Rattle.policy.proofs.ParseFacts.{parsed-within}
 use Rattle.record.specs.Meaning.{Takes, aidIn, kindOf, Bodies, recordOf, RecordFits, Parses}
 use Rattle.record.specs.declared.Took.the-variants.{Bytes, Malformed}
 use Rattle.record.specs.declared.Body.the-variants as body
@@ -119,6 +119,6 @@ module _ {L : Layout} {s : List ℕ} {r : Read} (h : Parses L s r) where
   unfolding firstAid
   first-some e = rw (parsed-some e)
 
-  -- what was read is valid: 'AIDs of 5 to 16 bytes'
-  pub parsed-valid : {x : Record} → r ≡ read.Whole x → T (validAid (aidIn s (x .aid))) × Valid L (kindOf s (x .kind))
-  parsed-valid {x} e = parse-valid L s (recordOf s x) (parsed-some e)
+  -- what was read is within the limits: 'AIDs of 5 to 16 bytes', 'Method tokens stop at 127'
+  pub parsed-valid : {x : Record} → r ≡ read.Whole x → ValidAid (aidIn s (x .aid)) × WithinChange L (kindOf s (x .kind))
+  parsed-valid {x} e = parsed-within L s (recordOf s x) (parsed-some e)

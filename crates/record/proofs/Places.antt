@@ -1,6 +1,6 @@
 -- What stands at a position of a record: lists, tokens, AIDs, rows. Assumes nothing.
 use Prim.Native.Nat.{ℕ, _+_, _-_, _≤_}
-use mathlib.Core.Path.{_≡_, refl, sym, _∙_}
+use mathlib.Core.Path.{_≡_, refl, ap, sym, _∙_}
 use mathlib.Core.List.{List}
 use native.Mathlib.Omega.{arith}
 use native.Mathlib.Nat.{add-zero}
@@ -8,8 +8,9 @@ use lib.ListN.{length, take, drop, getD, length-drop}
 use lib.Dec.{T}
 use lib.Seq.{drop-drop, getD-drop, length-take-le}
 use borrow.Author.Tests.{le-leb}
-use Rattle.policy.specs.Contract.{validAid}
-use Rattle.policy.specs.Record.{Got, got, bad, Reader, andThen, aid, tokens, aRow}
+use Rattle.policy.specs.Contract.{Tok, validAid}
+use Rattle.policy.specs.Layout.{Layout}
+use Rattle.policy.specs.Record.{Got, got, bad, Reader, andThen, aid, tokens, rowOf, aRow, validTokens}
 use Rattle.record.specs.Meaning.{Good, Takes, Lists, Places, Served, AidFits, aidIn, tokOf, tokAt}
 use Rattle.record.specs.declared.Took.the-variants.{Bytes, Malformed}
 use Rattle.record.specs.declared.Listed.{Listed}
@@ -18,7 +19,7 @@ use Rattle.record.specs.declared.Placed.the-variants as placed
 use Rattle.record.specs.declared.Service.the-variants as service
 use Rattle.record.specs.declared.Tokens.{Tokens}
 use Rattle.record.specs.declared.Aid.{Aid}
-use Rattle.record.proofs.Fronts.{rest, AidFront, aid-fits, aid-good, TokensFront, tokens-good, tokens-fit, tokens-two, took-bad}
+use Rattle.record.proofs.Fronts.{rest, AidFront, aid-fits, aid-good, TokensFront, tokens-good, tokens-fit, ValidFront, valid-good, took-tokens, took-bad}
 
 -- a list that list_end found in the part from at on
 module _ {A : Type 0} (p : Reader A) (q : Reader (List A)) (s : List ℕ) (at : ℕ) where
@@ -40,22 +41,29 @@ module _ {A : Type 0} (p : Reader A) (q : Reader (List A)) (s : List ℕ) (at : 
       }
 
 -- the tokens at a position
+front-here : (at : ℕ) (s : List ℕ) → got (tokAt (drop at s) 0) (drop 2 (drop at s)) ≡ got (tokAt s at) (drop (at + 2) s)
+front-here at s = rw (getD-drop at s 0 0, getD-drop at s 1 0, drop-drop 2 at s, add-zero at)
+
 pub tokens-here : (at : ℕ) (s : List ℕ) → TokensFront (drop at s)
     → tokens (drop at s) ≡ got (tokAt s at) (drop (at + 2) s)
-tokens-here at s h =
-    tokens-good (drop at s) h
-    ∙ rw (getD-drop at s 0 0, getD-drop at s 1 0, drop-drop 2 at s, add-zero at)
+tokens-here at s h = tokens-good (drop at s) h ∙ front-here at s
 
-pub served-bad : {at : ℕ} {s : List ℕ} → at ≤ length s → Takes tokens (drop at s) Malformed → Served at s (record { service = service.Malformed; next = at })
-served-bad l h = record { inside = l; same = sym (took-bad h) }
+module _ (L : Layout) where
+  pub served-bad : {at : ℕ} {s : List ℕ} → at ≤ length s → Takes (validTokens L) (drop at s) Malformed → Served L at s (record { service = service.Malformed; next = at })
+  served-bad l h = record { inside = l; same = sym (took-bad h); in-range = tt }
 
-pub served-two : (at : ℕ) (s : List ℕ) {n : ℕ} → at ≤ length s → Takes tokens (drop at s) (Bytes n) → at + 2 ≤ length s
-served-two at s l h = omega (arith, tokens-two h .1 .long, length-drop at s)
+  pub served-two : (at : ℕ) (s : List ℕ) {n : ℕ} → at ≤ length s → Takes (validTokens L) (drop at s) (Bytes n) → at + 2 ≤ length s
+  served-two at s l h = omega (arith, took-tokens L h .long, length-drop at s)
 
-pub served-good : {at n : ℕ} {s : List ℕ} {x : Tokens} → at ≤ length s → Takes tokens (drop at s) (Bytes n)
-    → tokOf x ≡ tokAt s at → Served at s (record { service = service.Found x; next = at + 2 })
-served-good {at} {s = s} l h e =
-    record { inside = served-two at s l h; same = rw (← e) at (sym (tokens-here at s (tokens-two h .1))) }
+  pub served-good : {at n : ℕ} {s : List ℕ} {x : Tokens} → at ≤ length s → Takes (validTokens L) (drop at s) (Bytes n)
+      → tokOf x ≡ tokAt s at → Served L at s (record { service = service.Found x; next = at + 2 })
+  served-good {at} {s = s} {x} l h e =
+      let f : ValidFront L (drop at s) = took-tokens L h in
+      record {
+        inside = served-two at s l h;
+        same = rw (← e) at (sym (valid-good L (drop at s) f ∙ front-here at s));
+        in-range = rw (ap (λ (k : Tok). k .mth) e, ← (getD-drop at s 1 0)) (f .in-range);
+      }
 
 -- a row that stands at the front of t
 pub record RowFits (t : List ℕ) : Type 0 where
@@ -66,7 +74,7 @@ pub row-form : (t : List ℕ) → RowFits t
     → aRow t
     ≡ got (record { aid = take (getD t 0 0) (drop 1 t); tok = tokAt t (getD t 0 0 + 1) })
     (drop (getD t 0 0 + 1 + 2) t)
-unfolding aRow
+unfolding rowOf
 row-form t h =
     let b : ℕ = getD t 0 0 in
     rw (aid-good t (h .front), tokens-good (drop (b + 1) t) (h .back), getD-drop (b + 1) t 0 0, getD-drop (b + 1) t 1 0, drop-drop 2 (b + 1) t, add-zero (b + 1))
@@ -81,7 +89,7 @@ good-first (got a u) f h = (a, u, refl)
 good-first bad f h = absurd h
 
 pub row-fits : (t : List ℕ) → Good (aRow t) → RowFits t
-unfolding aRow
+unfolding rowOf
 row-fits t h =
     let f : AidFront t = aid-fits t (good-first (aid t) _ h .2) in
     record { front = f; back = tokens-fit _ (good-first (tokens (drop (getD t 0 0 + 1) t)) _ (rw (aid-good t f) at h) .2) }

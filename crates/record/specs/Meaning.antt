@@ -1,5 +1,5 @@
 -- What the positions in the code's answers stand for.
-use Prim.Native.Nat.{ℕ, _+_, _≤_}
+use Prim.Native.Nat.{ℕ, _+_, _≤_, _<_}
 use mathlib.Core.Path.{_≡_}
 use mathlib.Core.Bool.{cond}
 use mathlib.Core.List.{List, [], _∷_}
@@ -8,7 +8,7 @@ use lib.Dec.{eqb, ltb}
 use lib.ListN.{length, take, drop, getD}
 use Rattle.policy.specs.Contract.{Aid as Bytes, Tok, Row}
 use Rattle.policy.specs.Layout.{Layout}
-use Rattle.policy.specs.Record.{Got, got, bad, Reader, number, aid, tokens, aRow, many, counted, whole, parse}
+use Rattle.policy.specs.Record.{Got, got, bad, Reader, number, aid, tokens, aRow, validTokens, validRow, many, counted, whole, parse}
 use Rattle.policy.specs.Record.{Change, load, remove, addService, removeService, addCall, removeCall, addGrant, removeGrant, addNeed, removeNeed, Request}
 use Rattle.record.specs.declared.Took.{Took}
 use Rattle.record.specs.declared.Took.the-variants as took
@@ -73,7 +73,18 @@ pub record Takes {A : Type 0} (p : Reader A) (s : List ℕ) (r : Took) : Type 0 
   pub fits : TookFits s r
   pub same : leftOf s r ≡ after (p s)
 
--- ---- lists: what each sort holds, its reader, the bytes of its count, and the most things of it
+module _ (L : Layout) where
+  -- the method byte of the tokens taken is below the card's limit
+  abbrev pub TookInRange : List ℕ → Took → Type 0
+  TookInRange s (took.Bytes n) = getD s 1 0 < L .methods
+  TookInRange s took.Malformed = Unit {0}
+
+  -- R-7: r takes the tokens at the front of s, and 'the token reading promises that range'
+  pub record TokensTaken (s : List ℕ) (r : Took) : Type 0 where
+    pub takes : Takes (validTokens L) s r
+    pub in-range : TookInRange s r
+
+-- ---- lists: what each sort holds, what its things read as, their reader on a card, the bytes of its count, and the most things of it
 abbrev pub Item : Sort → Type 0
 Item sort.Service = Tok
 Item sort.Caller = Bytes
@@ -85,6 +96,12 @@ reader sort.Caller = aid
 reader sort.Row = aRow
 
 module _ (L : Layout) where
+  -- R-7: 'A method token of 128 or more in a record is now a wrong record'
+  abbrev pub validReader : (k : Sort) → Reader (Item k)
+  validReader sort.Service = validTokens L
+  validReader sort.Caller = aid
+  validReader sort.Row = validRow L
+
   abbrev pub widthOf : Sort → ℕ
   widthOf sort.Service = 1
   widthOf sort.Caller = 1
@@ -96,7 +113,7 @@ module _ (L : Layout) where
   mostOf sort.Row = L .mostRows
 
   abbrev pub listReader : (k : Sort) → Reader (List (Item k))
-  listReader k = counted (widthOf k) (mostOf k) (reader k)
+  listReader k = counted (widthOf k) (mostOf k) (validReader k)
 
 abbrev pub countOf : List ℕ → Count → Got ℕ
 countOf s (count.Found n size) = got n (drop size s)
@@ -195,10 +212,17 @@ abbrev pub servedOf : List ℕ → ℕ → Service → Got Tok
 servedOf s n (service.Found t) = got (tokOf t) (drop n s)
 servedOf s n service.Malformed = bad
 
--- r is the tokens at a position, and the position after them
-pub record Served (at : ℕ) (s : List ℕ) (r : TokensAt) : Type 0 where
-  pub inside : r .next ≤ length s
-  pub same : servedOf s (r .next) (r .service) ≡ tokens (drop at s)
+module _ (L : Layout) where
+  -- the method token found is below the card's limit
+  abbrev pub ServedInRange : Service → Type 0
+  ServedInRange (service.Found t) = t .method < L .methods
+  ServedInRange service.Malformed = Unit {0}
+
+  -- R-7: r is the tokens at a position, and the position after them, and 'the token reading promises that range'
+  pub record Served (at : ℕ) (s : List ℕ) (r : TokensAt) : Type 0 where
+    pub inside : r .next ≤ length s
+    pub same : servedOf s (r .next) (r .service) ≡ validTokens L (drop at s)
+    pub in-range : ServedInRange (r .service)
 
 -- r is the row at a position
 pub record RowStands (at : ℕ) (s : List ℕ) (r : RowAt) : Type 0 where

@@ -2,9 +2,9 @@
 ghost use mathlib.Core.Path.{_≡_};
 ghost use Prim.Native.Nat.{_+_, _-_, _≤_, _<_};
 ghost use lib.ListN.{length, drop};
-ghost use Rattle.policy.specs.Record.{aid, tokens, aRow, many, change, firstAid};
+ghost use Rattle.policy.specs.Record.{aid, aRow, validRow, many, change, firstAid};
 ghost use Rattle.geometry.specs.Geometry.{layoutOf};
-ghost use Rattle.record.specs.Meaning.{AidFits, aidIn, Takes, reader, widthOf, mostOf, listReader, Counts, Lists, Places, Served, Good, RowStands, tokOf, tokAt, Bodies, loadOf, serviceOf, rowKind, Parses};
+ghost use Rattle.record.specs.Meaning.{AidFits, aidIn, Takes, TokensTaken, reader, validReader, widthOf, mostOf, listReader, Counts, Lists, Places, Served, Good, RowStands, tokOf, tokAt, Bodies, loadOf, serviceOf, rowKind, Parses};
 use geometry::Card;
 
 pub mod proper;
@@ -108,13 +108,13 @@ pub struct ListAt {
     pub next: usize,
 }
 
-// The tokens of a service, or that bytes are missing.
+// The tokens of a service, or that they are malformed.
 pub enum Service {
     Found(Tokens),
     Malformed,
 }
 
-// The tokens at a position, and the position after them; where bytes are missing, a reader stays where it is.
+// The tokens at a position, and the position after them; where they are malformed, a reader stays where it is.
 pub struct TokensAt {
     pub service: Service,
     pub next: usize,
@@ -147,47 +147,50 @@ fn aid_end(part: &[u8]) -> Took
     Took::Bytes(n + 1)
 }
 
-// Two token bytes.
-fn tokens_end(part: &[u8]) -> Took
-    ensures { λ r. ⌜ Takes tokens (now (part .entry)) r ⌝ }
+// Two token bytes, the method token below the card's limit.
+fn tokens_end(part: &[u8], c: Card) -> Took
+    ensures { λ r. ⌜ TokensTaken (layoutOf c) (now (part .entry)) r ⌝ }
 {
     if part.len() < 2 {
+        return Took::Malformed;
+    }
+    if geometry::methods(c) <= part[1] {
         return Took::Malformed;
     }
     Took::Bytes(2)
 }
 
 // A row: an AID and two token bytes.
-fn row_end(part: &[u8]) -> Took
-    ensures { λ r. ⌜ Takes aRow (now (part .entry)) r ⌝ }
+fn row_end(part: &[u8], c: Card) -> Took
+    ensures { λ r. ⌜ Takes (validRow (layoutOf c)) (now (part .entry)) r ⌝ }
 {
     let Took::Bytes(n) = aid_end(part) else {
         return Took::Malformed;
     };
-    let Took::Bytes(m) = tokens_end(&part[n..]) else {
+    let Took::Bytes(m) = tokens_end(&part[n..], c) else {
         return Took::Malformed;
     };
     Took::Bytes(n + m)
 }
 
-fn item_end(part: &[u8], sort: Sort) -> Took
-    ensures { λ r. ⌜ Takes (reader sort) (now (part .entry)) r ⌝ }
+fn item_end(part: &[u8], c: Card, sort: Sort) -> Took
+    ensures { λ r. ⌜ Takes (validReader (layoutOf c) sort) (now (part .entry)) r ⌝ }
 {
     match sort {
-        Sort::Service => tokens_end(part),
+        Sort::Service => tokens_end(part, c),
         Sort::Caller => aid_end(part),
-        Sort::Row => row_end(part),
+        Sort::Row => row_end(part, c),
     }
 }
 
 // So many things of a sort, one after another.
-fn items_end(part: &[u8], sort: Sort, count: usize) -> Took
-    ensures { λ r. ⌜ Takes (many (reader sort) count) (now (part .entry)) r ⌝ }
+fn items_end(part: &[u8], c: Card, sort: Sort, count: usize) -> Took
+    ensures { λ r. ⌜ Takes (many (validReader (layoutOf c) sort) count) (now (part .entry)) r ⌝ }
 {
     let mut at: usize = 0;
     let mut left = count;
     while 0 < left {
-        match item_end(&part[at..], sort) {
+        match item_end(&part[at..], c, sort) {
             Took::Malformed => {
                 return Took::Malformed;
             }
@@ -236,7 +239,7 @@ fn list_end(part: &[u8], c: Card, sort: Sort) -> Listed
     if most(c, sort) < count {
         return Listed::Malformed;
     }
-    let Took::Bytes(n) = items_end(&part[start..], sort, count) else {
+    let Took::Bytes(n) = items_end(&part[start..], c, sort, count) else {
         return Listed::Malformed;
     };
     let size = start + n;
@@ -272,11 +275,11 @@ fn tokens_at(rec: &[u8], at: usize) -> Tokens
 }
 
 // The tokens at a position of the record, or that none stand there.
-fn read_tokens(rec: &[u8], at: usize) -> TokensAt
+fn read_tokens(rec: &[u8], at: usize, c: Card) -> TokensAt
     requires { ⌜ at ≤ length (now rec) ⌝ }
-    ensures { λ r. ⌜ Served at (now (rec .entry)) r ⌝ }
+    ensures { λ r. ⌜ Served (layoutOf c) at (now (rec .entry)) r ⌝ }
 {
-    let Took::Bytes(_) = tokens_end(&rec[at..]) else {
+    let Took::Bytes(_) = tokens_end(&rec[at..], c) else {
         return TokensAt {
             service: Service::Malformed,
             next: at,
@@ -341,7 +344,7 @@ fn read_remove_service(rec: &[u8], at: usize, c: Card) -> Body
     requires { ⌜ at ≤ length (now rec) ⌝ }
     ensures { λ r. ⌜ Bodies (layoutOf c) (change (layoutOf c) 4 (drop at (now (rec .entry)))) (now (rec .entry)) r ⌝ }
 {
-    let t = read_tokens(rec, at);
+    let t = read_tokens(rec, at, c);
     let service = t.service;
     let Service::Found(tokens) = service else {
         return Body::Malformed;
@@ -386,7 +389,7 @@ fn read_row(rec: &[u8], at: usize, c: Card, kind: u8) -> Body
     requires { ⌜ (at ≤ length (now rec)) × (5 ≤ kind) × (kind ≤ 10) ⌝ }
     ensures { λ r. ⌜ Bodies (layoutOf c) (change (layoutOf c) kind (drop at (now (rec .entry)))) (now (rec .entry)) r ⌝ }
 {
-    let Took::Bytes(_) = row_end(&rec[at..]) else {
+    let Took::Bytes(_) = row_end(&rec[at..], c) else {
         return Body::Malformed;
     };
     let r = row_at(rec, at);

@@ -25,11 +25,11 @@ impl<'a> Reader<'a> {
     }
 
     // The tokens at the position.
-    pub fn tokens(self) -> TokensAt
+    pub fn tokens(self, c: Card) -> TokensAt
         requires { ⌜ self .at ≤ length (now (self .src)) ⌝ }
-        ensures { λ r. ⌜ Served (self .entry .at) (now (self .entry .src)) r ⌝ }
+        ensures { λ r. ⌜ Served (layoutOf c) (self .entry .at) (now (self .entry .src)) r ⌝ }
     {
-        crate::read_tokens(self.src, self.at)
+        crate::read_tokens(self.src, self.at, c)
     }
 }
 
@@ -55,7 +55,7 @@ pub fn read_add_service(rec: &[u8], at: usize, c: Card) -> Body
     ensures { λ r. ⌜ Bodies (layoutOf c) (aService (layoutOf c) (drop at (now (rec .entry)))) (now (rec .entry)) r ⌝ }
 {
     let mut r = Reader { src: rec, at };
-    let service = r.tokens();
+    let service = r.tokens(c);
     r.at = service.next;
     let callers = r.list(c, Sort::Caller);
     crate::service_of(rec, service, callers)

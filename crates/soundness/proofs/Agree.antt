@@ -15,7 +15,7 @@ use Rattle.policy.proofs.Sets.{T-eq, T-false, and-l, and-r, and-i, keep-ext, up
 use Rattle.policy.proofs.Equal.{eqAid-of, eqb-of}
 use Rattle.policy.proofs.Pieces.{length-aid}
 use Rattle.policy.proofs.RoundTrip.{formed-room, length-unmets}
-use Rattle.policy.proofs.SoundFacts.{sound-formed, sound-lawful, sound-fitting, sound-tables}
+use Rattle.policy.proofs.SoundFacts.{sound-formed, sound-ruled, sound-lawful, sound-fitting, sound-tables}
 use Rattle.bits.proofs.Row.{keep-row}
 use Rattle.geometry.specs.Geometry.{layoutOf}
 use Rattle.geometry.specs.declared.Card.{Card}
@@ -27,11 +27,11 @@ use Rattle.soundness.proofs.Parts.{part-length}
 use Rattle.soundness.proofs.Encoded.{Bytes, part-bytes, row-lt}
 use Rattle.soundness.proofs.Lookup.{used-is}
 use Rattle.soundness.proofs.Whole.{Full, Parts, encode-back, encode-parts}
-use Rattle.soundness.proofs.Checked.{check-formed, check-lawful, check-fitting, check-parts}
+use Rattle.soundness.proofs.Checked.{check-formed, check-ruled, check-lawful, check-fitting, check-parts}
 use Rattle.soundness.proofs.Passes.{passes}
 
 pub full : (c : Card) → Full (layoutOf c)
-full Small = record { ok = layout-ok Small; packages-full = refl; services-full = refl; services-low = limits Small .services-low }
+full Small = record { ok = layout-ok Small; packages-full = refl; services-full = refl; services-low = limits Small .services-low; some-methods = omega arith }
 
 module _ (L : Layout) (lf : Full L) (l : List ℕ) (bytes : Bytes l) (len : length l ≡ size L) where
   abbrev headed : Bool
@@ -52,7 +52,7 @@ module _ (L : Layout) (lf : Full L) (l : List ℕ) (bytes : Bytes l) (len : leng
       and-i (eqb (length l) (size L) && headed) (eqBytes (encode L t) l && soundTables L t) (and-i (eqb (length l) (size L)) headed (eqb-of len) h)
       (and-i (eqBytes (encode L t) l) (soundTables L t)
       (eqAid-of (encode-back L lf l bytes len (eqBytes→ (take 3 l) (L .header) h) (check-parts L lf l bytes len p i u w)))
-      (sound-tables L t (check-formed L lf l bytes len p i u w) (check-lawful L lf l bytes len p i u w) (check-fitting L lf l bytes len p i u w)))
+      (sound-tables L t (check-formed L lf l bytes len p i u w) (check-ruled L lf l bytes len p i u w) (check-lawful L lf l bytes len p i u w) (check-fitting L lf l bytes len p i u w)))
 
   sound-checked : T (sound L l) → T (checkOk L l)
   unfolding checkOk sound
@@ -65,7 +65,7 @@ module _ (L : Layout) (lf : Full L) (l : List ℕ) (bytes : Bytes l) (len : leng
       let room = formed-room L t fo fi in
       let parts : Parts L lf l bytes len = encode-parts L lf l bytes len (eqBytes→ (encode L t) l e) (λ i p. length-aid (t .aid i) (room .aid-short i))
       (length-unmets L (lf .ok) t room) in
-      let p = passes L lf l bytes len fo (sound-lawful L l ok) fi parts in
+      let p = passes L lf l bytes len fo (sound-ruled L l ok) (sound-lawful L l ok) fi parts in
       and-i (headed && packagesOk L l && linesOk L l && listOk L l Unmet) (listOk L l Waiting)
       (and-i (headed && packagesOk L l && linesOk L l) (listOk L l Unmet) (and-i (headed && packagesOk L l) (linesOk L l) (and-i headed (packagesOk L l) h (p .0)) (p .1)) (p .2)) (p .3)
 

@@ -13,30 +13,37 @@ use lib.Seq.{take-take}
 use Rattle.policy.specs.Lists.{implies, every, upto, NoRepeat}
 use Rattle.policy.specs.Contract.{Aid, validAid}
 use Rattle.policy.specs.Layout.{Layout, size, aidSize}
+use Rattle.policy.specs.Records.{ValidTok}
 use Rattle.policy.specs.Tables.{Tables, Unmet, Waiting, noTok, bit, readAid, writeAid, readTok, writeTok, readUnmet, writeUnmet, readWaiting, writeWaiting, readList, writeList, decode}
 use Rattle.policy.proofs.Sets.{and-l, and-r, and-i, or-e, implies-e, not-e, test, false-T, map-in, upto-in, once-map, once-upto, below-in}
 use Rattle.policy.proofs.Equal.{eqb-of}
 use Rattle.policy.proofs.Pieces.{in-or-off, row-ends}
-use Rattle.policy.proofs.Formed.{Names, Bits, UnmetRows, WaitingRows, grantBit, Formed, Lawful, Fitting}
+use Rattle.policy.proofs.Formed.{Names, Bits, UnmetRows, WaitingRows, grantBit, Formed, Lawful, Fitting, Ruled}
 use Rattle.policy.proofs.SoundFacts.{InRange, decode-in}
 use Rattle.policy.proofs.Bits.{bit-none}
 use Rattle.geometry.specs.Geometry.{aidAt, tokAt, entryAt}
 use Rattle.geometry.specs.declared.Table.the-variants.{Calls, Grants, Needs}
 use Rattle.soundness.specs.declared.Kept.{Kept}
 use Rattle.soundness.specs.declared.Kept.the-variants.{Unmet as Unmets, Waiting as Waitings}
-use Rattle.soundness.specs.Check.{byteAt, partAt, zerosAt, sameAt, aidOk, within, rowAt, usedRow, provRow, numberAt, isTok, newTok, tokOk, toksOk, newAid, blankOk, packageOk, packagesOk}
+use Rattle.soundness.specs.Check.{byteAt, partAt, zerosAt, sameAt, aidOk, within, rowAt, usedRow, provRow, numberAt, isTok, newTok, tokOk, toksOk, methodOk, methodsOk, newAid, blankOk, packageOk, packagesOk}
 use Rattle.soundness.specs.Check.{grantOk, pairOk, lineOk, linesOk, isUsed, unserved, unmetOk, isProvided, waitingOk, listAt, rowSize, placeAt, countOf, rowOk, newRow, placeOk, listOk}
 use Rattle.soundness.proofs.Parts.{part-length, part-same, zero-byte, zeros-part, Filled, filled-inj, ok-filled, zeros-blank}
 use Rattle.soundness.proofs.Decoded.{used-read, aid-read, aid-off, tok-read, tok-off, list-read}
 use Rattle.soundness.proofs.Encoded.{Bytes, tok-back, unmet-back, waiting-back, list-back, length-rows}
 use Rattle.soundness.proofs.Whole.{list-end, Full, Parts}
 use Rattle.soundness.proofs.Tests.{row-low}
-use Rattle.soundness.proofs.Lookup.{cond-then, cond-else, tok-bytes, unmet-at, waiting-at, number-same, used-is, prov-is, calls-is, grants-is, needs-is}
+use Rattle.soundness.proofs.Lookup.{cond-then, cond-else, tok-bytes, method-is, unmet-at, waiting-at, number-same, used-is, prov-is, calls-is, grants-is, needs-is}
 use Rattle.soundness.proofs.Lookup.{found-used}
 
 -- conjunctions as they stand in the tests
+two : (a b : Bool) → T (a && b) → T a × T b
+two a b h = (and-l a b h, and-r a b h)
+
 three : (a b c : Bool) → T (a && b && c) → T a × T b × T c
 three a b c h = let p = and-l (a && b) c h in (and-l a b p, and-r a b p, and-r (a && b) c h)
+
+four : (a b c d : Bool) → T (a && b && c && d) → T a × T b × T c × T d
+four a b c d h = let p = three a b c (and-l (a && b && c) d h) in (p .0, p .1, p .2, and-r (a && b && c) d h)
 
 -- numbers of which neither is lower
 level : (i j : ℕ) → (i < j → ⊥) → (j < i → ⊥) → i ≡ j
@@ -70,18 +77,18 @@ module _ (L : Layout) (lf : Full L) (l : List ℕ) (bytes : Bytes l) (len : leng
 
   -- ---- packages
   module _ (ok : T (packagesOk L l)) where
-    package-used : (i : ℕ) → T (t .used i) → T (aidOk l (aidAt L i)) × T (newAid L l i) × T (toksOk L l i)
+    package-used : (i : ℕ) → T (t .used i) → T (aidOk l (aidAt L i)) × T (newAid L l i) × T (methodsOk L l i) × T (toksOk L l i)
     unfolding packagesOk packageOk
     package-used i u =
         let h = r .used-in i u in
-        three (aidOk l (aidAt L i)) (newAid L l i) (toksOk L l i)
-        (cond-then (bit (usedRow L l) i) (aidOk l (aidAt L i) && newAid L l i && toksOk L l i) (blankOk L l i) (subst T (used-is L lf l bytes len i h) u) (below-in (packageOk L l) n ok i h))
+        four (aidOk l (aidAt L i)) (newAid L l i) (methodsOk L l i) (toksOk L l i)
+        (cond-then (bit (usedRow L l) i) (aidOk l (aidAt L i) && newAid L l i && methodsOk L l i && toksOk L l i) (blankOk L l i) (subst T (used-is L lf l bytes len i h) u) (below-in (packageOk L l) n ok i h))
 
     package-blank : (i : ℕ) → i < n → (T (t .used i) → ⊥) → T (zerosAt l (aidAt L i) aidSize) × T (eqb (provRow L l i) 0) × T (zerosAt l (tokAt L i 0) (m * 2))
     unfolding packagesOk packageOk blankOk
     package-blank i h f =
         three (zerosAt l (aidAt L i) aidSize) (eqb (provRow L l i) 0) (zerosAt l (tokAt L i 0) (m * 2))
-        (cond-else (bit (usedRow L l) i) (aidOk l (aidAt L i) && newAid L l i && toksOk L l i) (blankOk L l i) (λ u. f (subst T (sym (used-is L lf l bytes len i h)) u)) (below-in (packageOk L l) n ok i h))
+        (cond-else (bit (usedRow L l) i) (aidOk l (aidAt L i) && newAid L l i && methodsOk L l i && toksOk L l i) (blankOk L l i) (λ u. f (subst T (sym (used-is L lf l bytes len i h)) u)) (below-in (packageOk L l) n ok i h))
 
     filled-used : (i : ℕ) → T (t .used i) → Filled (place i) × T (validAid (readAid (place i)))
     filled-used i u = ok-filled l (aidAt L i) (aid-in i (r .used-in i u)) (package-used i u .0)
@@ -127,7 +134,7 @@ module _ (L : Layout) (lf : Full L) (l : List ℕ) (bytes : Bytes l) (len : leng
 
     tok-ok : (j k : ℕ) → T (t .used j) → k < m → T (tokOk L l j k)
     unfolding toksOk
-    tok-ok j k u p = below-in (tokOk L l j) m (package-used j u .2) k p
+    tok-ok j k u p = below-in (tokOk L l j) m (package-used j u .3) k p
 
     zero-tok : (j k : ℕ) → j < n → k < m → byteAt l (tokAt L j k) ≡ 0 → byteAt l (tokAt L j k + 1) ≡ 0 → t .tok j k ≡ noTok
     zero-tok j k h p a b = tok-read L l j k h p ∙ tok-bytes l (tokAt L j k) ∙ λ i. record { itf = a i; mth = b i }
@@ -154,6 +161,13 @@ module _ (L : Layout) (lf : Full L) (l : List ℕ) (bytes : Bytes l) (len : leng
         go (inl h) (inl p) = at h p (test (t .used j))
         go (inl h) (inr p) = tok-off L l j k (inr p)
         go (inr h) _ = tok-off L l j k (inl h)
+
+    tok-method : (j k : ℕ) → T (t .provides j k) → ValidTok L (t .tok j k)
+    unfolding methodsOk
+    tok-method j k s =
+        let c = r .prov-in j k s in
+        let h = below-in (λ q. methodOk L l (tokAt L j q)) m (package-used j (prov-used j k s) .2) k (c .1) in
+        subst (ValidTok L) (sym (tok-read L l j k (c .0) (c .1))) (subst T (method-is l (tokAt L j k) L) h)
 
     tok-new : (j k q : ℕ) → T (t .provides j k) → T (t .provides j q) → t .tok j k ≡ t .tok j q → q < k → ⊥
     unfolding tokOk newTok
@@ -250,9 +264,7 @@ module _ (L : Layout) (lf : Full L) (l : List ℕ) (bytes : Bytes l) (len : leng
         (leb→le count (L .capacity) (p .0), p .1, p .2)
 
     row-ok : (q : ℕ) → q < count → T (rowOk L l k (placeAt L k q)) × T (newRow L l k q)
-    row-ok q p =
-        let h = below-in (placeOk L l k) count (list-facts .1) q p in
-        (and-l (rowOk L l k (placeAt L k q)) (newRow L l k q) h, and-r (rowOk L l k (placeAt L k q)) (newRow L l k q) h)
+    row-ok q p = two (rowOk L l k (placeAt L k q)) (newRow L l k q) (below-in (placeOk L l k) count (list-facts .1) q p)
 
     row-in : (q : ℕ) → q < count → placeAt L k q + rowSize k ≤ length l
     row-in q p = let a = list-end L l len k in let b = list-facts .0 in let c = row-ends q (L .capacity) (rowSize k) (omega arith) in omega arith
@@ -313,20 +325,29 @@ module _ (L : Layout) (lf : Full L) (l : List ℕ) (bytes : Bytes l) (len : leng
       abbrev number : ℕ
       number = numberAt L l at
 
-      unmet-three : T (isUsed L l caller) × T (aidOk l at) × T (unserved L l (at + 17) caller number)
+      abbrev method : Bool
+      method = methodOk L l (at + 17)
+
+      abbrev free : Bool
+      free = unserved L l (at + 17) caller number
+
+      unmet-four : T (isUsed L l caller) × T (aidOk l at) × T method × T free
       unfolding unmetOk
-      unmet-three = three (isUsed L l caller) (aidOk l at) (unserved L l (at + 17) caller number) ok
+      unmet-four = four (isUsed L l caller) (aidOk l at) method free ok
 
       unmet-filled : Filled (partAt l at 17) × T (validAid (readAid (partAt l at 17)))
-      unmet-filled = ok-filled l at (omega arith) (unmet-three .1)
+      unmet-filled = ok-filled l at (omega arith) (unmet-four .1)
 
       row-used : T (t .used caller)
-      row-used = subst T (sym (used-read L l caller)) (unmet-three .0)
+      row-used = subst T (sym (used-read L l caller)) (unmet-four .0)
+
+      row-method : ValidTok L (readTok (partAt l (at + 17) 2))
+      row-method = subst T (method-is l (at + 17) L) (unmet-four .2)
 
       -- a used package with the row's AID
       module _ (j : ℕ) (u : T (t .used j)) (e : t .aid j ≡ readAid (partAt l at 17)) where
         served : T (not (eqb j caller) && newTok L l m (at + 17) j)
-        served = go number (found-used L lf l bytes len na (filled packages) at (unmet-filled .0) (unmet-filled .1) j u e) (unmet-three .2)
+        served = go number (found-used L lf l bytes len na (filled packages) at (unmet-filled .0) (unmet-filled .1) j u e) (unmet-four .3)
           where
             go : (c : ℕ) → c ≡ j → T (unserved L l (at + 17) caller c) → T (not (eqb j caller) && newTok L l m (at + 17) j)
             go c q h = pick (or-e (eqb c n) (not (eqb c caller) && newTok L l m (at + 17) c) h)
@@ -425,6 +446,9 @@ module _ (L : Layout) (lf : Full L) (l : List ℕ) (bytes : Bytes l) (len : leng
       unmet = unmet-rows packages unmets;
       waiting = waiting-rows packages waitings;
     }
+
+    pub check-ruled : Ruled L t
+    check-ruled = record { provided = tok-method packages; unmet = each-unmet packages unmets (λ u. ValidTok L (u .tok)) (row-method packages) }
 
     pub check-lawful : Lawful t
     check-lawful = lawful packages lines

@@ -13,13 +13,14 @@ use lib.Seq.{take-take, getD-drop}
 use Rattle.policy.specs.Lists.{first, upto, orElse, eqBytes}
 use Rattle.policy.specs.Contract.{Aid, validAid}
 use Rattle.policy.specs.Layout.{Layout, size, aidSize}
+use Rattle.policy.specs.Record.{validTok}
 use Rattle.policy.specs.Tables.{Tables, bit, readAid, readTok, readUnmet, readWaiting, decode}
 use Rattle.policy.proofs.Sets.{T-true, test, upto-in, in-upto, Found, found}
 use Rattle.policy.proofs.Formed.{Names}
 use Rattle.policy.proofs.Pieces.{row-ends}
 use Rattle.geometry.specs.Geometry.{aidAt, provAt, entryAt}
 use Rattle.geometry.specs.declared.Table.the-variants.{Calls, Grants, Needs}
-use Rattle.soundness.specs.Check.{byteAt, partAt, rowAt, usedRow, provRow, sameAt, isAid, numberAt}
+use Rattle.soundness.specs.Check.{byteAt, partAt, rowAt, usedRow, provRow, sameAt, isAid, numberAt, methodOk}
 use Rattle.soundness.proofs.Parts.{part-byte, part-length, same-part, part-same, Filled, filled-inj}
 use Rattle.soundness.proofs.Decoded.{used-read, aid-read, prov-read, calls-read, grants-read, needs-read}
 use Rattle.soundness.proofs.Encoded.{Bytes, part-bytes, row-lt}
@@ -48,6 +49,10 @@ module _ (l : List ℕ) (at : ℕ) where
 
   pub tok-bytes : readTok (partAt l at 2) ≡ record { itf = byteAt l at; mth = byteAt l (at + 1) }
   tok-bytes = λ i. record { itf = (part-byte l at 2 0 (omega arith) ∙ ap (byteAt l) (add-zero at)) i; mth = part-byte l at 2 1 (omega arith) i }
+
+  -- the test of their method token's byte is that of the tokens read
+  pub method-is : (L : Layout) → methodOk L l at ≡ validTok L (readTok (partAt l at 2))
+  method-is L = ap (validTok L) (sym tok-bytes)
 
 module _ (l : List ℕ) (at : ℕ) where
   pub unmet-at : readUnmet (partAt l at 20) ≡ record { callee = readAid (partAt l at 17); tok = readTok (partAt l (at + 17) 2); caller = byteAt l (at + 19) }

@@ -12,11 +12,12 @@ use lib.Seq.{take-at, take-take}
 use Rattle.policy.specs.Lists.{implies, every, upto, NoRepeat}
 use Rattle.policy.specs.Contract.{Aid, Tok, validAid}
 use Rattle.policy.specs.Layout.{Layout, size, aidSize, unmetSize, waitingSize}
+use Rattle.policy.specs.Records.{ValidTok}
 use Rattle.policy.specs.Tables.{Tables, Unmet, Waiting, noTok, bit, readAid, writeAid, readTok, writeTok, readUnmet, readWaiting, readList, writeList, decode}
 use Rattle.policy.proofs.Sets.{T-false, and-l, and-r, and-i, or-l, or-r, implies-i, not-i, test, false-T, in-map, in-upto, in-below}
 use Rattle.policy.proofs.Equal.{eqb-of}
 use Rattle.policy.proofs.Pieces.{in-or-off, length-aid, valid-short, length-unmet, length-waiting, row-ends}
-use Rattle.policy.proofs.Formed.{grantBit, Formed, Lawful, Fitting}
+use Rattle.policy.proofs.Formed.{grantBit, Formed, Lawful, Fitting, Ruled}
 use Rattle.policy.proofs.Sets.{map-inj}
 use Rattle.policy.proofs.Bits.{bit-none}
 use Rattle.bits.proofs.Row.{bit-past, bit-ext}
@@ -24,21 +25,24 @@ use Rattle.geometry.specs.Geometry.{aidAt, tokAt, entryAt}
 use Rattle.geometry.specs.declared.Table.the-variants.{Calls, Grants, Needs}
 use Rattle.soundness.specs.declared.Kept.{Kept}
 use Rattle.soundness.specs.declared.Kept.the-variants.{Unmet as Unmets, Waiting as Waitings}
-use Rattle.soundness.specs.Check.{byteAt, partAt, zerosAt, sameAt, aidOk, within, rowAt, usedRow, provRow, numberAt, isTok, newTok, tokOk, toksOk, newAid, blankOk, packageOk, packagesOk}
+use Rattle.soundness.specs.Check.{byteAt, partAt, zerosAt, sameAt, aidOk, within, rowAt, usedRow, provRow, numberAt, isTok, newTok, tokOk, toksOk, methodOk, methodsOk, newAid, blankOk, packageOk, packagesOk}
 use Rattle.soundness.specs.Check.{grantOk, pairOk, lineOk, linesOk, isUsed, unserved, unmetOk, isProvided, waitingOk, listAt, rowSize, placeAt, countOf, rowOk, newRow, placeOk, listOk}
 use Rattle.soundness.proofs.Parts.{same-part, byte-zeros, part-zeros, Filled, filled-ok, blank-zeros}
 use Rattle.soundness.proofs.Decoded.{used-read, aid-read, tok-read, list-read}
 use Rattle.soundness.proofs.Encoded.{Bytes, list-parts, length-rows}
 use Rattle.soundness.proofs.Whole.{Full, list-end, Parts}
-use Rattle.soundness.proofs.Lookup.{cond-by, tok-bytes, unmet-at, waiting-at, number-is, NumberIs, used-is, prov-is, calls-is, grants-is, needs-is, row-small, prov-small}
+use Rattle.soundness.proofs.Lookup.{cond-by, tok-bytes, method-is, unmet-at, waiting-at, number-is, NumberIs, used-is, prov-is, calls-is, grants-is, needs-is, row-small, prov-small}
 use Rattle.soundness.proofs.Tests.{row-low}
 use Rattle.soundness.proofs.Lookup.{aid-same, same-used, found-used}
 
 three-i : (a b c : Bool) → T a → T b → T c → T (a && b && c)
 three-i a b c x y z = and-i (a && b) c (and-i a b x y) z
 
+four-i : (a b c d : Bool) → T a → T b → T c → T d → T (a && b && c && d)
+four-i a b c d w x y z = and-i (a && b && c) d (three-i a b c w x y) z
+
 module _ (L : Layout) (lf : Full L) (l : List ℕ) (bytes : Bytes l) (len : length l ≡ size L)
-    (fo : Formed L (decode L l)) (la : Lawful (decode L l)) (fi : Fitting L (decode L l)) (parts : Parts L lf l bytes len) where
+    (fo : Formed L (decode L l)) (ru : Ruled L (decode L l)) (la : Lawful (decode L l)) (fi : Fitting L (decode L l)) (parts : Parts L lf l bytes len) where
   abbrev n : ℕ
   n = L .packages
 
@@ -91,6 +95,14 @@ module _ (L : Layout) (lf : Full L) (l : List ℕ) (bytes : Bytes l) (len : leng
           let e : q ≡ k = fo .names .tok-inj j q k (d .0) s (d .1 ∙ sym (tok-read L l j k h p)) in
           absurd (omega arith)))
 
+  -- tokens that are not provided are zero, and zero is a method token
+  method-ok : (j k : ℕ) → j < n → k < m → T (methodOk L l (tokAt L j k))
+  method-ok j k h p = subst T (sym (method-is l (tokAt L j k) L)) (subst (ValidTok L) (tok-read L l j k h p) (valid (test (t .provides j k))))
+    where
+      valid : T (t .provides j k) ⊎ (T (t .provides j k) → ⊥) → ValidTok L (t .tok j k)
+      valid (inl s) = ru .provided j k s
+      valid (inr f) = subst (ValidTok L) (sym (fo .names .tok-blank j k f)) (lt→ltb 0 (L .methods) (lf .some-methods))
+
   -- a row of services without a bit is 0
   row-zero : (x : ℕ) → x < 2 ^ m → ((k : ℕ) → k < m → T (bit x k) → ⊥) → x ≡ 0
   row-zero x h f = bit-ext m x 0 h (omega arith) (λ k p. T-false (bit x k) (f k p) ∙ sym (bit-none k))
@@ -112,11 +124,12 @@ module _ (L : Layout) (lf : Full L) (l : List ℕ) (bytes : Bytes l) (len : leng
           ap (byteAt l) s ∙ zero-at (x / 2) (omega arith) .1
 
   package-ok : (i : ℕ) → i < n → T (packageOk L l i)
-  unfolding packageOk toksOk blankOk
-  package-ok i h = cond-by (bit (usedRow L l) i) (aidOk l (aidAt L i) && newAid L l i && toksOk L l i) (blankOk L l i)
+  unfolding packageOk methodsOk toksOk blankOk
+  package-ok i h = cond-by (bit (usedRow L l) i) (aidOk l (aidAt L i) && newAid L l i && methodsOk L l i && toksOk L l i) (blankOk L l i)
       (λ b. let u = subst T (sym (used-is L lf l bytes len i h)) b in
-      three-i (aidOk l (aidAt L i)) (newAid L l i) (toksOk L l i)
-      (filled-ok l (aidAt L i) inside (t .aid i) (fo .names .aid-valid i u) (sym (parts .0 i h))) (new-aid i h u) (in-below (tokOk L l i) m (λ k p. tok-ok i k h p)))
+      four-i (aidOk l (aidAt L i)) (newAid L l i) (methodsOk L l i) (toksOk L l i)
+      (filled-ok l (aidAt L i) inside (t .aid i) (fo .names .aid-valid i u) (sym (parts .0 i h))) (new-aid i h u)
+      (in-below (λ k. methodOk L l (tokAt L i k)) m (λ k p. method-ok i k h p)) (in-below (tokOk L l i) m (λ k p. tok-ok i k h p)))
       (λ b. let f : T (t .used i) → ⊥ = λ u. b (subst T (used-is L lf l bytes len i h) u) in
       three-i (zerosAt l (aidAt L i) aidSize) (eqb (provRow L l i) 0) (zerosAt l (tokAt L i 0) (m * 2))
       (blank-zeros l (aidAt L i) inside (sym (parts .0 i h) ∙ ap writeAid (fo .names .aid-blank i f)))
@@ -277,8 +290,9 @@ module _ (L : Layout) (lf : Full L) (l : List ℕ) (bytes : Bytes l) (len : leng
 
     unmet-ok : T (unmetOk L l at)
     unfolding unmetOk
-    unmet-ok = three-i (isUsed L l (u .caller)) (aidOk l at) (unserved L l (at + 17) (u .caller) (numberAt L l at))
-        (subst T (used-read L l (u .caller)) (fo .unmet .off .off-used u in-u)) ok u-served
+    unmet-ok = four-i (isUsed L l (u .caller)) (aidOk l at) (methodOk L l (at + 17)) (unserved L l (at + 17) (u .caller) (numberAt L l at))
+        (subst T (used-read L l (u .caller)) (fo .unmet .off .off-used u in-u)) ok
+        (subst T (sym (method-is l (at + 17) L)) (ru .unmet u in-u)) u-served
 
   unmets-ok : T (listOk L l Unmets)
   unfolding decode rowOk

@@ -1,5 +1,5 @@
 -- What the code's loops and branches have shown, as tests: `search tests` at each need.
-use Prim.Native.Nat.{ℕ, _+_, _*_, _-_, _≤_, _<_}
+use Prim.Native.Nat.{ℕ, _+_, _*_, _-_, _^_, _≤_, _<_}
 use native.Mathlib.Omega.{arith}
 use native.Mathlib.Nat.{add-sub-cancel-left, add-sub-of-le, add-mul, mul-le-mul-left}
 use native.Mathlib.Numerals.{add-one}
@@ -110,6 +110,10 @@ zeros-of l at n e = rw (add-sub-cancel-left at n) at e
 -- ---- the tokens of a package
 pub one-service : (c : Card) → 0 < layoutOf c .services
 one-service Small = omega arith
+
+-- the card's limit of method tokens, as the high byte of two
+pub methods-top : (c : Card) → 256 * layoutOf c .methods ≡ 2 ^ 15
+methods-top Small = refl
 
 pub tokens-len : (c : Card) (j n a s : ℕ) → n ≡ size (layoutOf c) → a ≡ tokAt (layoutOf c) j 0 → s ≡ layoutOf c .services → j < layoutOf c .packages → a + s * 2 ≤ n
 tokens-len c j n a s e p q h = rw (q) (let i = row-ends j (layoutOf c .packages) (layoutOf c .services * 2) h in omega arith)

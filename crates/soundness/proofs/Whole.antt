@@ -24,6 +24,7 @@ pub record Full (L : Layout) : Type 0 where
   pub packages-full : 2 ^ L .packages ≡ 256 ^ L .width
   pub services-full : 2 ^ L .services ≡ 256 ^ L .width
   pub services-low : L .services ≤ 16
+  pub some-methods : 0 < L .methods
 
 -- a list ends in the image
 pub list-end : (L : Layout) (l : List ℕ) → length l ≡ size L → (k : Kept) → listAt L k + (1 + L .capacity * rowSize k) ≤ length l

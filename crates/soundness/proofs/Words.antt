@@ -2,16 +2,20 @@
 use Prim.Native.Nat.{ℕ, zero, suc, _+_, _*_, _-_, _^_, _≤_, _<_}
 use native.Mathlib.Omega.{arith}
 use native.Mathlib.Nat.{pow-suc, pow-le-pow-right, lt-of-lt-of-le, zero-lt-suc}
-use mathlib.Core.Path.{_≡_, refl, sym, ap, ap₂, _∙_}
+use mathlib.Core.Path.{_≡_, refl, sym, ap, ap₂, _∙_, subst}
 use mathlib.Core.Bool.{Bool, true, false, _&&_}
 use mathlib.Core.List.{List, [], _∷_, _++_}
-use lib.Dec.{eqb, eqb→eq}
+use lib.Bits.{bitOr, or-lt, or-add-and, and-le-l, and-le-r}
+use lib.Dec.{T, eqb, eqb→eq, ltb, ltb→lt, lt→ltb}
 use lib.ListN.{length, take, drop}
 use lib.Seq.{take-take}
-use Rattle.policy.specs.Lists.{eqBytes}
+use Rattle.policy.specs.Lists.{every, upto, eqBytes}
+use Rattle.policy.specs.Layout.{Layout}
 use Rattle.policy.proofs.Sets.{T-eq, and-l, and-r, and-i, eqBytes→}
 use Rattle.policy.proofs.Equal.{eqAid-of, eqb-of}
-use Rattle.soundness.specs.Check.{byteAt, partAt, sameAt, little}
+use Rattle.bits.proofs.Loops.{every-snoc}
+use Rattle.geometry.specs.Geometry.{tokAt}
+use Rattle.soundness.specs.Check.{byteAt, partAt, sameAt, little, methodOk}
 use Rattle.soundness.proofs.Parts.{part-length, part-rest, part-part, part-cons, same-part, part-same}
 use Rattle.soundness.proofs.Encoded.{Bytes, part-bytes}
 
@@ -126,3 +130,29 @@ module _ (l : List ℕ) (bytes : Bytes l) where
         turn false true true = refl
         turn false true false = refl
         turn false false z = refl
+
+-- ---- numbers gathered in one: it is below a power of 2 where all of them are
+gathered : (k a b : ℕ) → ltb (bitOr a b) (2 ^ k) ≡ ltb a (2 ^ k) && ltb b (2 ^ k)
+gathered k a b = T-eq (ltb (bitOr a b) (2 ^ k)) (ltb a (2 ^ k) && ltb b (2 ^ k))
+    (λ t. let h = ltb→lt (bitOr a b) (2 ^ k) t in
+    and-i (ltb a (2 ^ k)) (ltb b (2 ^ k)) (lt→ltb a (2 ^ k) (omega (arith, or-add-and a b, and-le-r a b))) (lt→ltb b (2 ^ k) (omega (arith, or-add-and a b, and-le-l a b))))
+    (λ t. lt→ltb (bitOr a b) (2 ^ k) (or-lt k a b (ltb→lt a (2 ^ k) (and-l (ltb a (2 ^ k)) (ltb b (2 ^ k)) t)) (ltb→lt b (2 ^ k) (and-r (ltb a (2 ^ k)) (ltb b (2 ^ k)) t))))
+
+-- the tokens of package j, of which the first k are gathered in all: it tells whether their method tokens are below the limit
+abbrev pub Gathered : Layout → List ℕ → ℕ → ℕ → ℕ → Type 0
+Gathered L l j all k = ltb all (256 * L .methods) ≡ every (λ q. methodOk L l (tokAt L j q)) (upto k)
+
+module _ (L : Layout) (top : 256 * L .methods ≡ 2 ^ 15) (l : List ℕ) (bytes : Bytes l) (j : ℕ) where
+  -- the method token is the high byte
+  pair-low : (at : ℕ) {p : ℕ} → at + 2 ≤ length l → p ≡ little (partAt l at 2) → ltb p (256 * L .methods) ≡ methodOk L l at
+  pair-low at {p} h e =
+      let q = pair-is l at h in
+      let b = bytes at in
+      T-eq (ltb p (256 * L .methods)) (methodOk L l at)
+      (λ t. let i = ltb→lt p (256 * L .methods) t in lt→ltb (byteAt l (at + 1)) (L .methods) (omega arith))
+      (λ t. let i = ltb→lt (byteAt l (at + 1)) (L .methods) t in lt→ltb p (256 * L .methods) (omega arith))
+
+  pub gather : (all k : ℕ) {p : ℕ} → Gathered L l j all k → tokAt L j k + 2 ≤ length l → p ≡ little (partAt l (tokAt L j k) 2) → Gathered L l j (bitOr all p) (k + 1)
+  gather all k {p} g h e =
+      subst (λ (z : ℕ). ltb (bitOr all p) z ≡ ltb all z && ltb p z) (sym top) (gathered 15 all p)
+      ∙ ap₂ _&&_ g (pair-low (tokAt L j k) h e) ∙ sym (every-snoc (λ q. methodOk L l (tokAt L j q)) k)

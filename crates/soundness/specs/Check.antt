@@ -90,6 +90,14 @@ module _ (L : Layout) (l : List ℕ) where
   unfoldable pub toksOk : ℕ → Bool
   toksOk j = every (tokOk j) (upto (L .services))
 
+  -- R-7: 'A method token of 128 or more .. in an image makes it unsound': of the tokens at at,
+  abbrev pub methodOk : ℕ → Bool
+  methodOk at = ltb (byteAt l (at + 1)) (L .methods)
+
+  -- and of all services of package j, since those not provided have zeros
+  unfoldable pub methodsOk : ℕ → Bool
+  methodsOk j = every (λ k. methodOk (tokAt L j k)) (upto (L .services))
+
   -- the first package with its AID is n
   abbrev pub newAid : ℕ → Bool
   newAid n = eqb (numberAt (aidAt L n)) n
@@ -98,7 +106,7 @@ module _ (L : Layout) (l : List ℕ) where
   blankOk n = zerosAt l (aidAt L n) aidSize && eqb (provRow n) 0 && zerosAt l (tokAt L n 0) (L .services * 2)
 
   unfoldable pub packageOk : ℕ → Bool
-  packageOk n = cond (bit usedRow n) (aidOk l (aidAt L n) && newAid n && toksOk n) (blankOk n)
+  packageOk n = cond (bit usedRow n) (aidOk l (aidAt L n) && newAid n && methodsOk n && toksOk n) (blankOk n)
 
   unfoldable pub packagesOk : Bool
   packagesOk = every packageOk (upto (L .packages))
@@ -129,7 +137,7 @@ module _ (L : Layout) (l : List ℕ) where
   unserved at caller n = eqb n (L .packages) || (not (eqb n caller) && newTok (L .services) at n)
 
   unfoldable pub unmetOk : ℕ → Bool
-  unmetOk at = isUsed (byteAt l (at + 19)) && aidOk l at && unserved (at + 17) (byteAt l (at + 19)) (numberAt at)
+  unmetOk at = isUsed (byteAt l (at + 19)) && aidOk l at && methodOk (at + 17) && unserved (at + 17) (byteAt l (at + 19)) (numberAt at)
 
   -- ---- 'every waiting grant has a valid AID that is not installed, a used callee and a provided service'
   abbrev pub isProvided : ℕ → ℕ → Bool

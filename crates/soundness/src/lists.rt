@@ -56,8 +56,12 @@ fn unmet_ok(img: &[u8], c: Card, at: usize) -> bool
     if !bytes::aid_ok(img, at) {
         return false;
     }
+    let toks = at + 17;
+    if geometry::methods(c) <= img[toks + 1] {
+        return false;
+    }
     let n = packages::number_of(img, c, at);
-    unserved(img, c, at + 17, caller, n)
+    unserved(img, c, toks, caller, n)
 }
 
 // Package j provides service k, if there are such numbers.

@@ -1,11 +1,11 @@
-// Packages: AIDs that are valid and differ, tokens that differ, and zeros where no package or service stands.
+// Packages: AIDs that are valid and differ, tokens that are in range and differ, and zeros where no package or service stands.
 ghost use mathlib.Core.Path.{_≡_};
 ghost use Prim.Native.Nat.{_+_, _≤_, _<_};
 ghost use lib.ListN.{length};
 ghost use Rattle.policy.specs.Layout.{size as sizeOf};
 ghost use Rattle.policy.specs.Tables.{bit};
 ghost use Rattle.geometry.specs.Geometry.{layoutOf};
-ghost use Rattle.soundness.specs.Check.{otherTok, numberAt, newTok, tokOk, toksOk, blankOk, packageOk, packagesOk, usedRow, provRow};
+ghost use Rattle.soundness.specs.Check.{otherTok, numberAt, newTok, methodsOk, tokOk, toksOk, blankOk, packageOk, packagesOk, usedRow, provRow};
 use crate::bytes;
 use geometry::Card;
 
@@ -96,6 +96,20 @@ fn toks_ok(img: &[u8], c: Card, j: usize) -> bool
     true
 }
 
+// The method tokens of package j are below the card's limit: all of them gathered in one number, in which no bit above the limit is set.
+fn methods_ok(img: &[u8], c: Card, j: usize) -> bool
+    requires { ⌜ (length (now img) ≡ sizeOf (layoutOf c)) × (j < layoutOf c .packages) ⌝ }
+    ensures { λ r. ⌜ r ≡ methodsOk (layoutOf c) (now (img .entry)) j ⌝ }
+{
+    let n = geometry::services(c);
+    let limit = 256 * geometry::methods(c) as u16;
+    let mut all: u16 = 0;
+    for k in 0..n {
+        all = all | bytes::pair(img, geometry::tok_at(c, j, k));
+    }
+    all < limit
+}
+
 // An unused package has no AID, no services and no tokens.
 fn blank_ok(img: &[u8], c: Card, n: usize) -> bool
     requires { ⌜ (length (now img) ≡ sizeOf (layoutOf c)) × (n < layoutOf c .packages) ⌝ }
@@ -123,6 +137,9 @@ fn package_ok(img: &[u8], c: Card, n: usize) -> bool
         return false;
     }
     if number_of(img, c, at) != n {
+        return false;
+    }
+    if !methods_ok(img, c, n) {
         return false;
     }
     toks_ok(img, c, n)

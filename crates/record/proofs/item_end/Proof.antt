@@ -21,7 +21,7 @@ row-end-requires : tie.Need-row-end-requires
 row-end-requires c κs = search needs
 
 returns : tie.Need-returns
-returns c = rw (c .before .enum-told .given .1) (c .tokens-end .ensures)
+returns c = rw (c .before .enum-told .given .1) (c .tokens-end .ensures .takes)
 
 returns-2 : tie.Need-returns-2
 returns-2 c = rw (c .before .enum-told2 .given .1) (c .aid-end .ensures)

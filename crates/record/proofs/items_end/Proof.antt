@@ -4,17 +4,18 @@ use borrow.Author.Needs.{needs}
 use native.Mathlib.Omega.{arith}
 use lib.ListN.{drop, length-drop}
 use denote.Ref.{now}
-use Rattle.record.specs.Meaning.{Takes, reader}
+use Rattle.geometry.specs.Geometry.{layoutOf}
+use Rattle.record.specs.Meaning.{Takes, validReader}
 use Rattle.record.specs.declared.Took.the-variants.{Bytes}
 use Rattle.record.proofs.Fronts.{at-part, Still, still-next, still-bad, still-done}
 use Rattle.record.proofs.items_end.Statement.{statement}
 use Rattle.record.proofs.items_end.Tie as tie
 
 abbrev Inv-loop : tie.InvT-loop
-Inv-loop part sort count at₀ left₀ at left = Still (reader sort) count part at left
+Inv-loop part c sort count at₀ left₀ at left = Still (validReader (layoutOf c) sort) count part at left
 
 abbrev μ-loop : tie.MeasureT-loop
-μ-loop part sort count at₀ left₀ at left = left
+μ-loop part c sort count at₀ left₀ at left = left
 
 loop-holds : tie.Need-loop-holds Inv-loop μ-loop
 loop-holds c = record { inside = omega arith; same = refl }
@@ -45,8 +46,8 @@ enum-known-n c = search needs
 
 -- what item_end says where it took n bytes
 next : (c : tie.After-known-told Inv-loop μ-loop)
-    → Takes (reader (c .before .before .before .before .before .before .before .before .args .sort)) (drop (c .before .before .before .before .before .before .loop .at) (now (c .before .before .before .before .before .before .before .before .args .part)))
-    (Bytes (c .before .n .given .0 .0))
+    → let a = c .before .before .before .before .before .before .before .before .args in
+    Takes (validReader (layoutOf (a .c)) (a .sort)) (drop (c .before .before .before .before .before .before .loop .at) (now (a .part))) (Bytes (c .before .n .given .0 .0))
 next c =
     let l = c .before .before .before .before .before in
     at-part (now (l .before .before .before .args .part)) (l .before .loop .at) (c .before .n .given .1) (c .before .before .before .item-end .ensures)

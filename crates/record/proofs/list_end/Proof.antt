@@ -5,10 +5,10 @@ use lib.ListN.{drop, length-drop}
 use borrow.Author.Needs.{needs}
 use Rattle.policy.specs.Record.{many}
 use Rattle.geometry.specs.Geometry.{layoutOf}
-use Rattle.record.specs.Meaning.{Takes, Counts, reader, widthOf}
+use Rattle.record.specs.Meaning.{Takes, Counts, validReader, widthOf}
 use Rattle.record.specs.declared.Took.the-variants.{Bytes}
 use Rattle.record.specs.declared.Count.the-variants as count
-use Rattle.record.proofs.Fronts.{at-part, list-none, list-over, list-bad, list-good}
+use Rattle.record.proofs.Fronts.{at-part, valid-only, list-none, list-over, list-bad, list-good}
 use Rattle.record.proofs.list_end.Statement.{statement}
 use Rattle.record.proofs.list_end.Tie as tie
 
@@ -22,7 +22,7 @@ counted c = rw (c .before .count .given .1) at (c .before .before .before .read-
 things : (c : tie.After-known-told2)
     → let d = c .before .before .before .before .before .before .before in
     let a = d .before .before .before .before .before .args in
-    Takes (many (reader (a .sort)) (d .before .count .given .0 .0)) (drop (d .before .count .given .0 .1 .0) (now (a .part))) (Bytes (c .before .n .given .0 .0))
+    Takes (many (validReader (layoutOf (a .c)) (a .sort)) (d .before .count .given .0 .0)) (drop (d .before .count .given .0 .1 .0) (now (a .part))) (Bytes (c .before .n .given .0 .0))
 things c =
     let d = c .before .before .before .before .before .before .before in
     at-part (now (d .before .before .before .before .before .args .part)) (d .before .count .given .0 .1 .0) (c .before .n .given .1) (c .before .before .before .items-end .ensures)
@@ -37,13 +37,13 @@ enum-told : tie.Need-enum-told
 enum-told c = search needs
 
 returns : tie.Need-returns
-returns c = list-none _ _ _ (rw (c .enum-told .given .1) at (c .before .before .read-count .ensures))
+returns c = list-none _ _ _ _ (rw (c .enum-told .given .1) at (c .before .before .read-count .ensures))
 
 most-requires : tie.Need-most-requires
 most-requires c κs = search needs
 
 returns-2 : tie.Need-returns-2
-returns-2 c = list-over _ _ _ (counted (c .before .before)) (rw (c .before .most .ensures) at (c .if1 .taken))
+returns-2 c = list-over _ _ _ _ (counted (c .before .before)) (rw (c .before .most .ensures) at (c .if1 .taken))
 
 sub-items-end : tie.Need-sub-items-end
 sub-items-end c = counted (c .before .before) .fits
@@ -66,7 +66,7 @@ enum-told-2 c = search needs
 returns-3 : tie.Need-returns-3
 returns-3 c =
     let d = c .before .before .before .before .before .before in
-    list-bad _ _ _ (counted d) (at-part (now (d .before .before .before .before .before .args .part)) (d .before .count .given .0 .1 .0) (c .enum-told2 .given .1) (c .before .before .items-end .ensures))
+    list-bad _ _ _ _ (counted d) (at-part (now (d .before .before .before .before .before .args .part)) (d .before .count .given .0 .1 .0) (c .enum-told2 .given .1) (c .before .before .items-end .ensures))
 
 add-size : tie.Need-add-size
 add-size c =
@@ -77,7 +77,8 @@ add-size c =
 returns-4 : tie.Need-returns-4
 returns-4 c =
     let e = c .before .before .before .before .before in
-    list-good _ _ _ (counted (e .before .before)) (rw (e .before .most .ensures) at (e .if1 .left)) (things c)
+    let a = e .before .before .before .before .before .before .before .args in
+    list-good _ _ _ _ (counted (e .before .before)) (valid-only (layoutOf (a .c)) (a .sort)) (rw (e .before .most .ensures) at (e .if1 .left)) (things c)
 
 pub list-end-spec : {M : Type 1} → statement M
 list-end-spec =

@@ -27,12 +27,12 @@ enum-told-2 c = search needs
 returns : tie.Need-returns
 returns c =
     let a = c .before .before .before .before .before in
-    served-bad (a .pre) (at-part (now (a .args .rec)) (a .args .at) (c .enum-told2 .given .1) (c .before .before .tokens-end .ensures))
+    served-bad _ (a .pre) (at-part (now (a .args .rec)) (a .args .at) (c .enum-told2 .given .1) (c .before .before .tokens-end .ensures .takes))
 
 tokens-at-requires : tie.Need-tokens-at-requires
 tokens-at-requires c κs =
     let a = c .before .before .before .before .before in
-    served-two (a .args .at) (now (a .args .rec)) (a .pre) (at-part (now (a .args .rec)) (a .args .at) (c .enum-told .given .1) (c .before .before .tokens-end .ensures))
+    served-two _ (a .args .at) (now (a .args .rec)) (a .pre) (at-part (now (a .args .rec)) (a .args .at) (c .enum-told .given .1) (c .before .before .tokens-end .ensures .takes))
 
 add-next : tie.Need-add-next
 add-next c = search needs
@@ -40,7 +40,7 @@ add-next c = search needs
 returns-2 : tie.Need-returns-2
 returns-2 c =
     let a = c .before .before .before .before .before .before in
-    served-good (a .pre) (at-part (now (a .args .rec)) (a .args .at) (c .before .enum-told .given .1) (c .before .before .before .tokens-end .ensures)) (c .tokens-at .ensures)
+    served-good _ (a .pre) (at-part (now (a .args .rec)) (a .args .at) (c .before .enum-told .given .1) (c .before .before .before .tokens-end .ensures .takes)) (c .tokens-at .ensures)
 
 pub read-tokens-spec : {M : Type 1} → statement M
 read-tokens-spec =

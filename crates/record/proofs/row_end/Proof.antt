@@ -24,7 +24,7 @@ enum-told : tie.Need-enum-told
 enum-told c = search needs
 
 returns : tie.Need-returns
-returns c = row-none (rw (c .enum-told .given .1) at (c .before .before .aid-end .ensures))
+returns c = row-none _ (rw (c .enum-told .given .1) at (c .before .before .aid-end .ensures))
 
 sub-tokens-end : tie.Need-sub-tokens-end
 sub-tokens-end c = front c .fits
@@ -47,18 +47,18 @@ enum-told-2 c = search needs
 returns-2 : tie.Need-returns-2
 returns-2 c =
     let d = c .before .before .before .before in
-    row-short (front d) (at-part (now (d .before .before .before .before .before .args .part)) (d .before .n .given .0 .0) (c .enum-told2 .given .1) (c .before .before .tokens-end .ensures))
+    row-short _ (front d) (at-part (now (d .before .before .before .before .before .args .part)) (d .before .n .given .0 .0) (c .enum-told2 .given .1) (c .before .before .tokens-end .ensures .takes))
 
-add-t7 : tie.Need-add-t7
-add-t7 c =
+add-t8 : tie.Need-add-t8
+add-t8 c =
     let d = c .before .before .before .before .before in
     let s = now (d .before .before .before .before .before .args .part) in
-    omega (arith, front d .fits, at-part s (d .before .n .given .0 .0) (c .before .m .given .1) (c .before .before .before .tokens-end .ensures) .fits, length-drop (d .before .n .given .0 .0) s, d .before .before .before .before .before)
+    omega (arith, front d .fits, at-part s (d .before .n .given .0 .0) (c .before .m .given .1) (c .before .before .before .tokens-end .ensures .takes) .fits, length-drop (d .before .n .given .0 .0) s, d .before .before .before .before .before)
 
 returns-3 : tie.Need-returns-3
 returns-3 c =
     let d = c .before .before .before .before .before in
-    row-good (front d) (at-part (now (d .before .before .before .before .before .args .part)) (d .before .n .given .0 .0) (c .before .m .given .1) (c .before .before .before .tokens-end .ensures))
+    row-good _ (front d) (at-part (now (d .before .before .before .before .before .args .part)) (d .before .n .given .0 .0) (c .before .m .given .1) (c .before .before .before .tokens-end .ensures .takes))
 
 pub row-end-spec : {M : Type 1} → statement M
 row-end-spec =
@@ -75,5 +75,5 @@ row-end-spec =
     enum-known-m
     enum-told-2
     returns-2
-    add-t7
+    add-t8
     returns-3)

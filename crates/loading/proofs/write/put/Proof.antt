@@ -15,7 +15,7 @@ name-requires c κs =
 open-all-requires : tie.Need-open-all-requires
 open-all-requires c κs =
     let s = c .before .before .before .before .before .before .before .before in
-    (c .before .before .before .name .ensures .laid, (s .pre .1 .0, (number-in _ _ _ _ _ _ _ (s .pre .0) _ (s .pre .1 .1 .1), s .pre .0 .valid .0)))
+    (c .before .before .before .name .ensures .laid, (s .pre .1 .0, (number-in _ _ _ _ _ _ _ (s .pre .0) _ (s .pre .1 .1 .1), s .pre .0 .within .0 .0)))
 
 meet-requires : tie.Need-meet-requires
 meet-requires c κs =

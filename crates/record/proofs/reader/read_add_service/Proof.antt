@@ -90,22 +90,24 @@ module _ {M : Type 1} (𝓤 : URA M) (H : Heap 𝓤) (A : Atoms 𝓤) (W : Given
   Post = walkOf 𝓤 H A read.ended stayed (read.clauses 𝓤 H A mem run) .post (((κ, tt), (q, tt), tt, args s n c, vals s n c), tt)
 
   abbrev to-tokens : TokensOf 𝓤 H A mem run .Ghost
-  to-tokens = (((κ, tt), (q, tt), tt, (reading s n, tt), (mach (reading s n) ∷ [], tt)), tt)
+  to-tokens = (((κ, tt), (q, tt), tt, (reading s n, (c, tt)), (mach (reading s n) ∷ [], (card c ∷ [], tt))), tt)
 
   abbrev to-joins : TokensAt → ListAt → JoinsOf 𝓤 H A mem run .Ghost
   to-joins t l = (((κ, tt), (q, tt), tt, (s, (t, (l, tt))), (part s ∷ [], (served t ∷ [], (listed l ∷ [], tt)))), tt)
 
   -- `tokens`: what it asks, and what it says
-  tokens-asks : n < 2 ^ 64 → n ≤ length (now s) → ent 𝓤 (⋆ 𝓤 H A (token κ q ∷ ‵ (Src κ s) ∷ [])) (sep 𝓤 (TokensOf 𝓤 H A mem run .pre to-tokens) (sem 𝓤 H A (Src κ s)))
-  tokens-asks fits within =
+  tokens-asks : n < 2 ^ 64 → Is K.the-row c (card c ∷ []) → n ≤ length (now s) → ent 𝓤 (⋆ 𝓤 H A (token κ q ∷ ‵ (Src κ s) ∷ [])) (sep 𝓤 (TokensOf 𝓤 H A mem run .pre to-tokens) (sem 𝓤 H A (Src κ s)))
+  tokens-asks fits is-c within =
       qed W (token κ q ∷ ‵ (Src κ s) ∷ []) ∵ move ! (1 ∷ []) $ use1 W (‵ (Own κ (reading s n)) ⊛ ‵ (Src κ s)) (made κ (reading s n) 𝓤 H A W fits) $ split ! $
       move ! (2 ∷ 0 ∷ []) $ use2 W (raw (TokensOf 𝓤 H A mem run .pre to-tokens)) pre $ frame ! $ done !
     where
       pre : ent 𝓤 (⋆ 𝓤 H A (token κ q ∷ ‵ (Own κ (reading s n)) ∷ [])) (TokensOf 𝓤 H A mem run .pre to-tokens)
-      pre = qed W (token κ q ∷ ‵ (Own κ (reading s n)) ∷ []) ∵ says ! within $ frame ! $ nothing ! $ move ! (1 ∷ 0 ∷ []) $ fjoin ! $ done !
+      pre =
+          qed W (token κ q ∷ ‵ (Own κ (reading s n)) ∷ []) ∵ says ! within $ frame ! $
+          nothing ! $ owned ! K.the-row (Is K.the-row) (EL.makes K.the-type (tt, tt) 𝓤 H A) c _ is-c $ fjoin ! $ move ! (1 ∷ 0 ∷ []) $ fjoin ! $ done !
 
-  tokens-said : (t : TokensAt) → ent 𝓤 (ensured 𝓤 H A tokens.ended (tokens.clauses 𝓤 H A mem run) (κ, tt) (reading s n, tt) tt t) (fact 𝓤 (Served n (now s) t))
-  tokens-said t = exE 𝓤 _ (λ ws. snd∗ 𝓤 (sem 𝓤 H A (lasts tokens.ended (κ, tt) (reading s n, tt) ws)) (fact 𝓤 (Served n (now s) t)))
+  tokens-said : (t : TokensAt) → ent 𝓤 (ensured 𝓤 H A tokens.ended (tokens.clauses 𝓤 H A mem run) (κ, tt) (reading s n, (c, tt)) tt t) (fact 𝓤 (Served (layoutOf c) n (now s) t))
+  tokens-said t = exE 𝓤 _ (λ ws. snd∗ 𝓤 (sem 𝓤 H A (lasts tokens.ended (κ, tt) (reading s n, (c, tt)) ws)) (fact 𝓤 (Served (layoutOf c) n (now s) t)))
 
   -- `service_of`: what it asks, and what it says
   joins-asks : (t : TokensAt) (l : ListAt) → ent 𝓤 (⋆ 𝓤 H A (token κ q ∷ ‵ (Src κ s) ∷ (‵ (S.the-row .own t (served t ∷ [])) ⊛ ‵ (I.the-row .own l (listed l ∷ []))) ∷ [])) (sep 𝓤 (JoinsOf 𝓤 H A mem run .pre (to-joins t l)) (sem 𝓤 H A (Src κ s)))
@@ -147,10 +149,10 @@ module _ {M : Type 1} (𝓤 : URA M) (H : Heap 𝓤) (A : Atoms 𝓤) (W : Given
           assigns ! (agg ! (and-then ! (load ! (from ! (stop !)) (look ! 18 refl)) (and-then ! (load ! (from ! (stop !)) (look ! 16 refl)) (no-more !)))) (from ! (stop !)) (init ! 12 refl (tt, (st .1, (record { fits = fits }, tt)))) $
           assigns ! (of-opd ! (load ! (from ! (stop !)) (look ! 12 refl))) (from ! (stop !)) (init ! 6 refl (tt, (st .1, (record { fits = fits }, tt)))) $
           -- the tokens
-          use2 W (raw (TokensOf 𝓤 H A mem run .pre to-tokens) ⊛ ‵ (Src κ s)) (tokens-asks fits within) $ split ! $
+          use2 W (raw (TokensOf 𝓤 H A mem run .pre to-tokens) ⊛ ‵ (Src κ s)) (tokens-asks fits is-c within) $ split ! $
           answers ! fm (TokensOf 𝓤 H A mem run) known-tokens to-tokens κ q S.the-row served (LL.tells S.the-type S′.the-laws)
-          (λ (t : TokensAt). ensured 𝓤 H A tokens.ended (tokens.clauses 𝓤 H A mem run) (κ, tt) (reading s n, tt) tt t) (λ u. id⊢ 𝓤 _) (Served n (now s)) tokens-said
-          (and-then ! (load ! (from ! (stop !)) (look ! 6 refl)) (no-more !)) (λ t e₁ is₁.
+          (λ (t : TokensAt). ensured 𝓤 H A tokens.ended (tokens.clauses 𝓤 H A mem run) (κ, tt) (reading s n, (c, tt)) tt t) (λ u. id⊢ 𝓤 _) (Served (layoutOf c) n (now s)) tokens-said
+          (and-then ! (load ! (from ! (stop !)) (look ! 6 refl)) (and-then ! (load ! (from ! (stop !)) (look ! 14 refl)) (no-more !))) (λ t e₁ is₁.
           land ! (from ! (stop !)) (init ! 11 refl (LL.lawful S.the-type S′.the-laws 𝓤 H A W .typed t _ is₁ .0)) $
           -- [what the tokens own; the token; what the slice owns; _9; …; _0; …]: the reader moves on, and is copied for the call
           assigns ! (of-opd ! (load ! (from ! (fld ! refl (stop !))) (look-in ! 11 (sub ! 1 refl (whole !))))) (from ! (fld ! refl (stop !))) (store-in ! 13 (sub ! 1 refl (whole !)) (tt, record { fits = next-fits t is₁ })) $

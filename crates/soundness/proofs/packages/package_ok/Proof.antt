@@ -18,4 +18,6 @@ package-ok-spec =
     (λ c κs. search places)
     (λ c. rw (← c .before .before .before .before .aid-at .ensures, ← c .before .number-of .ensures) (search tests))
     (λ c κs. search places)
-    (λ c. rw (← c .before .before .before .before .before .aid-at .ensures, ← c .before .before .number-of .ensures) (search tests)))
+    (λ c. rw (← c .before .before .before .before .before .before .aid-at .ensures, ← c .before .before .before .number-of .ensures) (search tests))
+    (λ c κs. search places)
+    (λ c. rw (← c .before .before .before .before .before .before .before .aid-at .ensures, ← c .before .before .before .before .number-of .ensures) (search tests)))

@@ -1,0 +1,171 @@
+-- Changes of the rules: the passage of an image, and histories over any number of changes.
+use Prim.Native.Nat.{ℕ, _≤_}
+use native.Mathlib.Omega.{arith}
+use native.Mathlib.Nat.{le-trans}
+use mathlib.Core.Path.{_≡_, refl, sym, ap, _∙_, subst}
+use mathlib.Core.List.{List, [], _∷_, _++_}
+use lib.Dec.{T}
+use Rattle.policy.specs.Contract.{Contract}
+use Rattle.policy.specs.Layout.{Layout, LayoutOk}
+use Rattle.policy.specs.Machine.{machine}
+use Rattle.policy.specs.Tables.{Tables, decode, encode}
+use Rattle.policy.specs.Sound.{sound}
+use Rattle.policy.specs.Judge.{Out, refusal, judge}
+use Rattle.policy.specs.History.{AllAllowed, StandsFor, answers, imageAfter, machineAnswers, contractsAfter}
+use Rattle.policy.specs.Claims.{CallsGranted, NeedsPresent}
+use Rattle.policy.specs.Eras.{carried, Widens, SameBytes, Era, lastRules, answersOver, imageOver, machineAnswersOver, contractsOver, AllPass, HistoryFrom}
+use Rattle.policy.specs.Eras.{Passage, LeftOut, Stays}
+use Rattle.policy.proofs.Formed.{Formed, Fitting, Stands}
+use Rattle.policy.proofs.LawfulCard.{calls-granted, needs-present}
+use Rattle.policy.proofs.RoundTrip.{formed-room, round-trip}
+use Rattle.policy.proofs.SoundFacts.{sound-written, sound-formed, sound-ruled, sound-lawful, sound-fitting}
+use Rattle.policy.proofs.Ruled.{ruled-allowed}
+use Rattle.policy.proofs.Step.{stands-of, image-stands, standing-allowed, unsound-refused, step}
+
+-- ---- an image that is not sound
+module _ (L : Layout) (img : List ℕ) (bad : T (sound L img) → ⊥) where
+  refuses : (ss : List (List ℕ)) (s : List ℕ) → judge L (imageAfter L img ss) s ≡ refusal 1 255 img
+  unfolding imageAfter
+  refuses [] s = unsound-refused L img s bad
+  refuses (r ∷ ss) s = ap (λ (o : Out). judge L (imageAfter L (o .bytes) ss) s) (unsound-refused L img r bad) ∙ refuses ss s
+
+  left-out : LeftOut L img
+  left-out = record { unsound = bad; refuses = refuses }
+
+-- ---- the passage
+module _ (L M : Layout) where
+  -- what stands under L has room under M
+  formed-wider : Widens L M → (t : Tables) → Formed L t → Formed M t
+  formed-wider w t f = record {
+    names = record {
+      used-lt = λ n u. le-trans (f .names .used-lt n u) (w .packages);
+      prov-lt = λ j k p. le-trans (f .names .prov-lt j k p) (w .services);
+      prov-used = f .names .prov-used;
+      aid-valid = f .names .aid-valid;
+      aid-blank = f .names .aid-blank;
+      tok-blank = f .names .tok-blank;
+      aid-inj = f .names .aid-inj;
+      tok-inj = f .names .tok-inj;
+    };
+    calls = f .calls;
+    grants = f .grants;
+    need-call = f .need-call;
+    unmet = f .unmet;
+    waiting = f .waiting;
+  }
+
+  fitting-wider : Widens L M → (t : Tables) → Fitting L t → Fitting M t
+  fitting-wider w t f = record { unmet-fits = le-trans (f .unmet-fits) (w .capacity); waiting-fits = le-trans (f .waiting-fits) (w .capacity) }
+
+  pub passage : Passage L M
+  unfolding carried
+  passage img cs f p =
+      let t = decode L img in
+      let g = formed-wider (p .widens) t (sound-formed L img (f .is-sound)) in
+      let fit = fitting-wider (p .widens) t (sound-fitting L img (f .is-sound)) in (
+        round-trip M (p .is-ok) t (formed-room M t g fit),
+        image-stands M (p .is-ok) t cs g (sound-lawful L img (f .is-sound)) fit (stands-of L img cs f) (p .allowed (standing-allowed L img cs f)),
+      )
+
+  -- ---- where the bytes stay the same
+  module _ (e : SameBytes L M) where
+    -- M's sizes with L's rules
+    abbrev between : Layout
+    between = record {
+      packages = M .packages;
+      services = M .services;
+      width = M .width;
+      capacity = M .capacity;
+      header = M .header;
+      version = L .version;
+      countWidth = L .countWidth;
+      mostRows = L .mostRows;
+      mostCallers = L .mostCallers;
+      methods = L .methods;
+    }
+
+    same-sizes : L ≡ between
+    same-sizes i = record {
+      packages = e .packages i;
+      services = e .services i;
+      width = e .width i;
+      capacity = e .capacity i;
+      header = e .header i;
+      version = L .version;
+      countWidth = L .countWidth;
+      mostRows = L .mostRows;
+      mostCallers = L .mostCallers;
+      methods = L .methods;
+    }
+
+    same-encode : (t : Tables) → encode L t ≡ encode M t
+    unfolding encode
+    same-encode t = ap (λ (z : Layout). encode z t) same-sizes
+
+    same-decode : (img : List ℕ) → decode L img ≡ decode M img
+    unfolding decode
+    same-decode img = ap (λ (z : Layout). decode z img) same-sizes
+
+    same-image : (img : List ℕ) → T (sound L img) → carried L M img ≡ img
+    unfolding carried
+    same-image img ok = sym (same-encode (decode L img)) ∙ sound-written L img ok
+
+    widens : Widens L M
+    widens = record { packages = to (e .packages); services = to (e .services); capacity = to (e .capacity) }
+      where
+        to : {m n : ℕ} → m ≡ n → m ≤ n
+        to h = omega arith
+
+    -- a sound image of M that stands for the contracts by L does so by M
+    allowed-of : (img : List ℕ) (cs : List Contract) → StandsFor L img cs → T (sound M img) → AllAllowed M cs
+    allowed-of img cs f ok = ruled-allowed M (decode M img) cs (sound-formed M img ok) (subst (λ (t : Tables). Stands t [] cs) (same-decode img) (stands-of L img cs f)) (sound-ruled M img ok)
+
+    pub stays : LayoutOk M → Stays L M
+    stays mo = record {
+      same-image = same-image;
+      goes-on = λ img cs f al. subst (λ (z : List ℕ). StandsFor M z cs) (same-image img (f .is-sound)) (passage img cs f (record { is-ok = mo; widens = widens; allowed = λ _. al }) .1);
+      left-out = λ img cs f held. left-out M img (λ ok. held (allowed-of img cs f ok));
+    }
+
+-- ---- one era
+module _ (L : Layout) (lo : LayoutOk L) where
+  equal-answers : (ss : List (List ℕ)) (img : List ℕ) (cs : List Contract) → StandsFor L img cs → answers L img ss ≡ machineAnswers L cs ss
+  unfolding answers machineAnswers
+  equal-answers [] img cs f = refl
+  equal-answers (s ∷ ss) img cs f = let p = step L lo img s cs f in λ i. p .0 i ∷ equal-answers ss (judge L img s .bytes) (machine L cs s .contracts) (p .1) i
+
+  stands-after : (ss : List (List ℕ)) (img : List ℕ) (cs : List Contract) → StandsFor L img cs → StandsFor L (imageAfter L img ss) (contractsAfter L cs ss)
+  unfolding imageAfter contractsAfter
+  stands-after [] img cs f = f
+  stands-after (s ∷ ss) img cs f = stands-after ss (judge L img s .bytes) (machine L cs s .contracts) (step L lo img s cs f .1)
+
+-- the contracts that an image stands for are lawful, as facts
+module _ (L : Layout) (img : List ℕ) (cs : List Contract) (f : StandsFor L img cs) where
+  pub standing-granted : CallsGranted cs
+  standing-granted = calls-granted L (decode L img) cs (sound-formed L img (f .is-sound)) (sound-lawful L img (f .is-sound)) (stands-of L img cs f)
+
+  pub standing-present : NeedsPresent cs
+  standing-present = needs-present L (decode L img) cs (sound-formed L img (f .is-sound)) (sound-lawful L img (f .is-sound)) (stands-of L img cs f)
+
+-- ---- histories over changes of the rules
+over-answers : (es : List Era) (L : Layout) → LayoutOk L → (img : List ℕ) (cs : List Contract) → StandsFor L img cs → (ss : List (List ℕ)) → AllPass L cs ss es
+    → (answersOver L img ss es ≡ machineAnswersOver L cs ss es) × StandsFor (lastRules L es) (imageOver L img ss es) (contractsOver L cs ss es)
+unfolding answersOver machineAnswersOver imageOver contractsOver
+over-answers [] L lo img cs f ss a = (equal-answers L lo ss img cs f, stands-after L lo ss img cs f)
+over-answers (e ∷ es) L lo img cs f ss a =
+    let M = e .rules in
+    let after = imageAfter L img ss in
+    let held = contractsAfter L cs ss in
+    let p = passage L M after held (stands-after L lo ss img cs f) (a .0) in
+    let h = over-answers es M (a .0 .is-ok) (carried L M after) held (p .1) (e .records) (a .1) in
+    (λ i. equal-answers L lo ss img cs f i ++ h .0 i, h .1)
+
+pub history-from : (L : Layout) → LayoutOk L → HistoryFrom L
+history-from L lo img cs f ss es a =
+    let h = over-answers es L lo img cs f ss a in
+    record {
+      equal-answers = h .0;
+      stands-for = h .1;
+      calls-granted = standing-granted (lastRules L es) (imageOver L img ss es) (contractsOver L cs ss es) (h .1);
+      needs-present = standing-present (lastRules L es) (imageOver L img ss es) (contractsOver L cs ss es) (h .1);
+    }

@@ -1,0 +1,120 @@
+-- Rules that change: document 01, 'Requests that change causes, effects or limits change them here, for the records judged after the
+-- change; what a history had before was judged by the rules of then, and the machine goes on with the contracts it holds.'
+use Prim.Native.Nat.{ℕ, _≤_}
+use mathlib.Core.Path.{_≡_}
+use mathlib.Core.List.{List, [], _∷_, _++_}
+use lib.Dec.{T}
+use Rattle.policy.specs.Contract.{Contract}
+use Rattle.policy.specs.Layout.{Layout, LayoutOk, base, narrow}
+use Rattle.policy.specs.Tables.{decode, encode, emptyImage}
+use Rattle.policy.specs.Sound.{sound}
+use Rattle.policy.specs.Judge.{refusal, judge}
+use Rattle.policy.specs.History.{AllAllowed, StandsFor, answers, imageAfter, machineAnswers, contractsAfter}
+use Rattle.policy.specs.Claims.{CallsGranted, NeedsPresent}
+
+-- ---- the passage from the rules L to the rules M
+-- an image of L as one of M: the same tables
+unfoldable pub carried : Layout → Layout → List ℕ → List ℕ
+unfolding decode encode
+carried L M img = encode M (decode L img)
+
+-- M has room for what stands under L
+pub record Widens (L M : Layout) : Type 0 where
+  pub packages : L .packages ≤ M .packages
+  pub services : L .services ≤ M .services
+  pub capacity : L .capacity ≤ M .capacity
+
+-- the change from L to M, with these contracts held: there is room for them, and the rules of M allow them as those of L did.
+-- R-7: 'the history promise leaves out only the histories whose card then still holds such a token'
+pub record Passes (L M : Layout) (cs : List Contract) : Type 0 where
+  pub is-ok : LayoutOk M
+  pub widens : Widens L M
+  pub allowed : AllAllowed L cs → AllAllowed M cs
+
+-- the two write the same bytes: nothing is converted
+pub record SameBytes (L M : Layout) : Type 0 where
+  pub packages : L .packages ≡ M .packages
+  pub services : L .services ≡ M .services
+  pub width : L .width ≡ M .width
+  pub capacity : L .capacity ≡ M .capacity
+  pub header : L .header ≡ M .header
+
+-- ---- histories over changes of the rules: records under the first rules, then the later eras, each on the image that the last one left
+pub record Era : Type 0 where
+  pub rules : Layout
+  pub records : List (List ℕ)
+
+abbrev pub lastRules : Layout → List Era → Layout
+lastRules L [] = L
+lastRules L (e ∷ es) = lastRules (e .rules) es
+
+unfoldable pub answersOver : Layout → List ℕ → List (List ℕ) → List Era → List ℕ
+unfolding answers imageAfter carried
+answersOver L img ss [] = answers L img ss
+answersOver L img ss (e ∷ es) = answers L img ss ++ answersOver (e .rules) (carried L (e .rules) (imageAfter L img ss)) (e .records) es
+
+unfoldable pub imageOver : Layout → List ℕ → List (List ℕ) → List Era → List ℕ
+unfolding imageAfter carried
+imageOver L img ss [] = imageAfter L img ss
+imageOver L img ss (e ∷ es) = imageOver (e .rules) (carried L (e .rules) (imageAfter L img ss)) (e .records) es
+
+-- 'the machine goes on with the contracts it holds'
+unfoldable pub machineAnswersOver : Layout → List Contract → List (List ℕ) → List Era → List ℕ
+unfolding machineAnswers contractsAfter
+machineAnswersOver L cs ss [] = machineAnswers L cs ss
+machineAnswersOver L cs ss (e ∷ es) = machineAnswers L cs ss ++ machineAnswersOver (e .rules) (contractsAfter L cs ss) (e .records) es
+
+unfoldable pub contractsOver : Layout → List Contract → List (List ℕ) → List Era → List Contract
+unfolding contractsAfter
+contractsOver L cs ss [] = contractsAfter L cs ss
+contractsOver L cs ss (e ∷ es) = contractsOver (e .rules) (contractsAfter L cs ss) (e .records) es
+
+-- every change of the rules on the way is a passage, with the contracts that the machine then holds
+abbrev pub AllPass : Layout → List Contract → List (List ℕ) → List Era → Type 0
+AllPass L cs ss [] = Unit {0}
+AllPass L cs ss (e ∷ es) = Passes L (e .rules) (contractsAfter L cs ss) × AllPass (e .rules) (contractsAfter L cs ss) (e .records) es
+
+-- ---- the claims
+pub record HistoryOver (L : Layout) (img : List ℕ) (cs : List Contract) (ss : List (List ℕ)) (es : List Era) : Type 0 where
+  pub equal-answers : answersOver L img ss es ≡ machineAnswersOver L cs ss es
+  pub stands-for : StandsFor (lastRules L es) (imageOver L img ss es) (contractsOver L cs ss es)
+  pub calls-granted : CallsGranted (contractsOver L cs ss es)
+  pub needs-present : NeedsPresent (contractsOver L cs ss es)
+
+-- demand 3 from an image that stands for contracts, over any changes of the rules
+abbrev pub HistoryFrom : Layout → Type 0
+HistoryFrom L = (img : List ℕ) (cs : List Contract) → StandsFor L img cs → (ss : List (List ℕ)) (es : List Era) → AllPass L cs ss es → HistoryOver L img cs ss es
+
+-- a passage keeps numbers and list order, since it keeps the tables whole, and the contracts that they stand for
+abbrev pub Passage : Layout → Layout → Type 0
+Passage L M = (img : List ℕ) (cs : List Contract) → StandsFor L img cs → Passes L M cs
+    → (decode M (carried L M img) ≡ decode L img) × StandsFor M (carried L M img) cs
+
+-- 'that card is unsound from then on': every record gets 1 with 255, and nothing changes
+pub record LeftOut (L : Layout) (img : List ℕ) : Type 0 where
+  pub unsound : T (sound L img) → ⊥
+  pub refuses : (ss : List (List ℕ)) (s : List ℕ) → judge L (imageAfter L img ss) s ≡ refusal 1 255 img
+
+-- where the two write the same bytes the image stays as it is: where the rules of M allow the contracts that it stands for it stands
+-- for them, else the card is left out
+pub record Stays (L M : Layout) : Type 0 where
+  pub same-image : (img : List ℕ) → T (sound L img) → carried L M img ≡ img
+  pub goes-on : (img : List ℕ) (cs : List Contract) → StandsFor L img cs → AllAllowed M cs → StandsFor M img cs
+  pub left-out : (img : List ℕ) (cs : List Contract) → StandsFor L img cs → (AllAllowed M cs → ⊥) → LeftOut M img
+
+-- ---- the card of 1,094 bytes so far: records by document 01's rules, R-7's change, records by its rules
+-- the image and the contracts at the change
+abbrev pub imageThen : List (List ℕ) → List ℕ
+imageThen ss = imageAfter base (emptyImage base) ss
+
+abbrev pub contractsThen : List (List ℕ) → List Contract
+contractsThen ss = contractsAfter base [] ss
+
+pub record SoFar : Type 0 where
+  -- demand 3, where the card then holds no method token of 128 or more
+  pub history : (ss ts : List (List ℕ)) → AllAllowed narrow (contractsThen ss) → HistoryOver base (emptyImage base) [] ss (record { rules = narrow; records = ts } ∷ [])
+  -- nothing is converted
+  pub same-image : (ss : List (List ℕ)) → carried base narrow (imageThen ss) ≡ imageThen ss
+  pub goes-on : (ss : List (List ℕ)) → AllAllowed narrow (contractsThen ss) → StandsFor narrow (imageThen ss) (contractsThen ss)
+  -- where it holds one
+  pub left-out : (ss : List (List ℕ)) → (AllAllowed narrow (contractsThen ss) → ⊥) → LeftOut narrow (imageThen ss)
