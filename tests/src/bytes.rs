@@ -1,5 +1,6 @@
 //! The byte engine: judges records on an image of 1,094 bytes, in place, by the placing rules.
-//! It shares no code with `machine`. Every entry gives the answer and the second number.
+//! It shares no code with `machine`. Every entry gives the answer and the second number. Records and
+//! images are read by the rules that are handed over.
 
 pub mod layout;
 mod lists;
@@ -9,15 +10,16 @@ mod record;
 mod sound;
 mod update;
 
+use crate::rules::Rules;
 use layout::{Image, HEADER, USED};
 use record::Change;
 
 const REFUSED: u32 = 255;
 
 /// 0 with the count of used package numbers, or 1.
-pub fn check(image: &[u8]) -> (u32, u32) {
+pub fn check(rules: Rules, image: &[u8]) -> (u32, u32) {
     match <&Image>::try_from(image) {
-        Ok(card) if sound::sound(card) => (0, card[USED].count_ones()),
+        Ok(card) if sound::sound(rules, card) => (0, card[USED].count_ones()),
         _ => (1, REFUSED),
     }
 }
@@ -36,9 +38,9 @@ pub fn empty(image: &mut [u8]) -> (u32, u32) {
 
 /// Judges a record: 0 with the package number and the image changed, or the cause with 255 and
 /// nothing changed.
-pub fn judge(image: &mut [u8], record: &[u8]) -> (u32, u32) {
+pub fn judge(rules: Rules, image: &mut [u8], record: &[u8]) -> (u32, u32) {
     match <&mut Image>::try_from(image) {
-        Ok(card) if sound::sound(card) => match judge_sound(card, record) {
+        Ok(card) if sound::sound(rules, card) => match judge_sound(rules, card, record) {
             Ok(number) => (0, number as u32),
             Err(cause) => (cause, REFUSED),
         },
@@ -46,8 +48,8 @@ pub fn judge(image: &mut [u8], record: &[u8]) -> (u32, u32) {
     }
 }
 
-fn judge_sound(image: &mut Image, bytes: &[u8]) -> Result<usize, u32> {
-    let record = record::read(bytes).ok_or(2u32)?;
+fn judge_sound(rules: Rules, image: &mut Image, bytes: &[u8]) -> Result<usize, u32> {
+    let record = record::read(rules, bytes).ok_or(2u32)?;
     if record::contradicts(&record) {
         return Err(3);
     }
@@ -71,9 +73,9 @@ fn judge_sound(image: &mut Image, bytes: &[u8]) -> Result<usize, u32> {
 }
 
 /// Writes a package's contract as a record of kind 1: 0 with its length, or 1, 5 or 12 with 0.
-pub fn read_out(image: &[u8], number: u32, out: &mut [u8]) -> (u32, u32) {
+pub fn read_out(rules: Rules, image: &[u8], number: u32, out: &mut [u8]) -> (u32, u32) {
     let Ok(card) = <&Image>::try_from(image) else { return (1, 0) };
-    if !sound::sound(card) {
+    if !sound::sound(rules, card) {
         return (1, 0);
     }
     if number >= 8 || !layout::used(card, number as usize) {
@@ -86,8 +88,8 @@ pub fn read_out(image: &[u8], number: u32, out: &mut [u8]) -> (u32, u32) {
 }
 
 /// The part of the record that is its first AID's bytes; an empty part of a malformed record.
-pub fn aid(record: &[u8]) -> &[u8] {
-    match record::read(record) {
+pub fn aid(rules: Rules, record: &[u8]) -> &[u8] {
+    match record::read(rules, record) {
         Some(read) => &read.aid[1..],
         None => &record[..0],
     }

@@ -1,6 +1,7 @@
 //! The five entries of a card engine, so that engines can be compared and timed alike.
 
 use crate::bytes;
+use crate::rules::Rules;
 use std::fmt;
 
 /// The bytes of an image.
@@ -46,8 +47,11 @@ pub trait Card {
     fn aid<'a>(&self, record: &'a [u8]) -> &'a [u8];
 }
 
-/// The byte engine of this project.
-pub struct Bytes;
+/// The byte engine of this project, by some rules.
+pub struct Bytes(pub Rules);
+
+/// The byte engine by the rules in force.
+pub const BYTES: Bytes = Bytes(Rules::IN_FORCE);
 
 impl Card for Bytes {
     fn name(&self) -> &'static str {
@@ -55,7 +59,7 @@ impl Card for Bytes {
     }
 
     fn check(&self, image: &[u8]) -> Verdict {
-        verdict(bytes::check(image))
+        verdict(bytes::check(self.0, image))
     }
 
     fn empty(&self, image: &mut [u8]) -> Verdict {
@@ -63,15 +67,15 @@ impl Card for Bytes {
     }
 
     fn judge(&self, image: &mut [u8], record: &[u8]) -> Verdict {
-        verdict(bytes::judge(image, record))
+        verdict(bytes::judge(self.0, image, record))
     }
 
     fn read_out(&self, image: &[u8], number: u32, out: &mut [u8]) -> Verdict {
-        verdict(bytes::read_out(image, number, out))
+        verdict(bytes::read_out(self.0, image, number, out))
     }
 
     fn aid<'a>(&self, record: &'a [u8]) -> &'a [u8] {
-        bytes::aid(record)
+        bytes::aid(self.0, record)
     }
 }
 
@@ -118,7 +122,7 @@ pub fn names(cards: &[&dyn Card]) -> String {
 /// Every engine that is linked. The byte engine comes first; the others are held to it.
 pub fn linked() -> Vec<&'static dyn Card> {
     vec![
-        &Bytes,
+        &BYTES,
         #[cfg(feature = "engine")]
         &Engine,
     ]

@@ -1,14 +1,17 @@
 //! What is compared after each record: the plain machine, the byte engine, and every other engine.
 
-use crate::card::{Card, Verdict, IMAGE, LONGEST_RECORD};
+use crate::card::{Bytes, Card, Verdict, IMAGE, LONGEST_RECORD};
 use crate::damage::Damage;
 use crate::hex::to_hex;
+use crate::history::Event;
 use crate::machine::record::{self, Lists};
 use crate::machine::{Change, Contract, Machine};
+use crate::methods::{self, Held, Place};
 use crate::pairs::{possible, Kind, Pairs};
 use crate::random::Random;
+use crate::rules::Rules;
 use crate::tables;
-use std::collections::BTreeSet;
+use std::collections::{BTreeMap, BTreeSet};
 use std::fmt;
 use std::hint::black_box;
 
@@ -58,11 +61,34 @@ pub struct Tally {
     /// Records after which 8 packages were installed, and after which one had 8 services.
     pub eight_packages: u64,
     pub eight_services: u64,
+    /// Records before a change of the rules, which are not among `records`.
+    pub before: u64,
+    /// Histories over the last change: those whose card then holds what the rules in force exclude, those whose card goes
+    /// on, and among these those whose card held such a thing before.
+    pub left_out: u64,
+    pub gone_on: u64,
+    pub cleared: u64,
+    /// By their places in records: method tokens of 127 that are read, and of 128 where nothing else is wrong.
+    pub methods: BTreeMap<Place, [u64; 2]>,
+    /// Method tokens that damage sets to 127 on an image that stays sound, and to 128: of services, and of unmet calls.
+    pub methods_held: [[u64; 2]; 2],
 }
+
+/// The byte engine alone, by each of the rules before those in force.
+const BEFORE: [&[&dyn Card]; Rules::ALL.len() - 1] = [&[&Bytes(Rules::DOCUMENT_01)]];
 
 /// One card in every engine, and the machine beside them.
 pub struct Compare<'a> {
+    /// The engines that judge by the rules in force.
+    linked: &'a [&'a dyn Card],
+    /// Those that judge by the rules of the time: before the last change, the byte engine alone.
     cards: &'a [&'a dyn Card],
+    /// Which of all rules are those of the time.
+    time: usize,
+    /// Whether the card held, at a change, what the new rules exclude. It is unsound from then on.
+    pub left_out: bool,
+    /// Whether the card ever held, before a change, what the rules in force exclude.
+    held_excluded: bool,
     pub machine: Machine,
     /// The image, the same in every engine.
     pub image: Vec<u8>,
@@ -70,7 +96,16 @@ pub struct Compare<'a> {
 }
 
 impl<'a> Compare<'a> {
+    /// An empty card, by the rules in force.
     pub fn new(cards: &'a [&'a dyn Card], seed: u64) -> Result<Compare<'a>, String> {
+        Compare::before(cards, seed, 0)
+    }
+
+    /// An empty card, by the rules before so many changes.
+    pub fn before(cards: &'a [&'a dyn Card], seed: u64, changes: usize) -> Result<Compare<'a>, String> {
+        expect!(changes <= BEFORE.len(), "the rules have changed {} times, not {changes}", BEFORE.len());
+        let time = BEFORE.len() - changes;
+        let (linked, cards) = (cards, BEFORE.get(time).copied().unwrap_or(cards));
         let mut image = vec![0; IMAGE];
         image[..3].copy_from_slice(&[0x04, 0x46, 0x01]);
         for card in cards {
@@ -79,16 +114,76 @@ impl<'a> Compare<'a> {
             expect!(verdict == Verdict::new(0, 0), "{}: writing the empty image gives {verdict:?}", card.name());
             expect!(written == image, "{}: the empty image is {}", card.name(), to_hex(&written));
         }
-        Ok(Compare { cards, machine: Machine::default(), image, seed })
+        Ok(Compare {
+            linked,
+            cards,
+            time,
+            left_out: false,
+            held_excluded: false,
+            machine: Machine::default(),
+            image,
+            seed,
+        })
     }
 
-    /// Judges a record and compares all that the paper determines.
+    /// The rules of the time.
+    fn rules(&self) -> Rules {
+        Rules::ALL[self.time]
+    }
+
+    /// Whether the last change is past.
+    pub fn in_force(&self) -> bool {
+        self.time == BEFORE.len()
+    }
+
+    pub fn event(&mut self, event: &Event, tally: &mut Tally) -> Result<(), Difference> {
+        match event {
+            Event::Record(bytes) => self.step(bytes, tally).map(|_| ()),
+            Event::Change => self.change(tally),
+        }
+    }
+
+    /// The next rules come into force: their engines get the image's bytes as they are, and the machine goes on with the
+    /// contracts it holds. A card with a token that these rules exclude is unsound from then on.
+    pub fn change(&mut self, tally: &mut Tally) -> Result<(), Difference> {
+        self.time += 1;
+        self.cards = BEFORE.get(self.time).copied().unwrap_or(self.linked);
+        self.left_out |= !self.machine.keeps_to(self.rules());
+        if self.left_out {
+            self.refused_alike(&[], tally)?;
+        } else {
+            let stands_for = tables::contracts(self.rules(), &self.image);
+            if stands_for.as_ref() != Some(&self.machine) {
+                return Err("the image stands for other contracts after the change".to_string().into());
+            }
+            self.check_alike()?;
+            self.read_out_alike(&mut Random::of_bytes(self.seed, &self.image), tally)?;
+        }
+        if self.in_force() {
+            *(if self.left_out { &mut tally.left_out } else { &mut tally.gone_on }) += 1;
+            tally.cleared += u64::from(self.held_excluded && !self.left_out);
+        }
+        Ok(())
+    }
+
+    /// Judges a record and compares all that the paper determines. Before the last change, judging alone is compared.
     pub fn step(&mut self, bytes: &[u8], tally: &mut Tally) -> Result<Verdict, Difference> {
-        let verdict = self.judge(bytes, &mut tally.pairs)?;
+        if !self.in_force() {
+            tally.before += 1;
+            let verdict = self.judge(bytes, &mut Pairs::default())?;
+            self.held_excluded |= !self.machine.keeps_to(Rules::IN_FORCE);
+            return Ok(verdict);
+        }
+        let verdict = match self.left_out {
+            true => self.refused_alike(bytes, tally)?,
+            false => self.judge(bytes, &mut tally.pairs)?,
+        };
         let mut random = Random::of_bytes(self.seed, &[&self.image, bytes].concat());
         let before = self.image.clone();
-        self.check_alike()?;
-        self.read_out_alike(&mut random, tally)?;
+        if !self.left_out {
+            self.check_alike()?;
+            self.read_out_alike(&mut random, tally)?;
+        }
         self.aid_alike(bytes)?;
         if *black_box(&self.image) != before {
             return Err("an image that was lent to be read is changed".to_string().into());
@@ -96,15 +191,32 @@ impl<'a> Compare<'a> {
         for draw in [Damage::one_byte, Damage::two_bytes, Damage::one_byte, Damage::two_bytes] {
             self.damaged_alike(&draw(&self.image, &mut random), bytes, tally)?;
         }
-        self.count(tally);
+        self.count(bytes, tally);
         Ok(verdict)
+    }
+
+    /// A card that holds what the rules exclude is refused by every entry, whatever the record is, and left as it was.
+    fn refused_alike(&self, bytes: &[u8], tally: &mut Tally) -> Result<Verdict, String> {
+        let sound = tables::contracts(self.rules(), &self.image).is_some();
+        expect!(!sound, "the tests' own reader takes a card for sound that holds what the rules exclude");
+        tally.pairs.count(Kind::of(bytes), 1);
+        for card in self.cards {
+            unsound(*card, &self.image, bytes)?;
+            for number in (0..9).chain([255, u32::MAX]) {
+                let mut buffer = FILL;
+                let read = card.read_out(&self.image, number, &mut buffer);
+                let refused = read == Verdict::new(1, 0) && buffer == FILL;
+                expect!(refused, "{}: reading {number} of the unsound image out gives {read:?}", card.name());
+            }
+        }
+        Ok(Verdict::new(1, 255))
     }
 
     /// Judges a record. Answers are equal, other engines give what the first gives to the byte, a refusal changes
     /// nothing, and the tables stand for the machine's contracts.
     pub fn judge(&mut self, bytes: &[u8], pairs: &mut Pairs) -> Result<Verdict, String> {
         let before = self.image.clone();
-        let answer = self.machine.judge(bytes);
+        let answer = self.machine.judge(self.rules(), bytes);
         let kind = Kind::of(bytes);
         pairs.count(kind, answer);
         expect!(possible(kind, answer), "the paper has no answer {answer} to kind {kind}");
@@ -130,14 +242,14 @@ impl<'a> Compare<'a> {
         }
         let verdict = first.ok_or("no engine")?;
         if answer == 0 {
-            let named = record::read(bytes).ok().map(|record| record.aid);
+            let named = record::read(self.rules(), bytes).ok().map(|record| record.aid);
             let numbered = if kind == Kind::Known(2) { &before } else { &self.image };
             expect!(tables::aid_at(numbered, verdict.second) == named, "{verdict:?} has not the package's number");
         } else {
             expect!(verdict.second == 255, "{verdict:?} is a refusal without 255");
             expect!(self.image == before, "{verdict:?} is a refusal that changes the image");
         }
-        let stands_for = tables::contracts(&self.image);
+        let stands_for = tables::contracts(self.rules(), &self.image);
         expect!(stands_for.is_some(), "the image is not sound after {verdict:?}");
         let same = stands_for.as_ref() == Some(&self.machine);
         expect!(same, "the image stands for other contracts after {verdict:?}");
@@ -155,7 +267,7 @@ impl<'a> Compare<'a> {
     }
 
     /// Every number reads out as the contract that the machine holds, alike in every engine.
-    fn read_out_alike(&self, random: &mut Random, tally: &mut Tally) -> Result<(), String> {
+    fn contracts_alike(&self, tally: &mut Tally) -> Result<(), String> {
         for number in 0..8 {
             let used = self.image[3] >> number & 1 == 1;
             let first = self.read_out_one(self.cards[0], number, LONGEST_RECORD)?;
@@ -166,6 +278,12 @@ impl<'a> Compare<'a> {
             tally.contracts_read += u64::from(used);
             expect!(used != first.is_empty(), "package {number} reads out as {}", to_hex(&first));
         }
+        Ok(())
+    }
+
+    /// Numbers read out alike, into buffers of every sort.
+    fn read_out_alike(&self, random: &mut Random, tally: &mut Tally) -> Result<(), String> {
+        self.contracts_alike(tally)?;
         let number = random.below(8) as u32;
         let whole = self.read_out_one(self.cards[0], number, LONGEST_RECORD)?;
         let unused = [8, 9, 255, 256 + number, 65_536 + number, u32::MAX][random.below(6)];
@@ -200,7 +318,7 @@ impl<'a> Compare<'a> {
         expect!(verdict.answer == 0 && length <= size, "{}", place());
         expect!(buffer[length..] == FILL[length..size], "{} and writes past the record", place());
         buffer.truncate(length);
-        let Ok(read) = record::read(&buffer) else {
+        let Ok(read) = record::read(self.rules(), &buffer) else {
             return Err(format!("{} and a malformed record {}", place(), to_hex(&buffer)));
         };
         let Change::Load(lists) = &read.change else {
@@ -213,7 +331,7 @@ impl<'a> Compare<'a> {
 
     /// The first AID's part of the record is where the machine reads it, or empty.
     fn aid_alike(&self, bytes: &[u8]) -> Result<(), String> {
-        let read = record::read(bytes);
+        let read = record::read(self.rules(), bytes);
         for card in self.cards {
             let part = card.aid(bytes);
             let same = match &read {
@@ -228,14 +346,16 @@ impl<'a> Compare<'a> {
     /// Engines agree on a damaged image, with the tests' own reader and with the machine.
     pub fn damaged_alike(&self, damage: &Damage, bytes: &[u8], tally: &mut Tally) -> Result<(), Difference> {
         let image = damage.done_to(&self.image);
-        let outcome = match tables::contracts(&image) {
+        let stands_for = tables::contracts(self.rules(), &image);
+        let held = self.held_at(damage);
+        count_damage(damage, held, stands_for.is_some(), tally);
+        let outcome = match stands_for {
             Some(machine) => {
-                tally.damaged_sound += 1;
-                let damaged = Compare { cards: self.cards, machine, image, seed: self.seed };
-                damaged.sound_alike(bytes, tally)
+                let mut damaged = Compare { machine, image, left_out: false, ..*self };
+                let read = if held.is_some() { damaged.contracts_alike(tally) } else { Ok(()) };
+                read.and_then(|()| damaged.sound_alike(bytes, tally))
             }
             None => {
-                tally.damaged_unsound += 1;
                 tally.pairs.count(Kind::of(bytes), 1);
                 self.cards.iter().try_for_each(|card| unsound(*card, &image, bytes))
             }
@@ -244,14 +364,30 @@ impl<'a> Compare<'a> {
     }
 
     /// A damaged image that is sound is a card like any other.
-    fn sound_alike(mut self, bytes: &[u8], tally: &mut Tally) -> Result<(), String> {
+    fn sound_alike(&mut self, bytes: &[u8], tally: &mut Tally) -> Result<(), String> {
         self.check_alike()?;
         self.judge(bytes, &mut tally.pairs)?;
         self.check_alike()
     }
 
-    fn count(&self, tally: &mut Tally) {
+    /// The part of the image whose method token is the one byte that the damage sets.
+    fn held_at(&self, damage: &Damage) -> Option<Held> {
+        let [(at, _)] = damage.0[..] else { return None };
+        methods::of_image(&self.image).into_iter().find(|(_, place)| *place == at).map(|(held, _)| held)
+    }
+
+    fn count(&self, bytes: &[u8], tally: &mut Tally) {
         tally.records += 1;
+        for (place, at) in methods::of_record(bytes) {
+            let seen = match bytes[at] {
+                127 => record::read(self.rules(), bytes).is_ok().then_some(0),
+                128 => record::read(Rules::DOCUMENT_01, bytes).is_ok().then_some(1),
+                _ => None,
+            };
+            if let Some(seen) = seen {
+                tally.methods.entry(place).or_default()[seen] += 1;
+            }
+        }
         let (unmet, waiting) = (self.machine.unmet().count(), self.machine.waiting().count());
         for (n, count) in [15, 16].into_iter().enumerate() {
             tally.unmet[n] += u64::from(unmet == count);
@@ -260,6 +396,18 @@ impl<'a> Compare<'a> {
         let contracts = &self.machine.contracts;
         tally.eight_packages += u64::from(contracts.len() == 8);
         tally.eight_services += u64::from(contracts.values().any(|contract| contract.provides.len() == 8));
+    }
+}
+
+fn count_damage(damage: &Damage, held: Option<Held>, sound: bool, tally: &mut Tally) {
+    *(if sound { &mut tally.damaged_sound } else { &mut tally.damaged_unsound }) += 1;
+    if let Some(held) = held {
+        let counts = &mut tally.methods_held[usize::from(held == Held::Unmet)];
+        match (damage.0[0].1, sound) {
+            (127, true) => counts[0] += 1,
+            (128, false) => counts[1] += 1,
+            _ => {}
+        }
     }
 }
 

@@ -1,5 +1,6 @@
 //! Damage to images: one or two bytes, where they are likely to tell.
 
+use crate::methods;
 use crate::random::Random;
 
 /// Bytes put at places of an image.
@@ -7,8 +8,13 @@ use crate::random::Random;
 pub struct Damage(pub Vec<(usize, u8)>);
 
 impl Damage {
-    /// One byte changed.
+    /// One byte changed: anywhere, or a method token to one around 128.
     pub fn one_byte(image: &[u8], random: &mut Random) -> Damage {
+        if random.percent(15) {
+            if let Some((_, at)) = random.pick(&methods::of_image(image)) {
+                return Damage(vec![(*at, [126, 127, 127, 128, 128, 129, 255][random.below(7)])]);
+            }
+        }
         let at = place(image, random);
         Damage(vec![(at, changed(image[at], random))])
     }

@@ -1,9 +1,9 @@
 //! Engines that are wrong on purpose, each in one way, to show that the comparison finds it: the
 //! paper's list of what a reviewer will try, its misreadings of the report, and a few more.
 
-use crate::bytes;
-use crate::card::{Bytes, Card, Verdict, IMAGE};
+use crate::card::{Card, Verdict, BYTES, IMAGE};
 use crate::program::Failure;
+use crate::rules::Rules;
 
 /// The byte engine with one of its entries replaced.
 pub struct Fault {
@@ -27,35 +27,35 @@ impl Card for Fault {
     fn check(&self, image: &[u8]) -> Verdict {
         match self.entry {
             Entry::Check(check) => check(image),
-            _ => Bytes.check(image),
+            _ => BYTES.check(image),
         }
     }
 
     fn empty(&self, image: &mut [u8]) -> Verdict {
         match self.entry {
             Entry::Empty(empty) => empty(image),
-            _ => Bytes.empty(image),
+            _ => BYTES.empty(image),
         }
     }
 
     fn judge(&self, image: &mut [u8], record: &[u8]) -> Verdict {
         match self.entry {
             Entry::Judge(judge) => judge(image, record),
-            _ => Bytes.judge(image, record),
+            _ => BYTES.judge(image, record),
         }
     }
 
     fn read_out(&self, image: &[u8], number: u32, out: &mut [u8]) -> Verdict {
         match self.entry {
             Entry::ReadOut(read_out) => read_out(image, number, out),
-            _ => Bytes.read_out(image, number, out),
+            _ => BYTES.read_out(image, number, out),
         }
     }
 
     fn aid<'a>(&self, record: &'a [u8]) -> &'a [u8] {
         match self.entry {
             Entry::Aid(aid) => aid(record),
-            _ => Bytes.aid(record),
+            _ => BYTES.aid(record),
         }
     }
 }
@@ -65,7 +65,10 @@ pub const FAULTS: &[Fault] = &[
     Fault { name: "changes-once", entry: Entry::Judge(changes_once) },
     Fault { name: "ten-uncounted", entry: Entry::Judge(ten_uncounted) },
     Fault { name: "made-up-number", entry: Entry::Judge(made_up_number) },
-    Fault { name: "always-yes", entry: Entry::Judge(|image, record| Verdict::new(0, bytes::judge(image, record).1)) },
+    Fault {
+        name: "always-yes",
+        entry: Entry::Judge(|image, record| Verdict::new(0, BYTES.judge(image, record).second)),
+    },
     Fault { name: "always-no", entry: Entry::Judge(|_, _| Verdict::new(2, 255)) },
     Fault { name: "refusal-writes", entry: Entry::Judge(refusal_writes) },
     Fault { name: "grants-lost", entry: Entry::Judge(grants_lost) },
@@ -74,7 +77,7 @@ pub const FAULTS: &[Fault] = &[
     Fault { name: "judges-unsound", entry: Entry::Judge(judges_unsound) },
     Fault { name: "panics", entry: Entry::Judge(panics) },
     Fault { name: "last-byte-unchecked", entry: Entry::Check(last_byte_unchecked) },
-    Fault { name: "count-forgotten", entry: Entry::Check(|image| Verdict::new(bytes::check(image).0, 0)) },
+    Fault { name: "count-forgotten", entry: Entry::Check(|image| Verdict::new(BYTES.check(image).answer, 0)) },
     Fault { name: "empty-any-length", entry: Entry::Empty(empty_any_length) },
     Fault { name: "past-the-record", entry: Entry::ReadOut(past_the_record) },
     Fault { name: "made-up-length", entry: Entry::ReadOut(made_up_length) },
@@ -92,13 +95,13 @@ pub fn named(name: &str) -> Result<&'static dyn Card, Failure> {
 
 /// Judges rightly, but never changes the image.
 fn never_changes(image: &mut [u8], record: &[u8]) -> Verdict {
-    Bytes.judge(&mut image.to_vec(), record)
+    BYTES.judge(&mut image.to_vec(), record)
 }
 
 /// Changes the empty image, and afterwards just answers.
 fn changes_once(image: &mut [u8], record: &[u8]) -> Verdict {
     match image.get(3) {
-        Some(0) => Bytes.judge(image, record),
+        Some(0) => BYTES.judge(image, record),
         _ => never_changes(image, record),
     }
 }
@@ -106,7 +109,7 @@ fn changes_once(image: &mut [u8], record: &[u8]) -> Verdict {
 /// Gives 10 for a call that would be the 16th unmet one.
 fn ten_uncounted(image: &mut [u8], record: &[u8]) -> Verdict {
     let before = image.to_vec();
-    let verdict = Bytes.judge(image, record);
+    let verdict = BYTES.judge(image, record);
     if verdict.answer == 0 && before[468] == 15 && image[468] == 16 {
         image.copy_from_slice(&before);
         return Verdict::new(10, 255);
@@ -115,7 +118,7 @@ fn ten_uncounted(image: &mut [u8], record: &[u8]) -> Verdict {
 }
 
 fn made_up_number(image: &mut [u8], record: &[u8]) -> Verdict {
-    match Bytes.judge(image, record) {
+    match BYTES.judge(image, record) {
         Verdict { answer: 0, .. } => Verdict::new(0, 0),
         refused => refused,
     }
@@ -123,7 +126,7 @@ fn made_up_number(image: &mut [u8], record: &[u8]) -> Verdict {
 
 /// Sets the call's bit before it looks for the grant, and leaves it.
 fn refusal_writes(image: &mut [u8], record: &[u8]) -> Verdict {
-    let verdict = Bytes.judge(image, record);
+    let verdict = BYTES.judge(image, record);
     if verdict.answer == 8 && record[3] == 5 {
         image[276] |= 1;
     }
@@ -132,7 +135,7 @@ fn refusal_writes(image: &mut [u8], record: &[u8]) -> Verdict {
 
 /// Forgets the grants to a removed package.
 fn grants_lost(image: &mut [u8], record: &[u8]) -> Verdict {
-    let verdict = Bytes.judge(image, record);
+    let verdict = BYTES.judge(image, record);
     if verdict.answer == 0 && record[3] == 2 {
         let written = &record[4..];
         while image[789] > 0 {
@@ -149,7 +152,7 @@ fn grants_lost(image: &mut [u8], record: &[u8]) -> Verdict {
 
 /// Puts the last two unmet calls after a removal the other way round.
 fn rows_swapped(image: &mut [u8], record: &[u8]) -> Verdict {
-    let verdict = Bytes.judge(image, record);
+    let verdict = BYTES.judge(image, record);
     if verdict.answer == 0 && record[3] == 2 && image[468] >= 2 {
         let end = 469 + 20 * usize::from(image[468]);
         image[end - 40..end].rotate_left(20);
@@ -163,19 +166,19 @@ fn left_over_read(image: &mut [u8], record: &[u8]) -> Verdict {
         [high, low, ..] => usize::from(*high) * 256 + usize::from(*low),
         _ => record.len(),
     };
-    Bytes.judge(image, &record[..length.min(record.len())])
+    BYTES.judge(image, &record[..length.min(record.len())])
 }
 
 /// Looks at the record before the image.
 fn judges_unsound(image: &mut [u8], record: &[u8]) -> Verdict {
-    match crate::machine::record::read(record) {
+    match crate::machine::record::read(Rules::IN_FORCE, record) {
         Err(_) => Verdict::new(2, 255),
-        Ok(_) => Bytes.judge(image, record),
+        Ok(_) => BYTES.judge(image, record),
     }
 }
 
 fn panics(image: &mut [u8], record: &[u8]) -> Verdict {
-    let verdict = Bytes.judge(image, record);
+    let verdict = BYTES.judge(image, record);
     assert_ne!(verdict.answer, 9, "on purpose");
     verdict
 }
@@ -185,18 +188,18 @@ fn last_byte_unchecked(image: &[u8]) -> Verdict {
     if image.len() == IMAGE && image[789] < 16 {
         image[IMAGE - 1] = 0;
     }
-    Bytes.check(&image)
+    BYTES.check(&image)
 }
 
 fn empty_any_length(image: &mut [u8]) -> Verdict {
     match image.len() >= IMAGE {
-        true => Bytes.empty(&mut image[..IMAGE]),
+        true => BYTES.empty(&mut image[..IMAGE]),
         false => Verdict::new(1, 255),
     }
 }
 
 fn past_the_record(image: &[u8], number: u32, out: &mut [u8]) -> Verdict {
-    let verdict = Bytes.read_out(image, number, out);
+    let verdict = BYTES.read_out(image, number, out);
     if let (0, Some(past)) = (verdict.answer, out.get_mut(verdict.second as usize)) {
         *past = 0;
     }
@@ -204,18 +207,18 @@ fn past_the_record(image: &[u8], number: u32, out: &mut [u8]) -> Verdict {
 }
 
 fn made_up_length(image: &[u8], number: u32, out: &mut [u8]) -> Verdict {
-    match Bytes.read_out(image, number, out) {
+    match BYTES.read_out(image, number, out) {
         Verdict { answer: 0, .. } => Verdict::new(0, out.len() as u32),
         refused => refused,
     }
 }
 
 fn number_cut(image: &[u8], number: u32, out: &mut [u8]) -> Verdict {
-    Bytes.read_out(image, number & 0xFF, out)
+    BYTES.read_out(image, number & 0xFF, out)
 }
 
 fn aid_with_length(record: &[u8]) -> &[u8] {
-    match Bytes.aid(record).len() {
+    match BYTES.aid(record).len() {
         0 => &record[..0],
         length => &record[4..5 + length],
     }

@@ -1,7 +1,7 @@
 //! A nearly full card to time records on: 8 packages, each naming services of the others, and
 //! 15 rows in each list. AIDs have 16 bytes and differ at the end.
 
-use crate::card::{Bytes, Card, IMAGE};
+use crate::card::{Card, BYTES, IMAGE};
 use crate::write::{add_service, load, remove, remove_service, update, Row, Tokens};
 
 /// The package that kinds 1 and 2 load and remove.
@@ -29,7 +29,7 @@ pub struct Timed {
 pub fn timed() -> Vec<Timed> {
     let before = card_without_last();
     let mut full = before.clone();
-    assert_eq!(Bytes.judge(&mut full, &load_last()).answer, 0);
+    assert_eq!(BYTES.judge(&mut full, &load_last()).answer, 0);
     let (own, next) = (package(0), package(1));
     let callers: Vec<Vec<u8>> = (1..8).map(package).chain([stranger(99)]).collect();
     let on_full = |kind, name, operations, record| Timed { kind, name, operations, image: full.clone(), record };
@@ -85,9 +85,9 @@ fn card_without_last() -> Vec<u8> {
     records.push(update(7, &package(0), &stranger(10), LONELY));
 
     let mut image = vec![0; IMAGE];
-    Bytes.empty(&mut image);
+    BYTES.empty(&mut image);
     for record in records {
-        assert_eq!(Bytes.judge(&mut image, &record).answer, 0);
+        assert_eq!(BYTES.judge(&mut image, &record).answer, 0);
     }
     image
 }
@@ -106,6 +106,7 @@ fn load_last() -> Vec<u8> {
 mod tests {
     use super::*;
     use crate::card::linked;
+    use crate::rules::Rules;
     use crate::tables;
 
     #[test]
@@ -114,7 +115,7 @@ mod tests {
             let image = &timed.image;
             let packages = if timed.kind == 1 { 7 } else { 8 };
             assert_eq!((image[3].count_ones(), image[468], image[789]), (packages, 15, 15));
-            let card = tables::contracts(image).expect("a sound image");
+            let card = tables::contracts(Rules::IN_FORCE, image).expect("a sound image");
             for (aid, contract) in &card.contracts {
                 let others = card.contracts.keys().filter(|other| *other != aid);
                 let names = |other| contract.calls.iter().chain(&contract.grants).any(|row| row.other == other);

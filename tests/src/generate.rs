@@ -1,5 +1,6 @@
 //! Random histories. A history has few AIDs and tokens, so that packages name each other; most
-//! records fit the contracts held, some name things at random, and some are spoiled.
+//! records fit the contracts held, some name things at random, and some are spoiled. A part of the histories begins
+//! before a change of the rules.
 
 mod fit;
 mod loose;
@@ -7,6 +8,7 @@ mod spoil;
 
 use crate::machine::{Aid, Machine, Tokens};
 use crate::random::Random;
+use crate::rules::Rules;
 use crate::write;
 
 /// Where a history is driven to.
@@ -36,8 +38,38 @@ impl Source {
         let mut random = Random::new(seed.wrapping_mul(0x1000_0000_01B3).wrapping_add(ordinal));
         let drives = [Drive::Mixed, Drive::Lists, Drive::Packages, Drive::Services];
         let drive = drives[random.below(drives.len())];
-        let (aids, tokens) = (few_aids(&mut random), few_tokens(&mut random));
+        let (aids, tokens) = (few_aids(&mut random), few_tokens(&mut random, Rules::IN_FORCE, Vec::new()));
         Source { random, drive, aids, tokens }
+    }
+
+    /// Whether the history begins before the last change of the rules. Its tokens are then those of that time.
+    pub fn begins_before(&mut self) -> bool {
+        let before = self.random.percent(25);
+        if before {
+            self.tokens = few_tokens(&mut self.random, Rules::DOCUMENT_01, Vec::new());
+        }
+        before
+    }
+
+    /// How many records come before the change.
+    pub fn length_before(&mut self) -> usize {
+        self.random.between(1, 60)
+    }
+
+    /// Whether what the rules in force exclude is taken off the card before the change.
+    pub fn clears(&mut self) -> bool {
+        self.random.percent(60)
+    }
+
+    /// From the change on the tokens are those of the rules in force.
+    pub fn change(&mut self) {
+        self.tokens.retain(|tokens| tokens.method <= Rules::IN_FORCE.most_method);
+        self.tokens = few_tokens(&mut self.random, Rules::IN_FORCE, std::mem::take(&mut self.tokens));
+    }
+
+    /// How many records a card gets that the rules in force exclude.
+    pub fn length_left_out(&mut self) -> usize {
+        self.random.between(10, 30)
     }
 
     /// How many records the history has.
@@ -49,11 +81,11 @@ impl Source {
     pub fn record(&mut self, held: &Machine) -> Vec<u8> {
         match self.random.below(100) {
             0..=1 => spoil::noise(&mut self.random),
-            2..=9 => {
+            2..=11 => {
                 let good = self.good_record(held);
                 spoil::spoiled(good, &mut self.random)
             }
-            10 => self.long_record(),
+            12 => self.long_record(),
             _ => self.good_record(held),
         }
     }
@@ -133,11 +165,18 @@ fn few_aids(random: &mut Random) -> Vec<Aid> {
     aids
 }
 
-/// Ten token pairs: two more than a package has services.
-fn few_tokens(random: &mut Random) -> Vec<Tokens> {
-    let mut tokens = vec![Tokens { interface: 0, method: 0 }, Tokens { interface: 255, method: 255 }];
+/// Ten token pairs, those given among them: two more than a package has services. Methods are around 128 and at the
+/// rules' end too, and interfaces, which have no such end, are around 128 and at 255.
+fn few_tokens(random: &mut Random, rules: Rules, given: Vec<Tokens>) -> Vec<Tokens> {
+    let most = rules.most_method;
+    let around: Vec<u8> = [126, 127, 128, 129, most].into_iter().filter(|method| *method <= most).collect();
+    let mut tokens = given;
     while tokens.len() < 10 {
-        let any = Tokens { interface: random.below(3) as u8, method: random.below(5) as u8 };
+        let edge = random.percent(25);
+        let interface = if edge { [127, 128, 255][random.below(3)] } else { random.below(3) as u8 };
+        let edge = tokens.is_empty() || random.percent(35);
+        let method = if edge { around[random.below(around.len())] } else { random.below(5) as u8 };
+        let any = Tokens { interface, method };
         if !tokens.contains(&any) {
             tokens.push(any);
         }

@@ -1,8 +1,9 @@
 //! A second engine, written from the paper alone, and what compares it with the proved engine.
 
-// The second engine, twice: `machine` and `bytes` share no code.
+// The second engine, twice: `machine` and `bytes` share no code. Both are handed the rules to judge by.
 pub mod bytes;
 pub mod machine;
+pub mod rules;
 
 // The proved engine, and what makes engines alike for the comparison.
 pub mod card;
@@ -15,6 +16,8 @@ pub mod compare;
 pub mod damage;
 pub mod faults;
 pub mod generate;
+pub mod history;
+pub mod methods;
 pub mod pairs;
 pub mod run;
 pub mod shrink;

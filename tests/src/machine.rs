@@ -7,6 +7,7 @@ pub mod record;
 pub use contract::{Aid, Contract, Row, Tokens};
 pub use record::{Change, Record};
 
+use crate::rules::Rules;
 use std::collections::BTreeMap;
 
 const MOST_PACKAGES: usize = 8;
@@ -21,10 +22,10 @@ pub struct Machine {
 }
 
 impl Machine {
-    /// Judges a record and keeps its change if it is accepted. The answer is the first cause that
-    /// applies, or 0.
-    pub fn judge(&mut self, bytes: &[u8]) -> u32 {
-        let Ok(record) = record::read(bytes) else { return 2 };
+    /// Judges a record by the rules of its time and keeps its change if it is accepted. The answer is the
+    /// first cause that applies, or 0.
+    pub fn judge(&mut self, rules: Rules, bytes: &[u8]) -> u32 {
+        let Ok(record) = record::read(rules, bytes) else { return 2 };
         if record::contradiction(&record).is_some() {
             return 3;
         }
@@ -104,7 +105,7 @@ impl Machine {
     }
 
     /// Every call on the card, after its caller.
-    fn calls(&self) -> impl Iterator<Item = (&Aid, &Row)> {
+    pub fn calls(&self) -> impl Iterator<Item = (&Aid, &Row)> {
         self.contracts.iter().flat_map(|(aid, contract)| contract.calls.iter().map(move |call| (aid, call)))
     }
 
@@ -121,6 +122,12 @@ impl Machine {
     /// The calls whose service is not provided on the card, each after its caller.
     pub fn unmet(&self) -> impl Iterator<Item = (&Aid, &Row)> {
         self.calls().filter(|(_, call)| !self.met(call))
+    }
+
+    /// Whether every token held is one that these rules have. A card that holds another is not sound by them.
+    pub fn keeps_to(&self, rules: Rules) -> bool {
+        let held = self.contracts.values().flat_map(Contract::tokens);
+        held.into_iter().all(|tokens| tokens.method <= rules.most_method)
     }
 
     /// The grants whose caller is not installed, each after its provider.

@@ -4,6 +4,7 @@ use crate::card::Card;
 use crate::compare::{lengths_alike, Compare, Difference, Tally};
 use crate::damage::Damage;
 use crate::generate::Source;
+use crate::history::{changes, Event};
 use crate::shrink::shrink;
 use std::panic::{catch_unwind, AssertUnwindSafe};
 
@@ -13,7 +14,7 @@ pub const DEFAULT_RECORDS: u64 = 100_000;
 /// A history after which something differs.
 pub struct Failure {
     pub difference: Difference,
-    pub history: Vec<Vec<u8>>,
+    pub history: Vec<Event>,
 }
 
 /// Judges so many random records everywhere.
@@ -35,38 +36,59 @@ fn one_history(
     seed: u64,
     ordinal: u64,
     records: u64,
-    history: &mut Vec<Vec<u8>>,
+    history: &mut Vec<Event>,
     tally: &mut Tally,
 ) -> Result<(), Difference> {
     let mut source = Source::new(seed, ordinal);
-    let mut compare = Compare::new(cards, seed)?;
-    for _ in 0..source.length() {
+    let changes = usize::from(source.begins_before());
+    let mut compare = Compare::before(cards, seed, changes)?;
+    let mut next = |event: Event, compare: &mut Compare, tally: &mut Tally| {
+        history.push(event);
+        compare.event(&history[history.len() - 1], tally)
+    };
+    if changes > 0 {
+        for _ in 0..source.length_before() {
+            next(Event::Record(source.record(&compare.machine)), &mut compare, tally)?;
+        }
+        if source.clears() {
+            while let Some(record) = source.clearing(&compare.machine) {
+                next(Event::Record(record), &mut compare, tally)?;
+            }
+        }
+        next(Event::Change, &mut compare, tally)?;
+        source.change();
+    }
+    let length = if compare.left_out { source.length_left_out() } else { source.length() };
+    for _ in 0..length {
         if tally.records == records {
             break;
         }
-        history.push(source.record(&compare.machine));
-        compare.step(&history[history.len() - 1], tally)?;
+        next(Event::Record(source.record(&compare.machine)), &mut compare, tally)?;
     }
     Ok(())
 }
 
-/// Judges the records of a history everywhere, from the empty image. The damage is done to the
-/// first image and to every later one, besides that which is drawn.
-pub fn replay(cards: &[&dyn Card], seed: u64, history: &[Vec<u8>], damage: &Damage) -> Result<Tally, Difference> {
+/// Judges the records of a history everywhere, from the empty image. The damage is done to the first image that is
+/// judged by the rules in force and to every later one, besides that which is drawn.
+pub fn replay(cards: &[&dyn Card], seed: u64, history: &[Event], damage: &Damage) -> Result<Tally, Difference> {
     let mut tally = Tally::default();
     caught(|| {
-        let mut compare = Compare::new(cards, seed)?;
-        compare.damaged_alike(damage, &[], &mut tally)?;
-        history.iter().try_for_each(|record| {
-            compare.step(record, &mut tally)?;
-            compare.damaged_alike(damage, record, &mut tally)
+        let mut compare = Compare::before(cards, seed, changes(history))?;
+        let damaged = |compare: &Compare, bytes: &[u8], tally: &mut Tally| match compare.in_force() {
+            true => compare.damaged_alike(damage, bytes, tally),
+            false => Ok(()),
+        };
+        damaged(&compare, &[], &mut tally)?;
+        history.iter().try_for_each(|event| {
+            compare.event(event, &mut tally)?;
+            damaged(&compare, event.record(), &mut tally)
         })
     })?;
     Ok(tally)
 }
 
-fn shortest(cards: &[&dyn Card], seed: u64, history: &[Vec<u8>], found: Difference) -> Failure {
-    let replayed = |history: &[Vec<u8>]| replay(cards, seed, history, &found.damage);
+fn shortest(cards: &[&dyn Card], seed: u64, history: &[Event], found: Difference) -> Failure {
+    let replayed = |history: &[Event]| replay(cards, seed, history, &found.damage);
     let history = shrink(history, |history| replayed(history).is_err());
     let difference = replayed(&history).err().unwrap_or(found);
     Failure { difference, history }

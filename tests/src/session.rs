@@ -2,7 +2,7 @@
 
 pub mod streams;
 
-use crate::card::{Bytes, Card, LONGEST_RECORD};
+use crate::card::{Card, BYTES, LONGEST_RECORD};
 use crate::compare::Compare;
 use crate::pairs::Pairs;
 
@@ -37,7 +37,7 @@ impl Frames<'_> {
     /// A line for each record, and one for a bad frame. The machine and the byte engine agree on every answer, or what
     /// differs is said; the number is the byte engine's.
     pub fn lines(&self) -> Result<Vec<String>, String> {
-        let cards: [&dyn Card; 1] = [&Bytes];
+        let cards: [&dyn Card; 1] = [&BYTES];
         let (mut compare, mut pairs) = (Compare::new(&cards, 0)?, Pairs::default());
         let mut lines = Vec::new();
         for (ordinal, record) in (1..).zip(&self.records) {

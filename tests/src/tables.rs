@@ -4,6 +4,7 @@
 //! what it read. Where the two differ, something stands where nothing may.
 
 use crate::machine::{Aid, Contract, Machine, Row, Tokens};
+use crate::rules::Rules;
 
 /// What an image's tables say.
 #[derive(Default)]
@@ -44,9 +45,9 @@ pub struct Waiting {
     pub service: usize,
 }
 
-/// The contracts that an image stands for; `None` when it is not sound.
-pub fn contracts(image: &[u8]) -> Option<Machine> {
-    Tables::of(image).map(|tables| tables.machine())
+/// The contracts that an image stands for; `None` when it is not sound by the rules.
+pub fn contracts(rules: Rules, image: &[u8]) -> Option<Machine> {
+    Tables::of(rules, image).map(|tables| tables.machine())
 }
 
 /// The AID at a package number of a sound image; `None` when the number is not used.
@@ -56,9 +57,9 @@ pub fn aid_at(image: &[u8], number: u32) -> Option<Aid> {
 }
 
 impl Tables {
-    /// The tables of a sound image.
-    pub fn of(image: &[u8]) -> Option<Tables> {
-        Tables::read(image).filter(|tables| tables.write() == image && tables.hold())
+    /// The tables of an image that is sound by the rules.
+    pub fn of(rules: Rules, image: &[u8]) -> Option<Tables> {
+        Tables::read(image).filter(|tables| tables.write() == image && tables.hold(rules))
     }
 
     fn read(image: &[u8]) -> Option<Tables> {
@@ -142,11 +143,14 @@ impl Tables {
     }
 
     /// What a sound image has besides the right form.
-    fn hold(&self) -> bool {
+    fn hold(&self, rules: Rules) -> bool {
         let installed = || self.packages.iter().flatten();
         let number = |n: usize| self.packages.get(n).and_then(Option::as_ref);
         let aids_differ = differ(installed().map(|package| package.aid));
         let tokens_differ = installed().all(|package| differ(package.services.iter().flatten()));
+        let provided = installed().flat_map(|package| package.services.iter().flatten());
+        let methods = provided.chain(self.unmet.iter().map(|row| &row.tokens)).map(|tokens| tokens.method);
+        let methods_stop = methods.max().is_none_or(|most| most <= rules.most_method);
         let lawful = self.calls.iter().all(|call| self.grants.binary_search(call).is_ok());
         let rows_differ = differ(self.unmet.iter()) && differ(self.waiting.iter());
         let unmet_hold = self.unmet.iter().all(|row| {
@@ -159,7 +163,7 @@ impl Tables {
             let provided = services.is_some_and(|services| services.get(row.service).is_some_and(Option::is_some));
             provided && installed().all(|package| package.aid != row.caller)
         });
-        aids_differ && tokens_differ && lawful && rows_differ && unmet_hold && waiting_hold
+        aids_differ && tokens_differ && methods_stop && lawful && rows_differ && unmet_hold && waiting_hold
     }
 
     /// The contracts, one for each used number under its AID.

@@ -1,6 +1,6 @@
 //! The table of cases holds on the machine and on every engine.
 
-use second::card::{linked, Bytes, Card, Verdict, IMAGE};
+use second::card::{linked, Card, Verdict, BYTES, IMAGE};
 use second::cases::{all, named, worked};
 use std::collections::BTreeSet;
 
@@ -33,9 +33,9 @@ fn the_table_has_the_papers_cases() {
 fn the_worked_example_has_the_reports_tables() {
     let case = named("worked example: EMV, ePurse and jTicket are loaded");
     let mut image = vec![0; IMAGE];
-    Bytes.empty(&mut image);
+    BYTES.empty(&mut image);
     for step in &case.steps {
-        assert_eq!(Bytes.judge(&mut image, &step.record), step.verdict);
+        assert_eq!(BYTES.judge(&mut image, &step.record), step.verdict);
     }
     for (number, aid) in [worked::EMV, worked::EPURSE, worked::JTICKET].into_iter().enumerate() {
         assert_eq!(image[4 + 17 * number], 6);

@@ -1,7 +1,7 @@
 //! Images as text and as dumps, both ways, and why an image is not sound.
 
 use second::bytes::layout::Image;
-use second::card::{Bytes, Card, IMAGE};
+use second::card::{Card, BYTES, IMAGE};
 use second::damage::Damage;
 use second::generate::Source;
 use second::host::fault::{At, Fault};
@@ -11,14 +11,15 @@ use second::host::{dump, encode, hexadecimal, image_text, record_text};
 use second::machine::record;
 use second::machine::Machine;
 use second::random::Random;
+use second::rules::Rules;
 use second::tables::Tables;
 
 /// The image after the records of a text, each of which is accepted.
 fn image_after(text: &str) -> Image {
     let mut image = [0; IMAGE];
-    Bytes.empty(&mut image);
+    BYTES.empty(&mut image);
     for placed in record_text::read(text).expect("a text").records {
-        assert_eq!(Bytes.judge(&mut image, &encode::bytes(&placed.record)).answer, 0, "{:?}", placed.record);
+        assert_eq!(BYTES.judge(&mut image, &encode::bytes(&placed.record)).answer, 0, "{:?}", placed.record);
     }
     image
 }
@@ -29,11 +30,11 @@ fn random_images(histories: u64) -> Vec<Image> {
     for ordinal in 0..histories {
         let (mut source, mut machine) = (Source::new(9, ordinal), Machine::default());
         let mut image = [0; IMAGE];
-        Bytes.empty(&mut image);
+        BYTES.empty(&mut image);
         for _ in 0..source.length() {
             let record = source.record(&machine);
-            if machine.judge(&record) == 0 {
-                Bytes.judge(&mut image, &record);
+            if machine.judge(Rules::IN_FORCE, &record) == 0 {
+                BYTES.judge(&mut image, &record);
                 images.push(image);
             }
         }
@@ -70,7 +71,7 @@ waiting F000000001 grants 0.1 to F000000009
 
 #[test]
 fn an_image_is_shown() {
-    let tables = Tables::of(&image_after(CARD)).expect("a sound image");
+    let tables = Tables::of(Rules::IN_FORCE, &image_after(CARD)).expect("a sound image");
     assert_eq!(image_text::write(&tables, &Names::default()), CARD_TEXT);
     let names = record_text::read(CARD).expect("a text").names;
     assert_eq!(image_text::write(&tables, &names), CARD_TEXT.replace("F000000001", "log"));
@@ -82,7 +83,7 @@ fn images_are_text_and_back() {
     let images = random_images(12);
     assert!(images.len() > 500, "{}", images.len());
     for image in images {
-        let text = image_text::write(&Tables::of(&image).expect("a sound image"), &Names::default());
+        let text = image_text::write(&Tables::of(Rules::IN_FORCE, &image).expect("a sound image"), &Names::default());
         assert!(image_text::read(&text) == Ok(image), "{text}");
     }
 }
@@ -106,8 +107,8 @@ fn record_dumps_are_read_back() {
     let mut kinds = std::collections::BTreeSet::new();
     for _ in 0..600 {
         let bytes = source.record(&machine);
-        machine.judge(&bytes);
-        if let Ok(record) = record::read(&bytes) {
+        machine.judge(Rules::IN_FORCE, &bytes);
+        if let Ok(record) = record::read(Rules::IN_FORCE, &bytes) {
             kinds.insert(bytes[3]);
             assert_eq!(hexadecimal::dump(&dump::record(&record)), Ok(bytes));
         }
@@ -139,7 +140,7 @@ fn faults_are_there_exactly_when_an_image_is_not_sound() {
         for draw in [Damage::one_byte, Damage::two_bytes, Damage::two_bytes] {
             let damaged = draw(&image, &mut random).done_to(&image);
             let found = faults(&damaged);
-            let refused = Bytes.check(&damaged).answer == 1;
+            let refused = BYTES.check(&damaged).answer == 1;
             assert_eq!(!found.is_empty(), refused, "{found:?}");
             assert!(found.iter().all(|fault| matches!(fault.at, At::Byte(byte) if byte < IMAGE)), "{found:?}");
             sound += usize::from(!refused);
@@ -161,6 +162,9 @@ fn each_fault_has_its_byte_and_words() {
         ("40=01", "byte 40: package 2 is not used, and its AID's place is not zero but 01"),
         ("270=01", "byte 270: package 2 is not used, and its provides byte is not zero but 01"),
         ("143=00", "byte 142: service 1 of package 0 has the tokens of service 0"),
+        ("141=80", "byte 141: service 0 of package 0 has the method token 128, not 0 to 127: since R-7 method tokens stop at 127, and a card made before may hold more"),
+        ("143=FF", "byte 143: service 1 of package 0 has the method token 255, not 0 to 127: since R-7 method tokens stop at 127, and a card made before may hold more"),
+        ("487=80", "byte 487: the unmet call has the method token 128, not 0 to 127: since R-7 method tokens stop at 127, and a card made before may hold more"),
         ("144=09", "byte 144: package 0 does not provide service 2, and the tokens' place is not zero but 09"),
         ("276=01", "byte 276: calls: package 0 has bits for itself"),
         ("286=01", "byte 286: calls: package 2 is not used, and has bits"),
@@ -220,6 +224,9 @@ fn bad_image_texts_have_messages_with_places() {
         (after("service 9 0.0"), "line 4, column 9: '9' is not a number from 0 to 7"),
         (after("service 0 0.0\nservice 0 0.1"), "line 5, column 9: service 0 of the package stands above"),
         (after("service 0 0.0\nservice 1 0.0"), "line 5, column 11: the package has this service already"),
+        (after("service 1 0.128"), "line 4, column 13: the method token is 128, not 0 to 127"),
+        (after("unmet F000000002 calls F000000009 0.128"), "line 4, column 37: the method token is 128, not 0 to 127"),
+        (after("waiting F000000001 grants 0.255 to F000000008"), "line 4, column 29: the method token is 255, not 0 to 127"),
         (after("provides 0.0"), "line 4, column 1: 'provides' begins no line of an image: there are package, service, calls, grants, needs, unmet, waiting and name"),
         (after("unmet F000000001 grants 0.0 to F000000002"), "line 4, column 18: 'calls' is expected, not 'grants'"),
         (after("waiting F000000001 calls F000000002 0.0"), "line 4, column 20: 'grants' is expected, not 'calls'"),
@@ -251,7 +258,7 @@ fn damaged_image_texts_give_a_sound_image_or_a_fault() {
     let mut random = Random::new(8);
     let (mut read, mut faulted) = (0, 0);
     for image in random_images(12) {
-        let text = image_text::write(&Tables::of(&image).expect("a sound image"), &Names::default());
+        let text = image_text::write(&Tables::of(Rules::IN_FORCE, &image).expect("a sound image"), &Names::default());
         let mut rows: Vec<String> = text.lines().map(|line| format!("{line}\n")).collect();
         let at = random.below(rows.len());
         match random.below(4) {

@@ -1,6 +1,6 @@
 //! Records as text: the ten kinds, both ways, and every message with its place.
 
-use second::card::{Bytes, Card, IMAGE};
+use second::card::{Card, BYTES, IMAGE};
 use second::generate::Source;
 use second::hex::to_hex;
 use second::host::fault::{At, Fault};
@@ -10,6 +10,7 @@ use second::host::{encode, hexadecimal, record_text};
 use second::machine::record::{self, contradiction, Change, Record};
 use second::machine::Machine;
 use second::random::Random;
+use second::rules::Rules;
 use std::collections::BTreeSet;
 
 /// Records of random histories, good and bad, as bytes.
@@ -19,7 +20,7 @@ fn random_records(count: usize) -> Vec<Vec<u8>> {
         let (mut source, mut machine) = (Source::new(4, ordinal), Machine::default());
         for _ in 0..source.length() {
             let record = source.record(&machine);
-            machine.judge(&record);
+            machine.judge(Rules::IN_FORCE, &record);
             records.push(record);
             if records.len() == count {
                 break;
@@ -63,7 +64,7 @@ fn every_kind_is_text_and_back() {
     let mut kinds = BTreeSet::new();
     let mut random = Random::new(4);
     for bytes in random_records(6000) {
-        let Ok(record) = record::read(&bytes) else { continue };
+        let Ok(record) = record::read(Rules::IN_FORCE, &bytes) else { continue };
         kinds.insert(kind(&record));
         assert_eq!(encode::bytes(&record), bytes);
         let text = record_text::write(&record, &Names::default());
@@ -79,7 +80,8 @@ fn every_kind_is_text_and_back() {
 
 #[test]
 fn a_history_is_one_text() {
-    let records: Vec<Record> = random_records(300).iter().filter_map(|bytes| record::read(bytes).ok()).collect();
+    let records: Vec<Record> =
+        random_records(300).iter().filter_map(|bytes| record::read(Rules::IN_FORCE, bytes).ok()).collect();
     let text: String = records.iter().map(|record| record_text::write(record, &Names::default())).collect();
     let read = record_text::read(&text).expect("a text");
     assert!(read.records.iter().map(|placed| &placed.record).eq(&records));
@@ -90,7 +92,7 @@ fn a_history_is_one_text() {
 fn a_loose_layout_reads_alike() {
     let mut random = Random::new(5);
     for bytes in random_records(1500) {
-        let Ok(record) = record::read(&bytes) else { continue };
+        let Ok(record) = record::read(Rules::IN_FORCE, &bytes) else { continue };
         let text = record_text::write(&record, &Names::default());
         let mut rows: Vec<&str> = text.lines().collect();
         if let Change::Load(_) = record.change {
@@ -134,19 +136,19 @@ load F000000001
         01 05 F0 00 00 00 02 03 04 01 05 F0 00 00 00 03 00 01";
     let service = "add F000000001 provides 3.4\n    to F000000002\n    to F000000003\n";
     let service_bytes = "00 19 01 03 05 F0 00 00 00 01 03 04 02 05 F0 00 00 00 02 05 F0 00 00 00 03";
-    let row = "05 F0 00 00 00 01 05 F0 00 00 00 02 03 FF";
+    let row = "05 F0 00 00 00 01 05 F0 00 00 00 02 FF 7F";
     let update = |kind: &str| format!("00 12 01 {kind} {row}");
     let cases = [
         (load, load_bytes.to_string()),
         ("unload F000000001\n", "00 0A 01 02 05 F0 00 00 00 01".to_string()),
         (service, service_bytes.to_string()),
         ("remove F000000001 provides 3.4\n", "00 0C 01 04 05 F0 00 00 00 01 03 04".to_string()),
-        ("add F000000001 calls F000000002 3.255\n", update("05")),
-        ("remove F000000001 calls F000000002 3.255\n", update("06")),
-        ("add F000000001 grants 3.255 to F000000002\n", update("07")),
-        ("remove F000000001 grants 3.255 to F000000002\n", update("08")),
-        ("add F000000001 needs F000000002 3.255\n", update("09")),
-        ("remove F000000001 needs F000000002 3.255\n", update("0A")),
+        ("add F000000001 calls F000000002 255.127\n", update("05")),
+        ("remove F000000001 calls F000000002 255.127\n", update("06")),
+        ("add F000000001 grants 255.127 to F000000002\n", update("07")),
+        ("remove F000000001 grants 255.127 to F000000002\n", update("08")),
+        ("add F000000001 needs F000000002 255.127\n", update("09")),
+        ("remove F000000001 needs F000000002 255.127\n", update("0A")),
     ];
     for (text, bytes) in cases {
         let record = only(text);
@@ -178,10 +180,17 @@ fn bad_texts_have_messages_with_places() {
         ("add F000000001", "line 1, column 15: provides, calls, grants or needs is missing"),
         ("add F000000001 has 0.0", "line 1, column 16: provides, calls, grants or needs is expected, not 'has'"),
         ("add F000000001 provides", "line 1, column 24: a service, as 0.1, is missing"),
-        ("add F000000001 provides 0", "line 1, column 25: '0' is not a service: two numbers to 255, as in 0.1"),
-        ("add F000000001 provides 0.256", "line 1, column 25: '0.256' is not a service: two numbers to 255, as in 0.1"),
-        ("add F000000001 provides +1.0", "line 1, column 25: '+1.0' is not a service: two numbers to 255, as in 0.1"),
-        ("add F000000001 provides .", "line 1, column 25: '.' is not a service: two numbers to 255, as in 0.1"),
+        ("add F000000001 provides 0", "line 1, column 25: '0' is not a service: interface to 255 and method to 127, as in 0.1"),
+        ("add F000000001 provides 0.256", "line 1, column 25: '0.256' is not a service: interface to 255 and method to 127, as in 0.1"),
+        ("add F000000001 provides +1.0", "line 1, column 25: '+1.0' is not a service: interface to 255 and method to 127, as in 0.1"),
+        ("add F000000001 provides 0.128", "line 1, column 27: the method token is 128, not 0 to 127"),
+        ("remove F000000001 provides 255.255", "line 1, column 32: the method token is 255, not 0 to 127"),
+        ("load F000000001\n\tprovides 0.127\n\tprovides 0.128", "line 3, column 13: the method token is 128, not 0 to 127"),
+        ("load F000000001\ncalls F000000002 128.128", "line 2, column 22: the method token is 128, not 0 to 127"),
+        ("load F000000001\nneeds F000000002 0.129", "line 2, column 20: the method token is 129, not 0 to 127"),
+        ("load F000000001\ngrants 0.128 to F000000002", "line 2, column 10: the method token is 128, not 0 to 127"),
+        ("add F000000001 grants 00.0128 to F000000002", "line 1, column 26: the method token is 128, not 0 to 127"),
+        ("add F000000001 provides .", "line 1, column 25: '.' is not a service: interface to 255 and method to 127, as in 0.1"),
         ("remove F000000001 grants 0.0", "line 1, column 29: 'to' is missing"),
         ("remove F000000001 grants 0.0 F000000002", "line 1, column 30: 'to' is expected, not 'F000000002'"),
         ("remove F000000001 grants 0.0 to  # whom", "line 1, column 32: the caller's AID is missing"),
@@ -264,10 +273,10 @@ fn contradictions_have_their_place() {
 fn contradictions_are_what_a_card_answers_with_3() {
     let (mut with, mut without) = (0, 0);
     for bytes in random_records(4000) {
-        let Ok(record) = record::read(&bytes) else { continue };
+        let Ok(record) = record::read(Rules::IN_FORCE, &bytes) else { continue };
         let mut image = [0; IMAGE];
-        Bytes.empty(&mut image);
-        let refused = Bytes.judge(&mut image, &bytes).answer == 3;
+        BYTES.empty(&mut image);
+        let refused = BYTES.judge(&mut image, &bytes).answer == 3;
         let read = record_text::read(&record_text::write(&record, &Names::default())).expect("a text");
         assert_eq!(read.records[0].consistent().is_err(), refused);
         assert_eq!(contradiction(&record).is_some(), refused);
@@ -312,7 +321,7 @@ fn damaged_texts_are_read_or_faulted_with_a_place() {
     let (mut faults, mut read) = (0, 0);
     let mut random = Random::new(6);
     for bytes in random_records(3000) {
-        let Ok(record) = record::read(&bytes) else { continue };
+        let Ok(record) = record::read(Rules::IN_FORCE, &bytes) else { continue };
         let text = record_text::write(&record, &Names::default());
         let text = damaged(&text, &mut random);
         match record_text::read(&text) {
@@ -347,6 +356,19 @@ fn bad_records_have_messages_with_places() {
         ("00 0C 01 02 05 F0 00 00 00 01 00 00", "line 1, column 31: byte 10: 2 bytes are left over"),
         ("00 0A 01 02 06 F0 00 00 00 01", "line 1, column 30: byte 10: the record ends here, and bytes are missing"),
         ("00 0B 01 01 05 F0 00 00 00 01 09", "line 1, column 31: byte 10: the count is 9, at most 8 may stand here"),
+        ("00 0C 01 04 05 F0 00 00 00 01 FF 80", "line 1, column 34: byte 11: the method token is 128, not 0 to 127"),
+        (
+            "00 12 01 05 05 F0 00 00 00 01 05 F0 00 00 00 02 00 FF",
+            "line 1, column 52: byte 17: the method token is 255, not 0 to 127",
+        ),
+        (
+            "00 13 01 03 05 F0 00 00 00 01 00 80 01 05 F0 00 00 00 03",
+            "line 1, column 34: byte 11: the method token is 128, not 0 to 127",
+        ),
+        (
+            "00 12 01 01 05 F0 00 00 00 01 02 00 7F 00 80 00 00 00",
+            "line 1, column 43: byte 14: the method token is 128, not 0 to 127",
+        ),
         ("00 0A 01 02 05 F0 00 00 00 0", "line 1, column 28: a byte has two digits, here is one"),
         ("00 0A 01 02 05 F0 00 00 00 0G", "line 1, column 29: 'G' is no hexadecimal digit"),
         ("00 Ä0", "line 1, column 4: 'Ä' is no hexadecimal digit"),
@@ -366,8 +388,8 @@ fn malformed_records_are_those_that_a_card_answers_with_2() {
         let Some(digits) = hexadecimal::records(&text).expect("hexadecimal").pop() else { continue };
         assert_eq!(digits.bytes, bytes);
         let mut image = [0; IMAGE];
-        Bytes.empty(&mut image);
-        let refused = Bytes.judge(&mut image, &bytes).answer == 2;
+        BYTES.empty(&mut image);
+        let refused = BYTES.judge(&mut image, &bytes).answer == 2;
         match digits.record() {
             Err(fault) => {
                 in_text(&fault, &text);

@@ -1,7 +1,8 @@
 //! Each condition of a sound image, broken by itself. The engines and the tests' own reader agree.
 
-use second::card::{linked, Bytes, Card, Verdict, IMAGE};
+use second::card::{linked, Card, Verdict, BYTES, IMAGE};
 use second::cases::{B, C, H, X};
+use second::rules::Rules;
 use second::tables;
 use second::write::{load, remove, remove_service, Row, Tokens};
 
@@ -21,9 +22,9 @@ fn sample() -> Vec<u8> {
         remove_service(H, (1, 2)),
     ];
     let mut image = vec![0; IMAGE];
-    Bytes.empty(&mut image);
+    BYTES.empty(&mut image);
     for record in records {
-        assert_eq!(Bytes.judge(&mut image, &record).answer, 0);
+        assert_eq!(BYTES.judge(&mut image, &record).answer, 0);
     }
     assert_eq!((image[3], image[268], image[468], image[789]), (0x0D, 0x05, 2, 2));
     image
@@ -109,7 +110,7 @@ const HARMFUL: &[(&str, &[Edit])] = &[
 ];
 
 fn sound_everywhere(image: &[u8], name: &str) -> bool {
-    let own = tables::contracts(image).is_some();
+    let own = tables::contracts(Rules::IN_FORCE, image).is_some();
     for card in linked() {
         let expected = if own { Verdict::new(0, image[3].count_ones()) } else { Verdict::new(1, 255) };
         assert_eq!(card.check(image), expected, "{}: {name}", card.name());

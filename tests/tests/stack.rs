@@ -2,7 +2,7 @@
 //! a stack of its own that was painted before; and added up from the frames in the archive's machine code, for every path of calls.
 #![cfg(feature = "engine")]
 
-use second::card::{Bytes, Card, Engine, Verdict};
+use second::card::{Card, Engine, Verdict, BYTES};
 use second::full_card::timed;
 use second::run::{run, DEFAULT_SEED};
 use std::arch::asm;
@@ -142,7 +142,7 @@ fn no_call_takes_more_stack_than_the_header_says() {
     block_signals();
     let [check, empty, judge, read_out, aid] = [(); 5].map(|_| Stack::new());
     let painted = Painted { check, empty, judge, read_out, aid };
-    let compared = run(&[&Bytes, &painted], DEFAULT_SEED, 20_000);
+    let compared = run(&[&BYTES, &painted], DEFAULT_SEED, 20_000);
     assert!(compared.is_ok(), "{}", compared.err().unwrap().difference);
     for mut timed in timed() {
         assert_eq!(painted.judge(&mut timed.image, &timed.record).answer, 0, "{}", timed.name);

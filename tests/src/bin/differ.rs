@@ -4,7 +4,8 @@ use second::card::{linked, names, Card};
 use second::compare::Tally;
 use second::damage::Damage;
 use second::faults;
-use second::hex::{from_hex, to_hex};
+use second::history::{changes, Event};
+use second::methods::Place;
 use second::program::{self, number, Failure};
 use second::run::{replay, run, DEFAULT_RECORDS, DEFAULT_SEED};
 use second::say_line;
@@ -13,9 +14,12 @@ use std::time::Instant;
 
 const HELP: &str = "\
 differ [--seed N] [--records N] [--fault NAME]
-    judges N random records (100,000) everywhere and compares all that comes out
+    judges N random records (100,000) everywhere and compares all that comes out; a part of the histories begins by
+    the rules before the last change, and goes on over it
 differ --replay FILE [--damage PLACE=BYTE,...] [--seed N] [--fault NAME]
-    the same with the records of a file, in hexadecimal, one on each line; the damage is done to each image besides
+    the same with the records of a file, in hexadecimal, one on each line; the damage is done to each image besides.
+    A line 'change' stands where the rules change: the records above it are judged by the rules before, by the machine
+    and the byte engine alone, and the card goes over as it is. Without such a line the rules in force judge them all
 
 A fault is an engine that is wrong on purpose and is compared too; a wrong name lists them all.
 Exit code: 0; 1 when something differs, or was never seen in 100,000 records or more, or the file is bad;
@@ -75,9 +79,9 @@ fn failed(words: String) -> Failure {
 fn run_histories(cards: &[&dyn Card], arguments: &Arguments) -> Result<(), Failure> {
     let start = Instant::now();
     let tally = run(cards, arguments.seed, arguments.records).map_err(|failure| {
-        let records: Vec<String> = failure.history.iter().map(|record| to_hex(record)).collect();
-        let (seed, count) = (arguments.seed, failure.history.len());
-        let end = format!("seed {seed}; records in the shortest history: {count}\n{}", records.join("\n"));
+        let events: Vec<String> = failure.history.iter().map(Event::to_text).collect();
+        let (seed, count) = (arguments.seed, failure.history.len() - changes(&failure.history));
+        let end = format!("seed {seed}; records in the shortest history: {count}\n{}", events.join("\n"));
         failed(format!("{}\n{end}", failure.difference))
     })?;
     say_line!("{}", report(&tally));
@@ -94,7 +98,10 @@ fn report(tally: &Tally) -> String {
         "{}\n{} records, all alike; {seen} of {all} pairs (kind, answer) seen\n\
          {} contracts read out; damaged images: {} sound, {} not\n\
          records after which: unmet calls 15: {}, 16: {}; waiting grants 15: {}, 16: {}; \
-         8 packages: {}; 8 services in one: {}",
+         8 packages: {}; 8 services in one: {}\n\
+         histories over the change of the rules: {} gone on, {} of them cleared before; {} left out; records before: {}\n\
+         method tokens 127 and 128 in records: {}\n\
+         on damaged images: services {} and {}, unmet calls {} and {}",
         tally.pairs,
         tally.records,
         tally.contracts_read,
@@ -105,8 +112,25 @@ fn report(tally: &Tally) -> String {
         tally.waiting[0],
         tally.waiting[1],
         tally.eight_packages,
-        tally.eight_services
+        tally.eight_services,
+        tally.gone_on,
+        tally.cleared,
+        tally.left_out,
+        tally.before,
+        methods(tally)
+            .map(|(place, [fine, wrong])| format!("{place} {fine} and {wrong}"))
+            .collect::<Vec<_>>()
+            .join(", "),
+        tally.methods_held[0][0],
+        tally.methods_held[0][1],
+        tally.methods_held[1][0],
+        tally.methods_held[1][1]
     )
+}
+
+/// How often a method token of 127, and one of 128, was seen in each place of records.
+fn methods(tally: &Tally) -> impl Iterator<Item = (Place, [u64; 2])> + '_ {
+    Place::all().map(|place| (place, tally.methods.get(&place).copied().unwrap_or_default()))
 }
 
 /// A run as long as the default must have been everywhere.
@@ -118,17 +142,25 @@ fn everything_seen(tally: &Tally) -> Result<(), String> {
     }
     let states = [tally.unmet, tally.waiting, [tally.eight_packages, tally.eight_services]].concat();
     let damaged = [tally.damaged_sound, tally.damaged_unsound];
-    match states.iter().chain(&damaged).all(|count| *count > 0) {
+    if states.iter().chain(&damaged).any(|count| *count == 0) {
+        return Err("a list or a card was never driven to its limit".to_string());
+    }
+    if tally.cleared == 0 || tally.left_out == 0 {
+        return Err("no card was cleared and went on over the change of the rules, or none was left out".to_string());
+    }
+    let unseen: Vec<String> =
+        methods(tally).filter(|(_, seen)| seen.contains(&0)).map(|(place, _)| place.to_string()).collect();
+    match unseen.is_empty() && tally.methods_held.iter().flatten().all(|count| *count > 0) {
         true => Ok(()),
-        false => Err("a list or a card was never driven to its limit".to_string()),
+        false => Err(format!("a method token of 127 or 128 was never seen: {}", unseen.join(", "))),
     }
 }
 
 fn replay_file(cards: &[&dyn Card], arguments: &Arguments, file: &str) -> Result<(), Failure> {
     let text = std::fs::read_to_string(file).map_err(|error| Failure::of_file(file, error))?;
-    let bad = |n| Failure::failed(format!("{file}: line {}: not pairs of hexadecimal digits", n + 1));
-    let records = text.lines().enumerate().map(|(n, line)| from_hex(line).ok_or_else(|| bad(n)));
-    let history: Vec<Vec<u8>> = records.collect::<Result<_, _>>()?;
+    let bad = |n| Failure::failed(format!("{file}: line {}: not pairs of hexadecimal digits, nor 'change'", n + 1));
+    let events = text.lines().enumerate().map(|(n, line)| Event::from_text(line).ok_or_else(|| bad(n)));
+    let history: Vec<Event> = events.collect::<Result<_, _>>()?;
     let tally = replay(cards, arguments.seed, &history, &arguments.damage);
     say_line!("{}", report(&tally.map_err(|difference| failed(difference.to_string()))?));
     Ok(())

@@ -1,6 +1,8 @@
 //! A record as the byte engine reads it: parts of the record's own bytes, nothing copied.
 //! An AID is kept as it is written, with its length byte.
 
+use crate::rules::Rules;
+
 #[derive(Clone, Copy)]
 pub struct Record<'a> {
     pub aid: &'a [u8],
@@ -50,9 +52,10 @@ impl<'a> Iterator for Rows<'a> {
     type Item = Row<'a>;
 
     fn next(&mut self) -> Option<Row<'a>> {
-        let (row, rest) = read_row(self.0)?;
+        let (aid, rest) = read_aid(self.0)?;
+        let (&tokens, rest) = rest.split_first_chunk()?;
         self.0 = rest;
-        Some(row)
+        Some(Row { aid, tokens })
     }
 }
 
@@ -71,22 +74,22 @@ impl<'a> Iterator for Aids<'a> {
 }
 
 /// Reads a record; `None` is cause 2.
-pub fn read(record: &[u8]) -> Option<Record<'_>> {
+pub fn read(rules: Rules, record: &[u8]) -> Option<Record<'_>> {
     let (&[high, low, version, kind], rest) = record.split_first_chunk()?;
     if usize::from(u16::from_be_bytes([high, low])) != record.len() || version != 1 {
         return None;
     }
     let (aid, rest) = read_aid(rest)?;
     let (change, rest) = match kind {
-        1 => read_load(rest)?,
+        1 => read_load(rules, rest)?,
         2 => (Change::Remove, rest),
-        3 => read_service(rest)?,
+        3 => read_service(rules, rest)?,
         4 => {
-            let (&tokens, rest) = rest.split_first_chunk()?;
+            let (tokens, rest) = read_tokens(rules, rest)?;
             (Change::RemoveService(tokens), rest)
         }
         5..=10 => {
-            let (row, rest) = read_row(rest)?;
+            let (row, rest) = read_row(rules, rest)?;
             let change = match kind {
                 5 => Change::AddCall(row),
                 6 => Change::RemoveCall(row),
@@ -102,31 +105,35 @@ pub fn read(record: &[u8]) -> Option<Record<'_>> {
     rest.is_empty().then_some(Record { aid, change })
 }
 
-fn read_load(rest: &[u8]) -> Option<(Change<'_>, &[u8])> {
+fn read_load(rules: Rules, rest: &[u8]) -> Option<(Change<'_>, &[u8])> {
     let (&count, rest) = rest.split_first()?;
     if count > 8 {
         return None;
     }
     let (provides, rest) = rest.split_at_checked(2 * usize::from(count))?;
-    let (calls, rest) = read_rows(rest)?;
-    let (grants, rest) = read_rows(rest)?;
-    let (needs, rest) = read_rows(rest)?;
-    Some((Change::Load(Load { provides: provides.as_chunks().0, calls, grants, needs }), rest))
+    let provides = provides.as_chunks().0;
+    if !provides.iter().all(|tokens| allowed(rules, tokens)) {
+        return None;
+    }
+    let (calls, rest) = read_rows(rules, rest)?;
+    let (grants, rest) = read_rows(rules, rest)?;
+    let (needs, rest) = read_rows(rules, rest)?;
+    Some((Change::Load(Load { provides, calls, grants, needs }), rest))
 }
 
-fn read_rows(rest: &[u8]) -> Option<(Rows<'_>, &[u8])> {
-    let (rows, rest) = read_list(rest, 72, |rest| Some(read_row(rest)?.1))?;
+fn read_rows(rules: Rules, rest: &[u8]) -> Option<(Rows<'_>, &[u8])> {
+    let (rows, rest) = read_list(rest, 72, |rest| Some(read_row(rules, rest)?.1))?;
     Some((Rows(rows), rest))
 }
 
-fn read_service(rest: &[u8]) -> Option<(Change<'_>, &[u8])> {
-    let (&tokens, rest) = rest.split_first_chunk()?;
+fn read_service(rules: Rules, rest: &[u8]) -> Option<(Change<'_>, &[u8])> {
+    let (tokens, rest) = read_tokens(rules, rest)?;
     let (callers, rest) = read_list(rest, 32, |rest| Some(read_aid(rest)?.1))?;
     Some((Change::AddService(tokens, Aids(callers)), rest))
 }
 
 /// A count and that many rows: the rows' bytes, and what comes after them.
-fn read_list(rest: &[u8], most: u8, after_row: fn(&[u8]) -> Option<&[u8]>) -> Option<(&[u8], &[u8])> {
+fn read_list(rest: &[u8], most: u8, after_row: impl Fn(&[u8]) -> Option<&[u8]>) -> Option<(&[u8], &[u8])> {
     let (&count, rows) = rest.split_first()?;
     if count > most {
         return None;
@@ -138,10 +145,20 @@ fn read_list(rest: &[u8], most: u8, after_row: fn(&[u8]) -> Option<&[u8]>) -> Op
     Some((&rows[..rows.len() - rest.len()], rest))
 }
 
-fn read_row(rest: &[u8]) -> Option<(Row<'_>, &[u8])> {
+fn read_row(rules: Rules, rest: &[u8]) -> Option<(Row<'_>, &[u8])> {
     let (aid, rest) = read_aid(rest)?;
-    let (&tokens, rest) = rest.split_first_chunk()?;
+    let (tokens, rest) = read_tokens(rules, rest)?;
     Some((Row { aid, tokens }, rest))
+}
+
+fn read_tokens(rules: Rules, rest: &[u8]) -> Option<([u8; 2], &[u8])> {
+    let (tokens, rest) = rest.split_first_chunk()?;
+    allowed(rules, tokens).then_some((*tokens, rest))
+}
+
+/// Any interface, and a method that the rules have.
+fn allowed(rules: Rules, tokens: &[u8; 2]) -> bool {
+    tokens[1] <= rules.most_method
 }
 
 fn read_aid(rest: &[u8]) -> Option<(&[u8], &[u8])> {

@@ -1,28 +1,33 @@
 //! Whether an image is sound.
 
 use super::layout::*;
+use crate::rules::Rules;
 
-pub fn sound(image: &Image) -> bool {
-    image[..3] == HEADER && packages_sound(image) && bits_sound(image) && unmet_sound(image) && waiting_sound(image)
+pub fn sound(rules: Rules, image: &Image) -> bool {
+    image[..3] == HEADER
+        && packages_sound(rules, image)
+        && bits_sound(image)
+        && unmet_sound(rules, image)
+        && waiting_sound(image)
 }
 
-/// Used AIDs are valid and differ, tokens provided by one package differ, unused places are zero.
-fn packages_sound(image: &Image) -> bool {
+/// Used AIDs are valid and differ, tokens provided by one package are allowed and differ, unused places are zero.
+fn packages_sound(rules: Rules, image: &Image) -> bool {
     (0..8).all(|n| {
         if used(image, n) {
-            valid(aid(image, n)) && (0..n).all(|m| aid(image, m) != aid(image, n)) && services_sound(image, n)
+            valid(aid(image, n)) && (0..n).all(|m| aid(image, m) != aid(image, n)) && services_sound(rules, image, n)
         } else {
             zero(aid(image, n)) && zero(&image[tokens_at(n, 0)..tokens_at(n + 1, 0)]) && provides(image, n) == 0
         }
     })
 }
 
-fn services_sound(image: &Image, package: usize) -> bool {
+fn services_sound(rules: Rules, image: &Image, package: usize) -> bool {
     let provides = provides(image, package);
     (0..8).all(|n| {
         let own = tokens(image, package, n);
         if provides >> n & 1 == 1 {
-            (0..n).all(|m| provides >> m & 1 == 0 || tokens(image, package, m) != own)
+            own[1] <= rules.most_method && (0..n).all(|m| provides >> m & 1 == 0 || tokens(image, package, m) != own)
         } else {
             own == [0, 0]
         }
@@ -43,7 +48,7 @@ fn bits_sound(image: &Image) -> bool {
     })
 }
 
-fn unmet_sound(image: &Image) -> bool {
+fn unmet_sound(rules: Rules, image: &Image) -> bool {
     let count = usize::from(image[UNMET]);
     if count > MOST_ROWS || !zero(&image[UNMET + 1 + UNMET_ROW * count..WAITING]) {
         return false;
@@ -54,6 +59,7 @@ fn unmet_sound(image: &Image) -> bool {
         caller < 8
             && used(image, caller)
             && valid(callee)
+            && unmet_tokens(row)[1] <= rules.most_method
             && callee != aid(image, caller)
             && package_held(image, callee).is_none_or(|n| service(image, n, unmet_tokens(row)).is_none())
             && !rows[..n].contains(row)

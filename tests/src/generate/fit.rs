@@ -2,6 +2,7 @@
 
 use super::{pair, Drive, Source};
 use crate::machine::{Aid, Contract, Machine, Row, Tokens};
+use crate::rules::Rules;
 use crate::write;
 
 impl Source {
@@ -29,6 +30,22 @@ impl Source {
             10 => self.fit_old_row(10, held, |contract| contract.needs.iter().collect()),
             _ => None,
         }
+    }
+
+    /// Takes a token off the card that the rules in force exclude: the calls first, and a service when nobody calls it.
+    /// `None` when the card holds no such token.
+    pub fn clearing(&mut self, held: &Machine) -> Option<Vec<u8>> {
+        let excluded = |tokens: &Tokens| tokens.method > Rules::IN_FORCE.most_method;
+        let call = held.calls().find(|(_, call)| excluded(&call.tokens));
+        let called = call.map(|(own, call)| write::update(6, own.bytes(), call.other.bytes(), pair(call.tokens)));
+        let provided = || {
+            let mut services = held
+                .contracts
+                .iter()
+                .flat_map(|(own, contract)| contract.provides.iter().map(move |tokens| (own, tokens)));
+            services.find(|(_, tokens)| excluded(tokens))
+        };
+        called.or_else(|| provided().map(|(own, tokens)| write::remove_service(own.bytes(), pair(*tokens))))
     }
 
     /// A package that is installed and suits.

@@ -1,5 +1,6 @@
 //! Damaged, truncated and random records.
 
+use crate::methods;
 use crate::random::Random;
 use crate::write::set_length;
 
@@ -16,7 +17,7 @@ pub fn noise(random: &mut Random) -> Vec<u8> {
 
 /// A record with something about it changed.
 pub fn spoiled(mut record: Vec<u8>, random: &mut Random) -> Vec<u8> {
-    match random.below(9) {
+    match random.below(12) {
         0..=2 => {
             let at = random.below(record.len());
             record[at] = changed(record[at], random);
@@ -39,7 +40,8 @@ pub fn spoiled(mut record: Vec<u8>, random: &mut Random) -> Vec<u8> {
             record.remove(at);
             right_length(&mut record, random);
         }
-        _ => wrong_aid(&mut record, random),
+        8 => wrong_aid(&mut record, random),
+        _ => wrong_method(&mut record, random),
     }
     record
 }
@@ -53,6 +55,19 @@ fn wrong_aid(record: &mut Vec<u8>, random: &mut Random) {
     let aid = [vec![length], vec![0xF0; length.into()]].concat();
     record.splice(at..end, aid);
     set_length(record);
+}
+
+/// A method token of 128 or more, in a record that is right otherwise: in any of its parts that have tokens. Seldom the
+/// token is the highest that is right.
+fn wrong_method(record: &mut [u8], random: &mut Random) {
+    let found = methods::of_record(record);
+    let mut places: Vec<_> = found.iter().map(|(place, _)| place).collect();
+    places.dedup();
+    if let Some(place) = random.pick(&places) {
+        let own: Vec<_> = found.iter().filter(|(other, _)| other == *place).collect();
+        let (_, at) = own[random.below(own.len())];
+        record[*at] = [128, 128, 128, 129, 255, 127][random.below(6)];
+    }
 }
 
 fn changed(byte: u8, random: &mut Random) -> u8 {

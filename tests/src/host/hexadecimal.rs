@@ -3,6 +3,7 @@
 use super::fault::{At, Fault, Place};
 use super::words::{lines, Line, Word};
 use crate::machine::record::{self, Record};
+use crate::rules::Rules;
 
 /// The bytes of a line, and where the digits of each stand.
 pub struct Digits {
@@ -42,7 +43,8 @@ impl Digits {
     }
 
     pub fn record(&self) -> Result<Record, Fault> {
-        record::read(&self.bytes).map_err(|malformed| self.fault(malformed.at, malformed.why.to_string()))
+        record::read(Rules::IN_FORCE, &self.bytes)
+            .map_err(|malformed| self.fault(malformed.at, malformed.why.to_string()))
     }
 }
 

@@ -1,8 +1,10 @@
 //! AIDs and tokens as words, and names for AIDs.
 
-use super::fault::Fault;
+use super::fault::{Fault, Place};
 use super::words::{Line, Word};
+use crate::machine::record::Why;
 use crate::machine::{Aid, Tokens};
+use crate::rules::Rules;
 use std::collections::BTreeMap;
 
 /// The names that a text gives to AIDs.
@@ -81,15 +83,26 @@ fn digits_aid(word: Word) -> Result<Aid, Fault> {
     Ok(Aid::new(&bytes.collect::<Vec<u8>>()))
 }
 
-/// Tokens: interface and method in decimal, with a point between them.
+/// Tokens: interface and method in decimal, with a point between them. A method past the rules' is a fault at its digits.
 pub fn tokens(word: Word) -> Result<Tokens, Fault> {
+    let most = Rules::IN_FORCE.most_method;
     let number =
         |text: &str| -> Option<u8> { text.chars().all(|c| c.is_ascii_digit()).then(|| text.parse().ok()).flatten() };
     let read = word
         .text
         .split_once('.')
         .and_then(|(interface, method)| Some(Tokens { interface: number(interface)?, method: number(method)? }));
-    read.ok_or_else(|| word.fault(format!("'{}' is not a service: two numbers to 255, as in 0.1", word.text)))
+    let none =
+        || word.fault(format!("'{}' is not a service: interface to 255 and method to {most}, as in 0.1", word.text));
+    let tokens = read.ok_or_else(none)?;
+    match tokens.method <= most {
+        true => Ok(tokens),
+        false => {
+            let digits = word.text.find('.').map_or(0, |point| point + 1);
+            let place = Place { column: word.place.column + digits, ..word.place };
+            Err(Fault::text(place, Why::Method { written: tokens.method, most }.to_string()))
+        }
+    }
 }
 
 pub fn tokens_word(tokens: Tokens) -> String {

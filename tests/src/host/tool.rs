@@ -13,6 +13,7 @@ use crate::hex::to_hex;
 use crate::machine::record::{self, Record};
 use crate::program::{asks_help, Failure, BAD_INPUT, BAD_USE};
 use crate::refusal::Refusal;
+use crate::rules::Rules;
 use crate::tables::Tables;
 use std::fs;
 use std::io::Read;
@@ -265,7 +266,7 @@ fn raw_records(bytes: &[u8]) -> Result<Vec<Record>, Fault> {
             return Err(Fault::byte(at, words));
         };
         let fault = |bad: record::Malformed| Fault::byte(at + bad.at, format!("record {ordinal}: {}", bad.why));
-        records.push(record::read(part).map_err(fault)?);
+        records.push(record::read(Rules::IN_FORCE, part).map_err(fault)?);
         at += length;
     }
     Ok(records)
@@ -294,7 +295,7 @@ fn decode(options: &Options, bytes: &[u8]) -> Result<Done, Vec<Fault>> {
 
 fn show(options: &Options, bytes: &[u8]) -> Result<Done, Vec<Fault>> {
     let image = image_bytes(options.raw, bytes).map_err(one)?;
-    let Some(tables) = Tables::of(&image) else { return Err(unsound::faults(&image)) };
+    let Some(tables) = Tables::of(Rules::IN_FORCE, &image) else { return Err(unsound::faults(&image)) };
     Ok((options.names.text() + &image_text::write(&tables, &options.names)).into())
 }
 

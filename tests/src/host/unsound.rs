@@ -2,6 +2,7 @@
 
 use super::fault::Fault;
 use crate::bytes::layout::*;
+use crate::rules::Rules;
 
 /// Bytes that are as many as an image has.
 pub fn sized(bytes: &[u8]) -> Result<&Image, Fault> {
@@ -71,11 +72,27 @@ impl Look<'_> {
             if provides(self.image, package) >> number & 1 == 0 {
                 let what = format!("package {package} does not provide service {number}, and the tokens' place");
                 self.zero(at, 2, &what);
-            } else if let Some(other) =
-                service(self.image, package, tokens(self.image, package, number)).filter(|other| *other < number)
-            {
+                continue;
+            }
+            self.method(at + 1, &format!("service {number} of package {package}"));
+            let same = service(self.image, package, tokens(self.image, package, number));
+            if let Some(other) = same.filter(|other| *other < number) {
                 self.say(at, format!("service {number} of package {package} has the tokens of service {other}"));
             }
+        }
+    }
+
+    /// A method token past the end may come from a card of earlier rules, and then nothing is damaged.
+    fn method(&mut self, at: usize, whose: &str) {
+        let (method, most) = (self.image[at], Rules::IN_FORCE.most_method);
+        if method > most {
+            self.say(
+                at,
+                format!(
+                    "{whose} has the method token {method}, not 0 to {most}: since R-7 method tokens stop at {most}, \
+                     and a card made before may hold more"
+                ),
+            );
         }
     }
 
@@ -109,6 +126,7 @@ impl Look<'_> {
         for at in self.list(UNMET, UNMET_ROW, "unmet call") {
             let row: &UnmetRow = self.image[at..].first_chunk().unwrap();
             let (callee, caller) = (unmet_callee(row), unmet_caller(row));
+            self.method(at + AID + 1, "the unmet call");
             if !self.valid_aid(at, "the callee's AID") {
                 continue;
             }

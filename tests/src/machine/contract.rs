@@ -52,6 +52,12 @@ pub struct Contract {
 }
 
 impl Contract {
+    /// The tokens of every row of its four sets.
+    pub fn tokens(&self) -> impl Iterator<Item = &Tokens> {
+        let rows = self.calls.iter().chain(&self.grants).chain(&self.needs);
+        self.provides.iter().chain(rows.map(|row| &row.tokens))
+    }
+
     /// Whether the contract grants this service of its own to this caller.
     pub fn grants_to(&self, caller: Aid, tokens: Tokens) -> bool {
         self.grants.contains(&Row { other: caller, tokens })

@@ -1,6 +1,7 @@
 //! A record as the plain machine reads it: causes 2 and 3, which the record alone decides.
 
 use super::contract::{Aid, Contract, Row, Tokens};
+use crate::rules::Rules;
 use std::collections::BTreeSet;
 use std::fmt;
 
@@ -72,15 +73,19 @@ pub enum Why {
         most: u8,
     },
     AidLength(u8),
+    Method {
+        written: u8,
+        most: u8,
+    },
     /// The record ends before its parts do.
     Missing,
     /// So many bytes after the last part.
     LeftOver(usize),
 }
 
-/// Reads a record, or says where it is malformed.
-pub fn read(bytes: &[u8]) -> Result<Record, Malformed> {
-    let mut rest = Rest { bytes, at: 0 };
+/// Reads a record by the rules, or says where it is malformed.
+pub fn read(rules: Rules, bytes: &[u8]) -> Result<Record, Malformed> {
+    let mut rest = Rest { rules, bytes, at: 0 };
     let written = usize::from(rest.byte()?) * 256 + usize::from(rest.byte()?);
     if written != bytes.len() {
         return Err(Malformed { at: 0, why: Why::Length { written, bytes: bytes.len() } });
@@ -179,8 +184,9 @@ fn repeated<T: Ord>(list: &[T]) -> Option<usize> {
     list.iter().position(|item| !seen.insert(item))
 }
 
-/// The record, and the place of the first byte not read yet.
+/// The record, the rules to read it by, and the place of the first byte not read yet.
 struct Rest<'a> {
+    rules: Rules,
     bytes: &'a [u8],
     at: usize,
 }
@@ -207,7 +213,12 @@ impl<'a> Rest<'a> {
     }
 
     fn tokens(&mut self) -> Result<Tokens, Malformed> {
-        Ok(Tokens { interface: self.byte()?, method: self.byte()? })
+        let interface = self.byte()?;
+        let (at, most) = (self.at, self.rules.most_method);
+        match self.byte()? {
+            method if method <= most => Ok(Tokens { interface, method }),
+            written => Err(Malformed { at, why: Why::Method { written, most } }),
+        }
     }
 
     fn row(&mut self) -> Result<Row, Malformed> {
@@ -234,6 +245,7 @@ impl fmt::Display for Why {
             Why::Kind(kind) => write!(f, "the kind is {kind}, not 1 to 10"),
             Why::Count { written, most } => write!(f, "the count is {written}, at most {most} may stand here"),
             Why::AidLength(length) => write!(f, "the AID's length is {length}, not 5 to 16"),
+            Why::Method { written, most } => write!(f, "the method token is {written}, not 0 to {most}"),
             Why::Missing => write!(f, "the record ends here, and bytes are missing"),
             Why::LeftOver(1) => write!(f, "1 byte is left over"),
             Why::LeftOver(left) => write!(f, "{left} bytes are left over"),

@@ -6,6 +6,7 @@ use crate::cases::{named, H};
 use crate::generate::Source;
 use crate::machine::Machine;
 use crate::random::Random;
+use crate::rules::Rules;
 use crate::write::{add_service, load, record, Row};
 use std::ops::RangeInclusive;
 
@@ -163,7 +164,7 @@ pub fn history(seed: u64, framed: bool) -> Stream {
     while records.len() < 400 {
         let record = source.record(&held);
         if !framed || frames(&record).records == [&record[..]] {
-            held.judge(&record);
+            held.judge(Rules::IN_FORCE, &record);
             records.push(record);
         }
     }

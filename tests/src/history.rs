@@ -1,0 +1,58 @@
+//! A history: records in order, and the changes of the rules among them. The rules in force are those after its last
+//! change; without one it has them from the start. Each change has the next rules take the place of those before.
+
+use crate::hex::{from_hex, to_hex};
+
+#[derive(Clone, Debug, PartialEq, Eq)]
+pub enum Event {
+    /// A record to judge, of any bytes.
+    Record(Vec<u8>),
+    /// The next rules come into force.
+    Change,
+}
+
+const CHANGE: &str = "change";
+
+impl Event {
+    /// The record's bytes; of a change, none.
+    pub fn record(&self) -> &[u8] {
+        match self {
+            Event::Record(bytes) => bytes,
+            Event::Change => &[],
+        }
+    }
+
+    /// A line of a file that `differ --replay` reads.
+    pub fn to_text(&self) -> String {
+        match self {
+            Event::Record(bytes) => to_hex(bytes),
+            Event::Change => CHANGE.to_string(),
+        }
+    }
+
+    /// Reads what `to_text` writes; `None` when something else stands there.
+    pub fn from_text(line: &str) -> Option<Event> {
+        match line.trim() {
+            CHANGE => Some(Event::Change),
+            bytes => from_hex(bytes).map(Event::Record),
+        }
+    }
+}
+
+/// How many changes a history has.
+pub fn changes(history: &[Event]) -> usize {
+    history.iter().filter(|event| **event == Event::Change).count()
+}
+
+#[cfg(test)]
+mod tests {
+    use super::*;
+
+    #[test]
+    fn events_are_text_and_back() {
+        for event in [Event::Change, Event::Record(vec![]), Event::Record(vec![0, 255])] {
+            assert_eq!(Event::from_text(&event.to_text()), Some(event));
+        }
+        assert_eq!(Event::from_text("changes"), None);
+    }
+}

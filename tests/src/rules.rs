@@ -1,0 +1,21 @@
+//! The rules that records and images are judged by, as a value. Document 01's come first; a request that changes a
+//! cause, an effect or a limit has its own after them. A history may go on over such a change.
+
+/// What requests change. A further one adds a field here, and its rules to `ALL`.
+#[derive(Clone, Copy, Debug, PartialEq, Eq)]
+pub struct Rules {
+    /// A method token is from 0 to this.
+    pub most_method: u8,
+}
+
+impl Rules {
+    /// "Each token may be 0 to 255."
+    pub const DOCUMENT_01: Rules = Rules { most_method: 255 };
+    /// "Method tokens stop at 127." Interface tokens stay 0 to 255.
+    pub const R_7: Rules = Rules { most_method: 127 };
+
+    /// The rules of every time, in order.
+    pub const ALL: [Rules; 2] = [Rules::DOCUMENT_01, Rules::R_7];
+    /// The rules in force: the last.
+    pub const IN_FORCE: Rules = Rules::ALL[Rules::ALL.len() - 1];
+}
