@@ -1,12 +1,15 @@
-//! One table: every case of the paper's "At the edges", its misreadings of the report, and the
-//! report's worked example. Each case starts on the empty image.
+//! One table: every case of the paper's "At the edges", its misreadings of the report, the report's worked example, and
+//! the edges of the requests that have landed. Each case starts on the empty image.
 
 mod edges;
 mod misread;
+pub mod tokens;
 pub mod worked;
 
-use crate::card::{Card, Verdict};
+use crate::card::{Bytes, Card, Verdict, IMAGE};
 use crate::compare::{Compare, Tally};
+use crate::history::Event;
+use crate::rules::Rules;
 use crate::run::caught;
 use crate::write;
 
@@ -21,6 +24,8 @@ pub struct Case {
     pub name: &'static str,
     /// Whether the paper marks it.
     pub marked: bool,
+    /// Judged before the rules in force, by document 01's. Where there are none, no rules change.
+    pub before: Vec<Step>,
     pub steps: Vec<Step>,
 }
 
@@ -32,7 +37,7 @@ pub struct Step {
 
 /// Every case, in the paper's order.
 pub fn all() -> Vec<Case> {
-    edges::cases().into_iter().chain(misread::cases()).chain(worked::cases()).collect()
+    [edges::cases(), misread::cases(), worked::cases(), tokens::cases()].into_iter().flatten().collect()
 }
 
 /// The case of this name.
@@ -44,8 +49,16 @@ impl Case {
     /// Judges the records everywhere, compares, and gives what they got: what the table says.
     pub fn run(&self, cards: &[&dyn Card]) -> Result<Vec<Verdict>, String> {
         let judged = caught(|| {
-            let (mut compare, mut tally) = (Compare::new(cards, 0)?, Tally::default());
-            self.steps.iter().map(|step| compare.step(&step.record, &mut tally)).collect::<Result<Vec<_>, _>>()
+            let changes = usize::from(!self.before.is_empty());
+            let (mut compare, mut tally) = (Compare::before(cards, 0, changes)?, Tally::default());
+            let mut judge = |steps: &[Step], compare: &mut Compare| {
+                steps.iter().map(|step| compare.step(&step.record, &mut tally)).collect::<Result<Vec<_>, _>>()
+            };
+            let before = judge(&self.before, &mut compare)?;
+            if changes > 0 {
+                compare.change(&mut Tally::default())?;
+            }
+            Ok([before, judge(&self.steps, &mut compare)?].concat())
         });
         let verdicts = judged.map_err(|difference| difference.to_string())?;
         match verdicts.iter().eq(self.expected()) {
@@ -54,13 +67,30 @@ impl Case {
         }
     }
 
-    /// The line that the program prints for the case.
+    /// The line that the program prints for the case. The verdicts before the rules in force stand before a bar.
     pub fn line(&self, verdicts: &[Verdict]) -> String {
-        format!("{}{}: {}", if self.marked { "M " } else { "" }, self.name, words(verdicts))
+        let (before, after) = verdicts.split_at(self.before.len());
+        let before = if before.is_empty() { String::new() } else { format!("{} | ", words(before)) };
+        format!("{}{}: {before}{}", if self.marked { "M " } else { "" }, self.name, words(after))
+    }
+
+    /// The records, and the change of the rules behind those before it.
+    pub fn history(&self) -> Vec<Event> {
+        let records = |steps: &[Step]| steps.iter().map(|step| Event::Record(step.record.clone())).collect::<Vec<_>>();
+        let change = (!self.before.is_empty()).then_some(Event::Change);
+        records(&self.before).into_iter().chain(change).chain(records(&self.steps)).collect()
+    }
+
+    /// The image that the rules in force find: the empty one, or that of the records before.
+    pub fn image(&self) -> Vec<u8> {
+        let (card, mut image) = (Bytes(Rules::DOCUMENT_01), vec![0; IMAGE]);
+        card.empty(&mut image);
+        self.before.iter().for_each(|step| assert_eq!(card.judge(&mut image, &step.record), step.verdict));
+        image
     }
 
     fn expected(&self) -> impl Iterator<Item = &Verdict> {
-        self.steps.iter().map(|step| &step.verdict)
+        self.before.iter().chain(&self.steps).map(|step| &step.verdict)
     }
 }
 
@@ -69,11 +99,16 @@ fn words<'a>(verdicts: impl IntoIterator<Item = &'a Verdict>) -> String {
 }
 
 fn marked(name: &'static str, steps: Vec<Step>) -> Case {
-    Case { name, marked: true, steps }
+    Case { name, marked: true, before: Vec::new(), steps }
 }
 
 fn case(name: &'static str, steps: Vec<Step>) -> Case {
-    Case { name, marked: false, steps }
+    over(name, Vec::new(), steps)
+}
+
+/// A case over the change of the rules.
+fn over(name: &'static str, before: Vec<Step>, steps: Vec<Step>) -> Case {
+    Case { name, marked: false, before, steps }
 }
 
 /// A record that is accepted, with the package's number.

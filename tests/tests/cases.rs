@@ -1,7 +1,10 @@
 //! The table of cases holds on the machine and on every engine.
 
 use second::card::{linked, Card, Verdict, BYTES, IMAGE};
-use second::cases::{all, named, worked};
+use second::cases::{all, named, tokens, worked};
+use second::damage::Damage;
+use second::methods::Place;
+use second::run::replay;
 use std::collections::BTreeSet;
 
 #[test]
@@ -26,6 +29,25 @@ fn the_table_has_the_papers_cases() {
     let names: BTreeSet<&str> = cases.iter().map(|case| case.name).collect();
     assert_eq!(names.len(), cases.len());
     assert_eq!(cases.iter().filter(|case| case.marked).count(), 10);
+}
+
+/// Each place of records has a method token of 127 that is read, and one of 128 in a record that nothing else is wrong with.
+#[test]
+fn every_place_of_tokens_has_its_case() {
+    let cards = linked();
+    let mut seen = [(); 12].map(|()| [0; 2]);
+    let (mut left_out, mut gone_on, mut cleared) = (0, 0, 0);
+    for case in tokens::cases() {
+        let tally = replay(&cards, 0, &case.history(), &Damage::default())
+            .unwrap_or_else(|difference| panic!("{}: {difference}", case.name));
+        for (seen, place) in seen.iter_mut().zip(Place::all()) {
+            let [last, past] = tally.methods.get(&place).copied().unwrap_or_default();
+            *seen = [seen[0] + last, seen[1] + past];
+        }
+        (left_out, gone_on, cleared) = (left_out + tally.left_out, gone_on + tally.gone_on, cleared + tally.cleared);
+    }
+    assert!(seen.iter().flatten().all(|count| *count > 0), "{seen:?}");
+    assert_eq!((left_out, gone_on, cleared), (3, 4, 2));
 }
 
 /// The report's Examples 5 to 8: the mapping, the tables of jTicket's needs and ePurse's grants.

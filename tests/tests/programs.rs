@@ -131,7 +131,7 @@ fn an_argument_that_is_no_text_is_told() {
 fn a_difference_is_1() {
     let runs = [
         ("differ --fault grants-lost", "differ: the comparison failed\n"),
-        ("cases --fault grants-lost", "cases: 2 cases failed\n"),
+        ("cases --fault grants-lost", "cases: 4 cases failed\n"),
     ];
     for (run, words) in runs {
         let ended = program(run).output().expect(run);

@@ -20,8 +20,7 @@ fn meaning(verdict: Verdict) -> Result<u32, u32> {
 fn judging_gives_the_numbers_of_every_case() {
     let mut seen = BTreeSet::new();
     for case in all() {
-        let mut image = [0; IMAGE];
-        assert_eq!(engine::empty(&mut image), Ok(()));
+        let mut image = case.image();
         for step in &case.steps {
             let judged = engine::judge(&mut image, &step.record);
             assert_eq!(judged.map_err(Refusal::number), meaning(step.verdict), "{}", case.name);

@@ -4,14 +4,13 @@
 use second::card::{linked, names, Card};
 use second::cases::{all, Case};
 use second::faults;
-use second::hex::to_hex;
 use second::program::{self, Failure};
 use second::say_line;
 use std::process::ExitCode;
 
 const HELP: &str = "\
 cases               runs every case and prints its line
-cases --records     the records too, in hexadecimal
+cases --records     the records too, in hexadecimal; a line 'change' stands where the rules change
 cases --fault NAME  with an engine that is wrong on purpose; a wrong name lists them all
 
 Exit code: 0; 1 when a case comes out otherwise, or an engine differs; 2 when the command line is bad.
@@ -50,7 +49,7 @@ fn holds(case: &Case, cards: &[&dyn Card], with_records: bool) -> bool {
         Err(difference) => say_line!("{}: FAILED: {difference}", case.name),
     }
     if with_records {
-        case.steps.iter().for_each(|step| say_line!("    {}", to_hex(&step.record)));
+        case.history().iter().for_each(|event| say_line!("    {}", event.to_text()));
     }
     verdicts.is_ok()
 }
