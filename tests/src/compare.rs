@@ -103,7 +103,11 @@ impl<'a> Compare<'a> {
 
     /// An empty card, by the rules before so many changes.
     pub fn before(cards: &'a [&'a dyn Card], seed: u64, changes: usize) -> Result<Compare<'a>, String> {
-        expect!(changes <= BEFORE.len(), "the rules have changed {} times, not {changes}", BEFORE.len());
+        expect!(
+            changes <= BEFORE.len(),
+            "a history has at most {} change of the rules, here are {changes}",
+            BEFORE.len()
+        );
         let time = BEFORE.len() - changes;
         let (linked, cards) = (cards, BEFORE.get(time).copied().unwrap_or(cards));
         let mut image = vec![0; IMAGE];

@@ -1,11 +1,12 @@
 //! Engines that are wrong on purpose, each in one way, to show that the comparison finds it: the
-//! paper's list of what a reviewer will try, its misreadings of the report, and a few more.
+//! paper's list of what a reviewer will try, its misreadings of the report, requests misread, and a few more.
 
-use crate::card::{Card, Verdict, BYTES, IMAGE};
+use crate::card::{Bytes, Card, Verdict, BYTES, IMAGE};
+use crate::methods::{self, Held};
 use crate::program::Failure;
 use crate::rules::Rules;
 
-/// The byte engine with one of its entries replaced.
+/// The byte engine with one of its entries replaced, or by other rules.
 pub struct Fault {
     name: &'static str,
     entry: Entry,
@@ -17,6 +18,17 @@ enum Entry {
     Judge(fn(&mut [u8], &[u8]) -> Verdict),
     ReadOut(fn(&[u8], u32, &mut [u8]) -> Verdict),
     Aid(fn(&[u8]) -> &[u8]),
+    /// Every entry by other rules.
+    Rules(Rules),
+}
+
+impl Fault {
+    fn bytes(&self) -> Bytes {
+        match self.entry {
+            Entry::Rules(rules) => Bytes(rules),
+            _ => BYTES,
+        }
+    }
 }
 
 impl Card for Fault {
@@ -27,35 +39,35 @@ impl Card for Fault {
     fn check(&self, image: &[u8]) -> Verdict {
         match self.entry {
             Entry::Check(check) => check(image),
-            _ => BYTES.check(image),
+            _ => self.bytes().check(image),
         }
     }
 
     fn empty(&self, image: &mut [u8]) -> Verdict {
         match self.entry {
             Entry::Empty(empty) => empty(image),
-            _ => BYTES.empty(image),
+            _ => self.bytes().empty(image),
         }
     }
 
     fn judge(&self, image: &mut [u8], record: &[u8]) -> Verdict {
         match self.entry {
             Entry::Judge(judge) => judge(image, record),
-            _ => BYTES.judge(image, record),
+            _ => self.bytes().judge(image, record),
         }
     }
 
     fn read_out(&self, image: &[u8], number: u32, out: &mut [u8]) -> Verdict {
         match self.entry {
             Entry::ReadOut(read_out) => read_out(image, number, out),
-            _ => BYTES.read_out(image, number, out),
+            _ => self.bytes().read_out(image, number, out),
         }
     }
 
     fn aid<'a>(&self, record: &'a [u8]) -> &'a [u8] {
         match self.entry {
             Entry::Aid(aid) => aid(record),
-            _ => BYTES.aid(record),
+            _ => self.bytes().aid(record),
         }
     }
 }
@@ -83,6 +95,14 @@ pub const FAULTS: &[Fault] = &[
     Fault { name: "made-up-length", entry: Entry::ReadOut(made_up_length) },
     Fault { name: "number-cut-to-a-byte", entry: Entry::ReadOut(number_cut) },
     Fault { name: "aid-with-length", entry: Entry::Aid(aid_with_length) },
+    Fault { name: "rules-of-document-01", entry: Entry::Rules(Rules::DOCUMENT_01) },
+    Fault { name: "method-128-read", entry: Entry::Judge(method_128_read) },
+    Fault { name: "method-127-refused", entry: Entry::Judge(method_127_refused) },
+    Fault { name: "provided-128-sound", entry: Entry::Check(|image| lets_in(Held::Provided, image)) },
+    Fault { name: "unmet-128-sound", entry: Entry::Check(|image| lets_in(Held::Unmet, image)) },
+    Fault { name: "goes-on-with-128", entry: Entry::Judge(goes_on_with_128) },
+    Fault { name: "reads-out-128", entry: Entry::ReadOut(reads_out_128) },
+    Fault { name: "aid-with-128", entry: Entry::Aid(|record| Bytes(Rules::DOCUMENT_01).aid(record)) },
 ];
 
 /// The fault that the option `--fault` names.
@@ -222,4 +242,47 @@ fn aid_with_length(record: &[u8]) -> &[u8] {
         0 => &record[..0],
         length => &record[4..5 + length],
     }
+}
+
+/// Method tokens stop at 128.
+const TO_128: Rules = Rules { most_method: 128 };
+/// Method tokens stop at 126.
+const TO_126: Rules = Rules { most_method: 126 };
+
+/// Reads a record whose method tokens go up to 128. Images are checked rightly.
+fn method_128_read(image: &mut [u8], record: &[u8]) -> Verdict {
+    match BYTES.check(image).answer {
+        0 => Bytes(TO_128).judge(image, record),
+        _ => BYTES.judge(image, record),
+    }
+}
+
+/// Takes a record with a method token of 127 for malformed.
+fn method_127_refused(image: &mut [u8], record: &[u8]) -> Verdict {
+    match BYTES.check(image).answer == 0 && Bytes(TO_126).aid(record).is_empty() {
+        true => Verdict::new(2, 255),
+        false => BYTES.judge(image, record),
+    }
+}
+
+/// Lets any method token in that stands in this part of the image.
+fn lets_in(part: Held, image: &[u8]) -> Verdict {
+    let other = |image: &[u8]| methods::of_image(image).into_iter().any(|(held, at)| held != part && image[at] > 127);
+    match image.len() == IMAGE && !other(image) {
+        true => Bytes(Rules::DOCUMENT_01).check(image),
+        false => BYTES.check(image),
+    }
+}
+
+/// Judges records rightly, but by document 01's rules whether the image is sound.
+fn goes_on_with_128(image: &mut [u8], record: &[u8]) -> Verdict {
+    match BYTES.aid(record).is_empty() {
+        true => BYTES.judge(image, record),
+        false => Bytes(Rules::DOCUMENT_01).judge(image, record),
+    }
+}
+
+/// Reads out of a card of document 01's rules.
+fn reads_out_128(image: &[u8], number: u32, out: &mut [u8]) -> Verdict {
+    Bytes(Rules::DOCUMENT_01).read_out(image, number, out)
 }

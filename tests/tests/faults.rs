@@ -5,7 +5,7 @@ use second::cases::all;
 use second::compare::lengths_alike;
 use second::damage::Damage;
 use second::faults::FAULTS;
-use second::history::changes;
+use second::history::{changes, Event};
 use second::run::{replay, run};
 
 const SEED: u64 = 1;
@@ -38,6 +38,29 @@ fn the_cases_find_most_faults() {
     assert_eq!(missed, ["ten-uncounted", "left-over-read", "last-byte-unchecked", "empty-any-length"]);
 }
 
+/// A difference that shows on a card of earlier rules alone has its history over the change, which is replayed from its
+/// lines.
+#[test]
+fn a_history_over_the_change_is_replayed() {
+    std::panic::set_hook(Box::new(|_| {}));
+    let fault = FAULTS.iter().find(|fault| fault.name() == "reads-out-128").expect("the fault");
+    let cards: [&dyn Card; 2] = [&BYTES, fault];
+    let found = (SEED..).find_map(|seed| {
+        let failure = run(&cards, seed, 20_000).err().expect("a difference");
+        (changes(&failure.history) == 1).then_some((seed, failure))
+    });
+    let (seed, failure) = found.expect("a history over the change");
+    let lines: Vec<String> = failure.history.iter().map(Event::to_text).collect();
+    let read: Vec<Event> = lines.iter().filter_map(|line| Event::from_text(line)).collect();
+    assert_eq!(read, failure.history);
+    assert!(replay(&cards, seed, &read, &failure.difference.damage).is_err(), "{lines:?}");
+    assert!(replay(&[&BYTES], seed, &read, &failure.difference.damage).is_ok(), "{lines:?}");
+    // No more changes can be told than there were.
+    let twice = [read, vec![Event::Change]].concat();
+    let words = replay(&[&BYTES], seed, &twice, &Damage::default()).err().expect("a difference").words;
+    assert_eq!(words, "a history has at most 1 change of the rules, here are 2");
+}
+
 #[test]
 fn no_record_of_a_shortest_history_can_be_dropped() {
     let fault = FAULTS.iter().find(|fault| fault.name() == "grants-lost").expect("the fault");
@@ -52,7 +75,8 @@ fn no_record_of_a_shortest_history_can_be_dropped() {
 
 #[test]
 fn a_short_run_finds_nothing_in_the_byte_engine() {
-    let tally = run(&[&BYTES], SEED, 1_000).ok().expect("no difference");
-    assert_eq!(tally.records, 1_000);
+    let tally = run(&[&BYTES], SEED, 4_000).ok().expect("no difference");
+    assert_eq!(tally.records, 4_000);
+    assert!(tally.left_out > 0 && tally.cleared > 0 && tally.before > 0);
     assert!(tally.contracts_read > 1_000 && tally.damaged_sound > 100 && tally.damaged_unsound > 1_000);
 }

@@ -1,5 +1,7 @@
 //! The programs as they are run: their output closed or full, their help, and their exit codes.
 
+use second::cases::named;
+use second::history::Event;
 use std::fs::File;
 use std::path::PathBuf;
 use std::process::{Command, Output, Stdio};
@@ -138,6 +140,32 @@ fn a_difference_is_1() {
         assert_eq!((ended.status.code(), errors(&ended).as_str()), (Some(1), words));
         assert!(printed(&ended).contains("FAILED: "), "{run}");
     }
+}
+
+/// A history over the change of the rules, as `differ` prints one that fails and `cases --records` prints those of cases.
+#[test]
+fn a_history_over_the_change_is_replayed() {
+    let place = PathBuf::from(env!("CARGO_TARGET_TMPDIR"));
+    let run = |name: &str, lines: &str, more: &[&str]| {
+        let file = place.join(name);
+        std::fs::write(&file, lines).expect("a file");
+        program("differ --replay").arg(&file).args(more).output().expect("differ")
+    };
+    let text = |case: &str| named(case).history().iter().map(|event| event.to_text() + "\n").collect::<String>();
+    let left_out = text("R-7: a card that provides 128 at the change");
+    let gone_on = text("R-7: a card that holds 127 goes on over the change");
+    for (name, lines, said) in [("left-out", &left_out, "0 gone on"), ("gone-on", &gone_on, "1 gone on")] {
+        let ended = run(name, lines, &[]);
+        assert_eq!((ended.status.code(), errors(&ended).as_str()), (Some(0), ""), "{name}: {}", printed(&ended));
+        assert!(printed(&ended).contains(&format!("histories over the change of the rules: {said}")), "{name}");
+    }
+    let ended = run("left-out-fault", &left_out, &["--fault", "provided-128-sound"]);
+    let words = "FAILED: provided-128-sound: checking the unsound image gives 0 with 1\n";
+    assert!(ended.status.code() == Some(1) && printed(&ended).ends_with(words), "{}", printed(&ended));
+    let ended = run("bad-line", "00 00\nchanges\n", &[]);
+    let bad = place.join("bad-line").display().to_string();
+    let told = format!("differ: {bad}: line 2: not pairs of hexadecimal digits, nor '{}'\n", Event::Change.to_text());
+    assert_eq!((ended.status.code(), errors(&ended)), (Some(1), told));
 }
 
 /// The proved engine is among those compared when its archive is linked.
