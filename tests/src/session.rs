@@ -37,8 +37,13 @@ impl Frames<'_> {
     /// A line for each record, and one for a bad frame. The machine and the byte engine agree on every answer, or what
     /// differs is said; the number is the byte engine's.
     pub fn lines(&self) -> Result<Vec<String>, String> {
+        self.lines_before(0)
+    }
+
+    /// The lines by the rules before so many changes.
+    pub fn lines_before(&self, changes: usize) -> Result<Vec<String>, String> {
         let cards: [&dyn Card; 1] = [&BYTES];
-        let (mut compare, mut pairs) = (Compare::new(&cards, 0)?, Pairs::default());
+        let (mut compare, mut pairs) = (Compare::before(&cards, 0, changes)?, Pairs::default());
         let mut lines = Vec::new();
         for (ordinal, record) in (1..).zip(&self.records) {
             let verdict = compare.judge(record, &mut pairs)?;

@@ -1,8 +1,10 @@
 //! Each cause by itself, and the lowest number where several apply.
 
-use second::card::{linked, Verdict};
+use second::card::{linked, Bytes, Card, Verdict};
 use second::cases::{B, C, H, X};
 use second::compare::{Compare, Tally};
+use second::machine::Machine;
+use second::rules::Rules;
 use second::write::{add_service, load, record, remove, remove_service, row as written, update, Row, Tokens};
 
 const S: Tokens = (0, 0);
@@ -78,6 +80,61 @@ fn the_longest_record_has_4145_bytes() {
     let longest = load(&[0xF0; 16], &services, &rows, &rows, &rows);
     assert_eq!(longest.len(), 4145);
     assert_eq!(answers(&[longest]), [9]);
+}
+
+/// The machine and the byte engine, each by both rules.
+#[test]
+fn cause_2_a_method_token() {
+    let methods = [0, 1, 126, 127, 128, 129, 200, 254, 255];
+    let at = |tokens: Tokens| {
+        let rows = [row(X, tokens)];
+        let grants = [row(C, S), row(X, tokens)];
+        let mut records = vec![
+            load(H, &[tokens], &[], &[], &[]),
+            load(H, &[T, tokens], &[], &[], &[]),
+            load(H, &[], &rows, &[], &[]),
+            load(H, &[S], &[], &grants, &[]),
+            load(H, &[], &[row(X, S)], &[], &rows),
+            add_service(H, tokens, &[C.to_vec()]),
+            remove_service(H, tokens),
+        ];
+        records.extend((5..=10).map(|kind| update(kind, H, X, tokens)));
+        records
+    };
+    for (interface, method) in [0, 127, 128, 255].into_iter().flat_map(|one| methods.map(|other| (one, other))) {
+        for (n, record) in at((interface, method)).into_iter().enumerate() {
+            for (rules, most) in [(Rules::DOCUMENT_01, 255), (Rules::R_7, 127)] {
+                let mut image = vec![0; 1094];
+                Bytes(rules).empty(&mut image);
+                let answers =
+                    [Machine::default().judge(rules, &record), Bytes(rules).judge(&mut image, &record).answer];
+                let read = method <= most;
+                assert!(answers.iter().all(|answer| (*answer == 2) != read), "{n}, {interface}.{method}: {answers:?}");
+                assert_eq!(Bytes(rules).aid(&record), if read { H } else { &[] });
+            }
+        }
+    }
+}
+
+/// The rules in force stop where R-7 says.
+#[test]
+fn method_tokens_stop_at_127() {
+    let records = [
+        load(H, &[(255, 127)], &[row(X, (128, 127))], &[row(C, (255, 127))], &[]),
+        load(C, &[], &[row(H, (255, 127))], &[], &[row(H, (255, 127))]),
+        update(5, C, X, (0, 128)),
+        update(5, C, X, (128, 127)),
+        add_service(H, (0, 128), &[]),
+        add_service(H, (0, 127), &[]),
+        // 2 before 3, 4, 5 and 6.
+        load(H, &[(0, 128), (0, 128)], &[], &[], &[]),
+        load(H, &[(0, 128)], &[], &[], &[]),
+        update(6, B, X, (0, 128)),
+        update(6, H, H, (0, 128)),
+        update(6, C, X, (0, 128)),
+        remove_service(H, (127, 255)),
+    ];
+    assert_eq!(answers(&records), [0, 0, 2, 0, 2, 0, 2, 2, 2, 2, 2, 2]);
 }
 
 #[test]

@@ -1,6 +1,6 @@
 //! Each condition of a sound image, broken by itself. The engines and the tests' own reader agree.
 
-use second::card::{linked, Card, Verdict, BYTES, IMAGE};
+use second::card::{linked, Bytes, Card, Verdict, BYTES, IMAGE};
 use second::cases::{B, C, H, X};
 use second::rules::Rules;
 use second::tables;
@@ -38,6 +38,10 @@ const HARMLESS: &[(&str, &[Edit])] = &[
     ("another AID", &[(4 + 34 + 5, &[7])]),
     ("an AID that takes its fill", &[(4 + 34, &[6])]),
     ("other tokens", &[(140, &[9, 9])]),
+    ("a method token of 127", &[(140 + 1, &[127])]),
+    ("an interface token of 255", &[(140, &[255, 127])]),
+    ("unmet: a method token of 127", &[(UNMET + 17, &[5, 127])]),
+    ("unmet: an interface token of 255", &[(UNMET + 20 + 17, &[255, 127])]),
     ("tokens of another package", &[(140, &[2, 2])]),
     ("a service with tokens 0, 0", &[(268, &[0x07])]),
     ("a grant without a call", &[(340 + 3, &[0x05])]),
@@ -64,6 +68,11 @@ const HARMFUL: &[(&str, &[Edit])] = &[
     ("AID of an unused number", &[(4 + 17 + 16, &[1])]),
     ("one AID twice", &[(4 + 34 + 5, &[1])]),
     ("one service twice", &[(140 + 4, &[1, 1])]),
+    ("a method token of 128", &[(140 + 1, &[128])]),
+    ("a method token of 255, of a service that nobody calls", &[(140 + 32, &[2, 255])]),
+    ("a method token of 128 of the last service", &[(268 + 3, &[0x81]), (140 + 48 + 14, &[0, 128])]),
+    ("unmet: a method token of 128", &[(UNMET + 18, &[128])]),
+    ("unmet: a method token of 255 in the last row", &[(UNMET + 20 + 18, &[255])]),
     ("tokens of an unused service", &[(140 + 3, &[1])]),
     ("tokens of an unused number", &[(140 + 16, &[1])]),
     ("services of an unused number", &[(268 + 1, &[1])]),
@@ -143,6 +152,30 @@ fn harmless_edits_leave_an_image_sound() {
 fn every_condition_is_looked_at() {
     for (name, edits) in HARMFUL {
         assert!(!sound_everywhere(&edited(edits), name), "{name}");
+    }
+}
+
+/// By document 01's rules an image with any method token is sound, and it is the same otherwise.
+#[test]
+fn method_tokens_are_what_the_rules_differ_in() {
+    let then = Bytes(Rules::DOCUMENT_01);
+    for at in [140 + 1, 140 + 32 + 1, UNMET + 18, UNMET + 20 + 18] {
+        for method in [126, 127, 128, 129, 255] {
+            let mut image = sample();
+            image[at] = method;
+            assert_eq!(then.check(&image), Verdict::new(0, 3), "byte {at}: {method}");
+            assert!(tables::contracts(Rules::DOCUMENT_01, &image).is_some(), "byte {at}: {method}");
+            assert_eq!(sound_everywhere(&image, "a method token"), method <= 127, "byte {at}: {method}");
+            for card in linked().into_iter().filter(|_| method > 127) {
+                let (mut own, mut buffer) = (image.clone(), [0xA5; 128]);
+                assert_eq!(card.judge(&mut own, &remove(H)), Verdict::new(1, 255));
+                assert_eq!(card.read_out(&image, 0, &mut buffer), Verdict::new(1, 0));
+                assert!(own == image && buffer == [0xA5; 128]);
+            }
+        }
+    }
+    for (name, edits) in HARMFUL.iter().filter(|(name, _)| !name.contains("method token")) {
+        assert_eq!(then.check(&edited(edits)), Verdict::new(1, 255), "{name}");
     }
 }
 

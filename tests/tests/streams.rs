@@ -1,13 +1,17 @@
 //! The streams that the session program is run on tell it from programs that are wrong in one way each.
 
+use second::machine;
+use second::methods::{self, Place};
 use second::pairs::{Kind, POSSIBLE};
-use second::session::streams::{all, history, SEEDS};
+use second::rules::Rules;
+use second::session::streams::{all, edges, history, SEEDS};
 use second::session::{frames, transcript, Frames};
+use std::collections::BTreeSet;
 
 /// A wrong program: what it makes of the frames and of the right lines.
 type Wrong = fn(&Frames, Vec<String>) -> Vec<String>;
 
-const WRONG: [(&str, Wrong); 16] = [
+const WRONG: [(&str, Wrong); 18] = [
     ("goes on after a bad frame", |frames, lines| [lines, behind(frames.rest)].concat()),
     ("the line of a bad frame has the ordinal 7", |frames, lines| {
         if_bad(frames, lines, |_| Some("7 - 2 -\n".to_string()))
@@ -38,6 +42,16 @@ const WRONG: [(&str, Wrong); 16] = [
         for (record, line) in frames.records.iter().zip(&mut lines) {
             if !(1..=10).contains(&record[3]) {
                 *line = line.replace(&format!(" {} ", record[3]), " - ");
+            }
+        }
+        lines
+    }),
+    ("a method token of 128 is read", |frames, _| frames.lines_before(1).expect("no difference")),
+    ("a method token of 127 is not read", |frames, mut lines| {
+        for (record, line) in frames.records.iter().zip(&mut lines) {
+            if methods::of_record(record).iter().any(|(_, at)| record[*at] == 127) {
+                let ordinal = line.split(' ').next().expect("an ordinal");
+                *line = format!("{ordinal} {} 2 -\n", record[3]);
             }
         }
         lines
@@ -110,4 +124,22 @@ fn the_histories_have_every_pair() {
             assert!(lines.contains(&format!(" {kind} {answer} ")), "kind {kind} never has answer {answer}");
         }
     }
+}
+
+/// Method tokens of 127 and of 128 are in every place, in a record that is read but for the 128.
+#[test]
+fn the_edges_have_method_tokens_in_every_place() {
+    let mut seen = BTreeSet::new();
+    for stream in edges() {
+        for record in frames(&stream.input).records.iter().filter(|record| read_by(Rules::DOCUMENT_01, record)) {
+            seen.extend(methods::of_record(record).into_iter().map(|(place, at)| (place, record[at])));
+        }
+    }
+    for place in Place::all() {
+        assert!([127, 128].into_iter().all(|method| seen.contains(&(place, method))), "{place}");
+    }
+}
+
+fn read_by(rules: Rules, record: &[u8]) -> bool {
+    machine::record::read(rules, record).is_ok()
 }

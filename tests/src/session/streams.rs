@@ -2,12 +2,12 @@
 
 use super::frames;
 use crate::card::LONGEST_RECORD;
-use crate::cases::{named, H};
+use crate::cases::{self, named, Case, C, H};
 use crate::generate::Source;
 use crate::machine::Machine;
 use crate::random::Random;
 use crate::rules::Rules;
-use crate::write::{add_service, load, record, Row};
+use crate::write::{add_service, load, record, update, Row};
 use std::ops::RangeInclusive;
 
 /// An input, and what it is.
@@ -39,10 +39,10 @@ pub fn paper() -> Vec<Vec<u8>> {
     named("the four records of the session").steps.into_iter().map(|step| step.record).collect()
 }
 
-/// What the paper says of lengths, of kinds, of the longest record, and of the end; and ordinals of every width.
+/// What the paper says of lengths, of kinds, of tokens, of the longest record, and of the end; and ordinals of every width.
 pub fn edges() -> Vec<Stream> {
     let one = vec![Stream::new("the paper's four records", paper().concat()), Stream::new("no bytes", Vec::new())];
-    [one, single_bytes(), lengths(), kinds(), longest(), counts()].concat()
+    [one, single_bytes(), lengths(), kinds(), tokens(), longest(), counts()].concat()
 }
 
 /// A single byte, alone and behind records.
@@ -95,6 +95,17 @@ fn kinds() -> Vec<Stream> {
         let input = [paper()[0].clone(), record(kind, &[&aid]), paper()[1].clone()].concat();
         streams.push(Stream::new(format!("kind {kind} between records"), input));
     }
+    streams
+}
+
+/// Method tokens of 127 and 128 in every place, a case on each card; and every method, in one record each.
+fn tokens() -> Vec<Stream> {
+    let cases = cases::tokens::cases().into_iter().filter(|case| case.before.is_empty());
+    let records = |case: &Case| case.steps.iter().flat_map(|step| step.record.clone()).collect();
+    let mut streams: Vec<_> = cases.map(|case| Stream::new(case.name, records(&case))).collect();
+    let called = (0..=255).flat_map(|method| [update(5, C, H, (method, method)), update(6, C, H, (method, method))]);
+    let input = [load(C, &[], &[], &[], &[])].into_iter().chain(called).flatten().collect();
+    streams.push(Stream::new("every method token, called", input));
     streams
 }
 
