@@ -47,8 +47,11 @@ extern "C" {
 /*
  * The version of what this file promises. The major number goes up when a host that kept to it may have to change: parameters,
  * results, the meaning of an answer, the bytes of images and records. The minor number goes up when something is added.
+ *
+ * 2.0: a method token is 0 to 127, where 1.0 had 0 to 255. A record with a higher one gets 2; a card of 1.0 that holds a higher one is
+ * unsound, and every function that takes its image gives 1. Interface tokens stay 0 to 255.
  */
-#define CARD_VERSION_MAJOR 1
+#define CARD_VERSION_MAJOR 2
 #define CARD_VERSION_MINOR 0
 #define CARD_VERSION (CARD_VERSION_MAJOR * 1000 + CARD_VERSION_MINOR)
 
@@ -74,8 +77,10 @@ extern "C" {
  */
 enum card_answer {
     CARD_ACCEPTED = 0,
-    CARD_UNSOUND_IMAGE = 1,        /* the image is not sound, or not CARD_IMAGE_SIZE bytes */
-    CARD_MALFORMED_RECORD = 2,     /* length, version, kind, count or AID length wrong, or bytes missing or left over */
+    CARD_UNSOUND_IMAGE = 1,        /* the image is not sound, as one that holds a method token of 128 or more, or not CARD_IMAGE_SIZE
+                                      bytes */
+    CARD_MALFORMED_RECORD = 2,     /* length, version, kind, count or AID length wrong, a method token of 128 or more, or bytes missing
+                                      or left over */
     CARD_CONTRADICTORY_RECORD = 3, /* a row or AID is repeated; the own AID as the other end; in a load, a need that is not called or a
                                       grant of a service not provided */
     CARD_INSTALLED = 4,            /* load of an AID that is installed */

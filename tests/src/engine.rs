@@ -32,8 +32,8 @@
 use crate::card::Verdict;
 use crate::refusal::Refusal;
 
-/// Whether an image is sound: the count of its packages, or [`Refusal::Unsound`]. Any bytes of any
-/// length may be given.
+/// Whether an image is sound: the count of its packages, or [`Refusal::Unsound`], as of one that holds a
+/// method token of 128 or more. Any bytes of any length may be given.
 pub fn check(image: &[u8]) -> Result<u32, Refusal> {
     meaning(exact::check(image))
 }
@@ -44,7 +44,8 @@ pub fn empty(image: &mut [u8]) -> Result<(), Refusal> {
 }
 
 /// Judges a record on an image. Accepted, the image is changed; the number is the package's (on
-/// removal, the one it had). Refused with any cause but [`Refusal::BufferShort`].
+/// removal, the one it had). Refused with any cause but [`Refusal::BufferShort`]; a method token of 128 or
+/// more in the record is [`Refusal::Malformed`].
 pub fn judge(image: &mut [u8], record: &[u8]) -> Result<u32, Refusal> {
     meaning(exact::judge(image, record))
 }

@@ -1,5 +1,6 @@
 //! The program `cardtool`: its commands on good and bad input, options, messages and exit codes.
 
+use second::hex::from_hex;
 use second::host::tool::run;
 use second::program::{Failure, BAD_INPUT, BAD_USE};
 use std::path::PathBuf;
@@ -139,6 +140,47 @@ fn bad_input_is_1_with_its_place() {
     fails("dump", b"04 46", BAD_INPUT, "standard input: byte 2: an image has 1094 bytes, here are 2");
     fails("show", b"04 46 02 01\n1094:", BAD_INPUT, "standard input: byte 2: the header has 01 here, not 02\nstandard input: byte 4: the AID of package 0 has the length 0, not 5 to 16");
     fails("build", b"package 9", BAD_INPUT, "standard input: line 1, column 9: '9' is not a number from 0 to 7");
+}
+
+/// Method tokens stop at 127, in texts, in records and in images. `--as-is` writes no higher one.
+#[test]
+fn method_tokens_stop_at_127() {
+    let last = "add F000000001 provides 255.127\n";
+    assert_eq!(text("decode", &text("encode", last)), last);
+    for command in ["encode", "encode --as-is", "judge"] {
+        let words = "standard input: line 2, column 35: the method token is 128, not 0 to 127";
+        fails(command, b"load F000000001\nadd F000000001 calls F000000002 0.128\n", BAD_INPUT, words);
+    }
+    let hex = "00 0C 01 04 05 F0 00 00 00 01 00 80";
+    let words = "standard input: line 1, column 34: byte 11: the method token is 128, not 0 to 127";
+    fails("decode", hex.as_bytes(), BAD_INPUT, words);
+    fails("dump --record", hex.as_bytes(), BAD_INPUT, words);
+    let raw = from_hex(hex).expect("bytes");
+    let words = "standard input: byte 11: record 1: the method token is 128, not 0 to 127";
+    fails("decode --raw", &raw, BAD_INPUT, words);
+    fails(
+        "build",
+        b"package 0 F000000001\n  service 0 0.128",
+        BAD_INPUT,
+        "standard input: line 2, column 15: the method token is 128, not 0 to 127",
+    );
+
+    // A card from before R-7, which provides 0.128 and calls 0.255.
+    let old = "04 46 01 01 05 F0 00 00 00 01\n140: 00 80\n268: 01\n468: 01 05 F0 00 00 00 02\n486: 00 FF 00\n1094:\n";
+    let since = "since R-7 method tokens stop at 127, and a card made before may hold more";
+    let words = format!(
+        "standard input: byte 141: service 0 of package 0 has the method token 128, not 0 to 127: {since}\n\
+         standard input: byte 487: the unmet call has the method token 255, not 0 to 127: {since}"
+    );
+    fails("show", old.as_bytes(), BAD_INPUT, &words);
+    // Its bytes can be looked at.
+    assert!(text("dump", old).contains(" 140: 00 80 "), "{}", text("dump", old));
+    let image = file("old-image");
+    std::fs::write(&image, old).expect("a file");
+    assert_eq!(
+        text(&format!("judge --image {}", image.display()), "unload F000000001"),
+        "1 unload F000000001: refused, 1: the image is not sound, or has not a card's size\n"
+    );
 }
 
 #[test]
