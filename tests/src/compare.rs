@@ -382,14 +382,13 @@ impl<'a> Compare<'a> {
 
     fn count(&self, bytes: &[u8], tally: &mut Tally) {
         tally.records += 1;
+        let read = record::read(self.rules(), bytes).is_ok();
+        let but_for_methods = !read && record::read(Rules::DOCUMENT_01, bytes).is_ok();
         for (place, at) in methods::of_record(bytes) {
-            let seen = match bytes[at] {
-                127 => record::read(self.rules(), bytes).is_ok().then_some(0),
-                128 => record::read(Rules::DOCUMENT_01, bytes).is_ok().then_some(1),
-                _ => None,
-            };
-            if let Some(seen) = seen {
-                tally.methods.entry(place).or_default()[seen] += 1;
+            match bytes[at] {
+                127 if read => tally.methods.entry(place).or_default()[0] += 1,
+                128 if but_for_methods => tally.methods.entry(place).or_default()[1] += 1,
+                _ => {}
             }
         }
         let (unmet, waiting) = (self.machine.unmet().count(), self.machine.waiting().count());
