@@ -49,15 +49,12 @@ impl Case {
     /// Judges the records everywhere, compares, and gives what they got: what the table says.
     pub fn run(&self, cards: &[&dyn Card]) -> Result<Vec<Verdict>, String> {
         let judged = caught(|| {
-            let changes = usize::from(!self.before.is_empty());
-            let (mut compare, mut tally) = (Compare::before(cards, 0, changes)?, Tally::default());
+            let (mut compare, mut tally) = (Compare::before(cards, 0, self.changes())?, Tally::default());
             let mut judge = |steps: &[Step], compare: &mut Compare| {
                 steps.iter().map(|step| compare.step(&step.record, &mut tally)).collect::<Result<Vec<_>, _>>()
             };
             let before = judge(&self.before, &mut compare)?;
-            if changes > 0 {
-                compare.change(&mut Tally::default())?;
-            }
+            (0..self.changes()).try_for_each(|_| compare.change(&mut Tally::default()))?;
             Ok([before, judge(&self.steps, &mut compare)?].concat())
         });
         let verdicts = judged.map_err(|difference| difference.to_string())?;
@@ -77,8 +74,16 @@ impl Case {
     /// The records, and the change of the rules behind those before it.
     pub fn history(&self) -> Vec<Event> {
         let records = |steps: &[Step]| steps.iter().map(|step| Event::Record(step.record.clone())).collect::<Vec<_>>();
-        let change = (!self.before.is_empty()).then_some(Event::Change);
-        records(&self.before).into_iter().chain(change).chain(records(&self.steps)).collect()
+        [records(&self.before), vec![Event::Change; self.changes()], records(&self.steps)].concat()
+    }
+
+    /// How often the rules change between what is before and the rest.
+    fn changes(&self) -> usize {
+        if self.before.is_empty() {
+            0
+        } else {
+            Rules::CHANGES
+        }
     }
 
     /// The image that the rules in force find: the empty one, or that of the records before.

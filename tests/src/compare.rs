@@ -74,8 +74,8 @@ pub struct Tally {
     pub methods_held: [[u64; 2]; 2],
 }
 
-/// The byte engine alone, by each of the rules before those in force.
-const BEFORE: [&[&dyn Card]; Rules::ALL.len() - 1] = [&[&Bytes(Rules::DOCUMENT_01)]];
+/// The byte engine alone, by the rules before each change, the last change first.
+const BEFORE: [&[&dyn Card]; Rules::CHANGES] = [&[&Bytes(Rules::before(1))]];
 
 /// One card in every engine, and the machine beside them.
 pub struct Compare<'a> {
@@ -83,8 +83,8 @@ pub struct Compare<'a> {
     linked: &'a [&'a dyn Card],
     /// Those that judge by the rules of the time: before the last change, the byte engine alone.
     cards: &'a [&'a dyn Card],
-    /// Which of all rules are those of the time.
-    time: usize,
+    /// How many changes of the rules are to come.
+    ahead: usize,
     /// Whether the card held, at a change, what the new rules exclude. It is unsound from then on.
     pub left_out: bool,
     /// Whether the card ever held, before a change, what the rules in force exclude.
@@ -101,15 +101,11 @@ impl<'a> Compare<'a> {
         Compare::before(cards, seed, 0)
     }
 
-    /// An empty card, by the rules before so many changes.
-    pub fn before(cards: &'a [&'a dyn Card], seed: u64, changes: usize) -> Result<Compare<'a>, String> {
-        expect!(
-            changes <= BEFORE.len(),
-            "a history has at most {} change of the rules, here are {changes}",
-            BEFORE.len()
-        );
-        let time = BEFORE.len() - changes;
-        let (linked, cards) = (cards, BEFORE.get(time).copied().unwrap_or(cards));
+    /// An empty card, by the rules before the last so many changes.
+    pub fn before(linked: &'a [&'a dyn Card], seed: u64, changes: usize) -> Result<Compare<'a>, String> {
+        let most = Rules::CHANGES;
+        expect!(changes <= most, "a history has at most {most} change of the rules, here are {changes}");
+        let cards = engines(linked, changes);
         let mut image = vec![0; IMAGE];
         image[..3].copy_from_slice(&[0x04, 0x46, 0x01]);
         for card in cards {
@@ -121,7 +117,7 @@ impl<'a> Compare<'a> {
         Ok(Compare {
             linked,
             cards,
-            time,
+            ahead: changes,
             left_out: false,
             held_excluded: false,
             machine: Machine::default(),
@@ -132,12 +128,12 @@ impl<'a> Compare<'a> {
 
     /// The rules of the time.
     fn rules(&self) -> Rules {
-        Rules::ALL[self.time]
+        Rules::before(self.ahead)
     }
 
     /// Whether the last change is past.
     pub fn in_force(&self) -> bool {
-        self.time == BEFORE.len()
+        self.ahead == 0
     }
 
     pub fn event(&mut self, event: &Event, tally: &mut Tally) -> Result<(), Difference> {
@@ -150,11 +146,11 @@ impl<'a> Compare<'a> {
     /// The next rules come into force: their engines get the image's bytes as they are, and the machine goes on with the
     /// contracts it holds. A card with a token that these rules exclude is unsound from then on.
     pub fn change(&mut self, tally: &mut Tally) -> Result<(), Difference> {
-        self.time += 1;
-        self.cards = BEFORE.get(self.time).copied().unwrap_or(self.linked);
+        self.ahead -= 1;
+        self.cards = engines(self.linked, self.ahead);
         self.left_out |= !self.machine.keeps_to(self.rules());
         if self.left_out {
-            self.refused_alike(&[], tally)?;
+            self.refused_alike(&[], &mut Pairs::default())?;
         } else {
             let stands_for = tables::contracts(self.rules(), &self.image);
             if stands_for.as_ref() != Some(&self.machine) {
@@ -172,16 +168,17 @@ impl<'a> Compare<'a> {
 
     /// Judges a record and compares all that the paper determines. Before the last change, judging alone is compared.
     pub fn step(&mut self, bytes: &[u8], tally: &mut Tally) -> Result<Verdict, Difference> {
+        let mut pairs_before = Pairs::default();
+        let pairs = if self.in_force() { &mut tally.pairs } else { &mut pairs_before };
+        let verdict = match self.left_out {
+            true => self.refused_alike(bytes, pairs)?,
+            false => self.judge(bytes, pairs)?,
+        };
         if !self.in_force() {
             tally.before += 1;
-            let verdict = self.judge(bytes, &mut Pairs::default())?;
             self.held_excluded |= !self.machine.keeps_to(Rules::IN_FORCE);
             return Ok(verdict);
         }
-        let verdict = match self.left_out {
-            true => self.refused_alike(bytes, tally)?,
-            false => self.judge(bytes, &mut tally.pairs)?,
-        };
         let mut random = Random::of_bytes(self.seed, &[&self.image, bytes].concat());
         let before = self.image.clone();
         if !self.left_out {
@@ -200,10 +197,10 @@ impl<'a> Compare<'a> {
     }
 
     /// A card that holds what the rules exclude is refused by every entry, whatever the record is, and left as it was.
-    fn refused_alike(&self, bytes: &[u8], tally: &mut Tally) -> Result<Verdict, String> {
+    fn refused_alike(&self, bytes: &[u8], pairs: &mut Pairs) -> Result<Verdict, String> {
         let sound = tables::contracts(self.rules(), &self.image).is_some();
         expect!(!sound, "the tests' own reader takes a card for sound that holds what the rules exclude");
-        tally.pairs.count(Kind::of(bytes), 1);
+        pairs.count(Kind::of(bytes), 1);
         for card in self.cards {
             unsound(*card, &self.image, bytes)?;
             for number in (0..9).chain([255, u32::MAX]) {
@@ -399,6 +396,14 @@ impl<'a> Compare<'a> {
         let contracts = &self.machine.contracts;
         tally.eight_packages += u64::from(contracts.len() == 8);
         tally.eight_services += u64::from(contracts.values().any(|contract| contract.provides.len() == 8));
+    }
+}
+
+/// The engines that judge before the last so many changes: the byte engine alone, or after them all those linked.
+fn engines<'a>(linked: &'a [&'a dyn Card], changes: usize) -> &'a [&'a dyn Card] {
+    match changes {
+        0 => linked,
+        _ => BEFORE[changes - 1],
     }
 }
 

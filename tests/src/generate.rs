@@ -42,29 +42,28 @@ impl Source {
         Source { random, drive, aids, tokens }
     }
 
-    /// Whether the history begins before the last change of the rules. Its tokens are then those of that time.
-    pub fn begins_before(&mut self) -> bool {
-        let before = self.random.percent(25);
-        if before {
-            self.tokens = few_tokens(&mut self.random, Rules::DOCUMENT_01, Vec::new());
-        }
-        before
+    /// How many changes of the rules the history goes over. It begins with the tokens of the rules before them.
+    pub fn changes(&mut self) -> usize {
+        let changes = if self.random.percent(25) { self.random.between(1, Rules::CHANGES) } else { 0 };
+        self.tokens = few_tokens(&mut self.random, Rules::before(changes), Vec::new());
+        changes
     }
 
-    /// How many records come before the change.
+    /// How many records come before a change.
     pub fn length_before(&mut self) -> usize {
         self.random.between(1, 60)
     }
 
-    /// Whether what the rules in force exclude is taken off the card before the change.
+    /// Whether what the rules in force exclude is taken off the card before a change.
     pub fn clears(&mut self) -> bool {
         self.random.percent(60)
     }
 
-    /// From the change on the tokens are those of the rules in force.
-    pub fn change(&mut self) {
-        self.tokens.retain(|tokens| tokens.method <= Rules::IN_FORCE.most_method);
-        self.tokens = few_tokens(&mut self.random, Rules::IN_FORCE, std::mem::take(&mut self.tokens));
+    /// From a change on the tokens are those of the new rules.
+    pub fn change(&mut self, rules: Rules) {
+        let mut tokens = std::mem::take(&mut self.tokens);
+        tokens.retain(|tokens| tokens.method <= rules.most_method);
+        self.tokens = few_tokens(&mut self.random, rules, tokens);
     }
 
     /// How many records a card gets that the rules in force exclude.
@@ -165,18 +164,19 @@ fn few_aids(random: &mut Random) -> Vec<Aid> {
     aids
 }
 
-/// Ten token pairs, those given among them: two more than a package has services. Methods are around 128 and at the
-/// rules' end too, and interfaces, which have no such end, are around 128 and at 255.
+/// Ten token pairs, those given among them: two more than a package has services. The lowest and the highest are there;
+/// some others have a method around 128, as far as the rules go, or an interface there, which may go on to 255.
 fn few_tokens(random: &mut Random, rules: Rules, given: Vec<Tokens>) -> Vec<Tokens> {
     let most = rules.most_method;
-    let around: Vec<u8> = [126, 127, 128, 129, most].into_iter().filter(|method| *method <= most).collect();
+    let around: Vec<u8> = [126, 127, 128, 129, 255].into_iter().filter(|method| *method <= most).collect();
+    let mut ends = vec![Tokens { interface: 0, method: 0 }, Tokens { interface: 255, method: most }];
     let mut tokens = given;
     while tokens.len() < 10 {
         let edge = random.percent(25);
         let interface = if edge { [127, 128, 255][random.below(3)] } else { random.below(3) as u8 };
-        let edge = tokens.is_empty() || random.percent(35);
+        let edge = random.percent(30);
         let method = if edge { around[random.below(around.len())] } else { random.below(5) as u8 };
-        let any = Tokens { interface, method };
+        let any = ends.pop().unwrap_or(Tokens { interface, method });
         if !tokens.contains(&any) {
             tokens.push(any);
         }

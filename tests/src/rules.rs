@@ -17,5 +17,12 @@ impl Rules {
     /// The rules of every time, in order.
     pub const ALL: [Rules; 2] = [Rules::DOCUMENT_01, Rules::R_7];
     /// The rules in force: the last.
-    pub const IN_FORCE: Rules = Rules::ALL[Rules::ALL.len() - 1];
+    pub const IN_FORCE: Rules = Rules::before(0);
+    /// How often the rules have changed.
+    pub const CHANGES: usize = Rules::ALL.len() - 1;
+
+    /// The rules before the last so many changes.
+    pub const fn before(changes: usize) -> Rules {
+        Rules::ALL[Rules::CHANGES - changes]
+    }
 }

@@ -5,6 +5,7 @@ use crate::compare::{lengths_alike, Compare, Difference, Tally};
 use crate::damage::Damage;
 use crate::generate::Source;
 use crate::history::{changes, Event};
+use crate::rules::Rules;
 use crate::shrink::shrink;
 use std::panic::{catch_unwind, AssertUnwindSafe};
 
@@ -40,13 +41,13 @@ fn one_history(
     tally: &mut Tally,
 ) -> Result<(), Difference> {
     let mut source = Source::new(seed, ordinal);
-    let changes = usize::from(source.begins_before());
+    let changes = source.changes();
     let mut compare = Compare::before(cards, seed, changes)?;
     let mut next = |event: Event, compare: &mut Compare, tally: &mut Tally| {
         history.push(event);
         compare.event(&history[history.len() - 1], tally)
     };
-    if changes > 0 {
+    for left in (0..changes).rev() {
         for _ in 0..source.length_before() {
             next(Event::Record(source.record(&compare.machine)), &mut compare, tally)?;
         }
@@ -56,7 +57,7 @@ fn one_history(
             }
         }
         next(Event::Change, &mut compare, tally)?;
-        source.change();
+        source.change(Rules::before(left));
     }
     let length = if compare.left_out { source.length_left_out() } else { source.length() };
     for _ in 0..length {
@@ -88,9 +89,13 @@ pub fn replay(cards: &[&dyn Card], seed: u64, history: &[Event], damage: &Damage
 }
 
 fn shortest(cards: &[&dyn Card], seed: u64, history: &[Event], found: Difference) -> Failure {
-    let replayed = |history: &[Event]| replay(cards, seed, history, &found.damage);
-    let history = shrink(history, |history| replayed(history).is_err());
-    let difference = replayed(&history).err().unwrap_or(found);
+    let replayed = |history: &[Event], damage: &Damage| replay(cards, seed, history, damage);
+    let shrunk = |damage: &Damage| shrink(history, |history| replayed(history, damage).is_err());
+    // Of two damaged bytes one may do, on more images.
+    let one_byte = found.damage.0.iter().map(|byte| Damage(vec![*byte]));
+    let tried = [found.damage.clone()].into_iter().chain(one_byte).map(|damage| (shrunk(&damage), damage));
+    let (history, damage) = tried.min_by_key(|(history, _)| history.len()).unwrap_or_default();
+    let difference = replayed(&history, &damage).err().unwrap_or(found);
     Failure { difference, history }
 }
 

@@ -148,11 +148,13 @@ fn everything_seen(tally: &Tally) -> Result<(), String> {
     if tally.cleared == 0 || tally.left_out == 0 {
         return Err("no card was cleared and went on over the change of the rules, or none was left out".to_string());
     }
-    let unseen: Vec<String> =
-        methods(tally).filter(|(_, seen)| seen.contains(&0)).map(|(place, _)| place.to_string()).collect();
-    match unseen.is_empty() && tally.methods_held.iter().flatten().all(|count| *count > 0) {
+    let [services, unmet] = tally.methods_held;
+    let on_images = [("services of images".to_string(), services), ("unmet calls of images".to_string(), unmet)];
+    let places = methods(tally).map(|(place, seen)| (place.to_string(), seen)).chain(on_images);
+    let unseen: Vec<String> = places.filter(|(_, seen)| seen.contains(&0)).map(|(place, _)| place).collect();
+    match unseen.is_empty() {
         true => Ok(()),
-        false => Err(format!("a method token of 127 or 128 was never seen: {}", unseen.join(", "))),
+        false => Err(format!("a method token of 127 or of 128 was never seen in: {}", unseen.join(", "))),
     }
 }
 
