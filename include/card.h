@@ -48,8 +48,8 @@ extern "C" {
  * The version of what this file promises. The major number goes up when a host that kept to it may have to change: parameters,
  * results, the meaning of an answer, the bytes of images and records. The minor number goes up when something is added.
  *
- * 2.0: a method token is 0 to 127, where 1.0 had 0 to 255. A record with a higher one gets 2; a card of 1.0 that holds a higher one is
- * unsound, and every function that takes its image gives 1. Interface tokens stay 0 to 255.
+ * 2.0: a method token is 0 to 127, where 1.0 had 0 to 255. A record with a higher one gets 2. An image made with 1.0 that holds a higher
+ * one is not sound: card_check, card_judge and card_read_out give 1. Interface tokens stay 0 to 255.
  */
 #define CARD_VERSION_MAJOR 2
 #define CARD_VERSION_MINOR 0

@@ -126,8 +126,8 @@ impl Machine {
 
     /// Whether every token held is one that these rules have. A card that holds another is not sound by them.
     pub fn keeps_to(&self, rules: Rules) -> bool {
-        let held = self.contracts.values().flat_map(Contract::tokens);
-        held.into_iter().all(|tokens| tokens.method <= rules.most_method)
+        let mut held = self.contracts.values().flat_map(Contract::tokens);
+        held.all(|tokens| tokens.method <= rules.most_method)
     }
 
     /// The grants whose caller is not installed, each after its provider.
