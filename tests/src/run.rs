@@ -92,8 +92,8 @@ fn shortest(cards: &[&dyn Card], seed: u64, history: &[Event], found: Difference
     let replayed = |history: &[Event], damage: &Damage| replay(cards, seed, history, damage);
     let shrunk = |damage: &Damage| shrink(history, |history| replayed(history, damage).is_err());
     // Of two damaged bytes one may do, on more images.
-    let one_byte = found.damage.0.iter().map(|byte| Damage(vec![*byte]));
-    let tried = [found.damage.clone()].into_iter().chain(one_byte).map(|damage| (shrunk(&damage), damage));
+    let single = found.damage.0.iter().filter(|_| found.damage.0.len() > 1).map(|byte| Damage(vec![*byte]));
+    let tried = [found.damage.clone()].into_iter().chain(single).map(|damage| (shrunk(&damage), damage));
     let (history, damage) = tried.min_by_key(|(history, _)| history.len()).unwrap_or_default();
     let difference = replayed(&history, &damage).err().unwrap_or(found);
     Failure { difference, history }

@@ -75,8 +75,8 @@ fn no_record_of_a_shortest_history_can_be_dropped() {
 
 #[test]
 fn a_short_run_finds_nothing_in_the_byte_engine() {
-    let tally = run(&[&BYTES], SEED, 4_000).ok().expect("no difference");
-    assert_eq!(tally.records, 4_000);
+    let tally = run(&[&BYTES], SEED, 2_000).ok().expect("no difference");
+    assert_eq!(tally.records, 2_000);
     assert!(tally.left_out > 0 && tally.cleared > 0 && tally.before > 0);
     assert!(tally.contracts_read > 1_000 && tally.damaged_sound > 100 && tally.damaged_unsound > 1_000);
 }
