@@ -96,7 +96,7 @@ fn toks_ok(img: &[u8], c: Card, j: usize) -> bool
     true
 }
 
-// The method tokens of package j are below the card's limit: all of them gathered in one number, in which no bit above the limit is set.
+// The method tokens of package j are below the card's limit. The limit is a power of 2, so a number in which all tokens are gathered is below it where each is.
 fn methods_ok(img: &[u8], c: Card, j: usize) -> bool
     requires { ⌜ (length (now img) ≡ sizeOf (layoutOf c)) × (j < layoutOf c .packages) ⌝ }
     ensures { λ r. ⌜ r ≡ methodsOk (layoutOf c) (now (img .entry)) j ⌝ }
