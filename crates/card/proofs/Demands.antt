@@ -20,7 +20,7 @@ use Rattle.policy.specs.Sound.{sound}
 use Rattle.policy.specs.History.{SameContract, answers, imageAfter, StandsFor, contractsAfter}
 use Rattle.policy.specs.Eras.{answersOver, imageOver, machineAnswersOver, contractsOver, imageThen, contractsThen}
 use Rattle.policy.specs.Claims.{RefusesWith, IsFirst, allCauses}
-use Rattle.policy.proofs.Sets.{and-l, and-r, test, every-in, each-cons}
+use Rattle.policy.proofs.Sets.{T-false, and-l, and-r, test, every-in, each-cons}
 use Rattle.policy.proofs.Answers.{ascends, first-is}
 use Rattle.policy.proofs.ParseFacts.{first-aid-part}
 use Rattle.policy.proofs.Entries.{answers-always}
@@ -187,10 +187,22 @@ calls-refused image all (s ∷ ss) (r ∷ rs) {left} (mid, c, h) =
       k .1,
     )
 
+-- what is checked with 0 is sound
+checked-sound : (image : List ℕ) → check small image .answered ≡ 0 → T (sound small image)
+checked-sound image z = go (test (sound small image))
+  where
+    go : T (sound small image) ⊎ (T (sound small image) → ⊥) → T (sound small image)
+    go (inl h) = h
+    go (inr h) = let e : _≡_ {A = ℕ} 1 0 = sym (check-caused image ∙ ap (λ (b : Bool). answer (1 when not b ∷ [])) (T-false (sound small image) h)) ∙ z in absurd (omega arith)
+
 pub calls-history : CallsHistory
 unfolding imageAfter
 calls-history =
     record {
+      told = λ before r c. (
+        λ z. so-far .told before (checked-sound (imageThen before) (sym (checked-tells (imageThen before) c .answer) ∙ z)),
+        λ al. calls-number .checking (imageThen before) r (contractsThen before) c (so-far .goes-on before al) .0,
+      );
       from-empty = λ lent r image c z ss rs left h.
           let e = accepted (1 ∷ []) tt z (calls-answer .emptying lent r image c) .2 in
           calls-from (emptyImage small) [] (empty-stands small small-ok) ss rs left (subst (λ (b : List ℕ). Calls b ss rs left) e h);

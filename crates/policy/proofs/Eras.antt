@@ -123,6 +123,7 @@ module _ (L M : Layout) where
     pub stays : LayoutOk M → Stays L M
     stays mo = record {
       same-image = same-image;
+      told = allowed-of;
       goes-on = λ img cs f al. subst (λ (z : List ℕ). StandsFor M z cs) (same-image img (f .is-sound)) (passage img cs f (record { is-ok = mo; widens = widens; allowed = λ _. al }) .1);
       left-out = λ img cs f held. left-out M img (λ ok. held (allowed-of img cs f ok));
     }

@@ -22,7 +22,7 @@ use Rattle.policy.specs.Sound.{sound}
 use Rattle.policy.specs.Judge.{Out, refusal, judgeTables, judge, loadRecord}
 use Rattle.policy.specs.Records.{loadOf, requestOf}
 use Rattle.policy.specs.History.{SameContract, AllAllowed, StandsFor, answers, imageAfter, machineAnswers, contractsAfter}
-use Rattle.policy.specs.Marked.{Line, lineOf, linesFrom, removalOf, loadH, loadB, cases, CaseOver, providing128, calling128, lost128, holding127}
+use Rattle.policy.specs.Marked.{Line, lineOf, linesFrom, removalOf, loadH, loadB, cases, CaseOver, providing128, calling128, holding127}
 use Rattle.policy.specs.Eras.{answersOver, imageOver, machineAnswersOver, contractsOver, LeftOut, Stays, imageThen, contractsThen, SoFar}
 use Rattle.policy.specs.Claims.{MarkedCases, MarkedOver, Agreement, History, FitsLimits, AcceptedExactly, IsFirst, FirstCause, SoundStands, ShortIsFull, ReadOutAgain}
 use Rattle.policy.proofs.Sets.{and-l, and-r, and-i, test, not-e, cond-true, cond-false, every-in, exists-in, in-map, each-one}
@@ -286,6 +286,7 @@ so-far = record {
   history = λ ss ts al. history-from base card-ok (emptyImage base) [] (empty-stands base card-ok) ss _
       (record { is-ok = card-ok; widens = record { packages = lit≤ tt; services = lit≤ tt; capacity = lit≤ tt }; allowed = λ _. al }, tt);
   same-image = λ ss. narrow-stays .same-image (imageThen ss) (then-stands ss .is-sound);
+  told = λ ss. narrow-stays .told (imageThen ss) (contractsThen ss) (then-stands ss);
   goes-on = λ ss. narrow-stays .goes-on (imageThen ss) (contractsThen ss) (then-stands ss);
   left-out = λ ss. narrow-stays .left-out (imageThen ss) (contractsThen ss) (then-stands ss);
 }
@@ -308,18 +309,13 @@ holds-called h = h _ (here refl) .calls _ (here refl)
 abbrev Comes : CaseOver → Type 0
 Comes c = linesFrom small (imageThen (c .before)) (c .records) ≡ c .lines
 
-lost : Comes lost128
+goes-on : Comes holding127
 unfolding linesFrom imageAfter emptyImage sound
-lost = refl
-
-low : Comes holding127
-unfolding linesFrom imageAfter emptyImage sound
-low = refl
+goes-on = refl
 
 pub marked-over : MarkedOver
 marked-over i =
     refused-lines small (imageThen providing128) (so-far .left-out providing128 holds-provided) (loadB ∷ removalOf 1 ∷ [] ∷ []) i
     ∷ refused-lines small (imageThen calling128) (so-far .left-out calling128 holds-called) (removalOf 1 ∷ loadH ∷ []) i
-    ∷ lost i
-    ∷ low i
+    ∷ goes-on i
     ∷ []

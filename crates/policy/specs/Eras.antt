@@ -96,9 +96,10 @@ pub record LeftOut (L : Layout) (img : List ℕ) : Type 0 where
   pub refuses : (ss : List (List ℕ)) (s : List ℕ) → judge L (imageAfter L img ss) s ≡ refusal 1 255 img
 
 -- where the two write the same bytes the image stays as it is: where the rules of M allow the contracts that it stands for it stands
--- for them, else the card is left out
+-- for them, else the card is left out; the check tells which
 pub record Stays (L M : Layout) : Type 0 where
   pub same-image : (img : List ℕ) → T (sound L img) → carried L M img ≡ img
+  pub told : (img : List ℕ) (cs : List Contract) → StandsFor L img cs → T (sound M img) → AllAllowed M cs
   pub goes-on : (img : List ℕ) (cs : List Contract) → StandsFor L img cs → AllAllowed M cs → StandsFor M img cs
   pub left-out : (img : List ℕ) (cs : List Contract) → StandsFor L img cs → (AllAllowed M cs → ⊥) → LeftOut M img
 
@@ -113,8 +114,9 @@ contractsThen ss = contractsAfter base [] ss
 pub record SoFar : Type 0 where
   -- demand 3, where the card then holds no method token of 128 or more
   pub history : (ss ts : List (List ℕ)) → AllAllowed narrow (contractsThen ss) → HistoryOver base (emptyImage base) [] ss (record { rules = narrow; records = ts } ∷ [])
-  -- nothing is converted
+  -- nothing is converted, and the check tells whether it does
   pub same-image : (ss : List (List ℕ)) → carried base narrow (imageThen ss) ≡ imageThen ss
+  pub told : (ss : List (List ℕ)) → T (sound narrow (imageThen ss)) → AllAllowed narrow (contractsThen ss)
   pub goes-on : (ss : List (List ℕ)) → AllAllowed narrow (contractsThen ss) → StandsFor narrow (imageThen ss) (contractsThen ss)
   -- where it holds one
   pub left-out : (ss : List (List ℕ)) → (AllAllowed narrow (contractsThen ss) → ⊥) → LeftOut narrow (imageThen ss)

@@ -156,17 +156,17 @@ providing128 = loadOf 1 (128 ∷ []) [] [] [] ∷ []
 abbrev pub calling128 : List (List ℕ)
 calling128 = loadOf 1 [] (rowOf 9 128 ∷ []) [] [] ∷ []
 
--- one that lost it before the change, and one that holds 127 in both places
-abbrev pub lost128 : CaseOver
-lost128 = record { before = providing128 ++ (removalOf 1 ∷ []); records = loadH ∷ loadOf 2 (128 ∷ []) [] [] [] ∷ []; lines = taken 1 0 ∷ refused 1 2 ∷ [] }
-
+-- one that lost it before the change, and holds 127 in both places
 abbrev pub holding127 : CaseOver
-holding127 = record { before = loadOf 1 (127 ∷ []) (rowOf 9 127 ∷ []) [] [] ∷ []; records = removalOf 1 ∷ []; lines = taken 2 0 ∷ [] }
+holding127 = record {
+  before = providing128 ++ (removalOf 1 ∷ loadOf 1 (127 ∷ []) (rowOf 9 127 ∷ []) [] [] ∷ []);
+  records = removalOf 1 ∷ [];
+  lines = taken 2 0 ∷ [];
+}
 
 abbrev pub casesOver : List CaseOver
 casesOver =
     record { before = providing128; records = loadB ∷ removalOf 1 ∷ [] ∷ []; lines = refused 1 1 ∷ refused 2 1 ∷ refusedShort 1 ∷ [] }
     ∷ record { before = calling128; records = removalOf 1 ∷ loadH ∷ []; lines = refused 2 1 ∷ refused 1 1 ∷ [] }
-    ∷ lost128
     ∷ holding127
     ∷ []
