@@ -125,13 +125,13 @@ calls-read-out image n lent r left c z =
     (w .0, un, subst (λ (s : List ℕ). Restores k s) (sym is) (restores image n (w .0) un))
 
 -- ---- second numbers
--- what is accepted stands on a sound image
-judged-sound : (image rec : List ℕ) → judge small image rec .answered ≡ 0 → T (sound small image)
-judged-sound image rec z = go (test (sound small image))
+-- where an image that is not sound is answered 1, what is answered 0 is sound
+sound-if : (image : List ℕ) {n : ℕ} → ((T (sound small image) → ⊥) → n ≡ 1) → n ≡ 0 → T (sound small image)
+sound-if image {n} bad z = go (test (sound small image))
   where
     go : T (sound small image) ⊎ (T (sound small image) → ⊥) → T (sound small image)
     go (inl h) = h
-    go (inr h) = let e : _≡_ {A = ℕ} 1 0 = sym (ap (λ (o : Out). o .answered) (first-cause small small-ok image rec .0 h)) ∙ z in absurd (omega arith)
+    go (inr h) = let e : _≡_ {A = ℕ} 1 0 = sym (bad h) ∙ z in absurd (omega arith)
 
 pub calls-number : CallsNumber
 calls-number =
@@ -140,7 +140,7 @@ calls-number =
       judging = λ image rec r left q c z e.
           let t = judged-tells image rec c in
           let a = sym (t .answer) ∙ z in
-          let ok = judged-sound image rec a in
+          let ok = sound-if image (λ h. ap (λ (o : Out). o .answered) (first-cause small small-ok image rec .0 h)) a in
           record {
             numbered = rw (t .second, c .left-is) (second-number small small-ok image rec q ok e a);
             placed = rw (t .second, c .left-is) (placing small small-ok image rec q ok e a);
@@ -189,11 +189,7 @@ calls-refused image all (s ∷ ss) (r ∷ rs) {left} (mid, c, h) =
 
 -- what is checked with 0 is sound
 checked-sound : (image : List ℕ) → check small image .answered ≡ 0 → T (sound small image)
-checked-sound image z = go (test (sound small image))
-  where
-    go : T (sound small image) ⊎ (T (sound small image) → ⊥) → T (sound small image)
-    go (inl h) = h
-    go (inr h) = let e : _≡_ {A = ℕ} 1 0 = sym (check-caused image ∙ ap (λ (b : Bool). answer (1 when not b ∷ [])) (T-false (sound small image) h)) ∙ z in absurd (omega arith)
+checked-sound image = sound-if image (λ h. check-caused image ∙ ap (λ (b : Bool). answer (1 when not b ∷ [])) (T-false (sound small image) h))
 
 pub calls-history : CallsHistory
 unfolding imageAfter

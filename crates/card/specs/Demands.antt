@@ -114,8 +114,8 @@ pub record CallsHistory : Type 0 where
   -- from a call that wrote the empty image
   pub from-empty : (lent : List ℕ) (r : ℕ) (image : List ℕ) → Emptied lent r image → answerOf r ≡ 0
       → (ss : List (List ℕ)) (rs left : List ℕ) → Calls image ss rs left → HistoryOfCalls [] ss rs left
-  -- over R-7's change, on a card whose records before it were judged by document 01's rules: the check tells whether it holds a method token
-  -- of 128 or more; where it holds none,
+  -- over R-7's change, on a card whose records before it were judged by document 01's rules: it goes on where it holds no method token of 128
+  -- or more, which the check tells,
   pub told : (before : List (List ℕ)) (r : ℕ) → Checked (imageThen before) r → (answerOf r ≡ 0) ↔ AllAllowed small (contractsThen before)
   pub over-change : (before ss : List (List ℕ)) (rs left : List ℕ) → AllAllowed small (contractsThen before) → Calls (imageThen before) ss rs left
       → HistoryOfCalls (contractsThen before) ss rs left
