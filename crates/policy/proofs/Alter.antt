@@ -2,7 +2,7 @@
 use Prim.Native.Nat.{ℕ}
 use mathlib.Core.Path.{_≡_, refl, sym, ap, _∙_, subst}
 use mathlib.Core.Logic.{_⊎_, inl, inr, _↔_, Iff·trans}
-use mathlib.Core.Bool.{Bool, true, false, cond}
+use mathlib.Core.Bool.{Bool, true, false, not, cond}
 use mathlib.Core.List.{List, [], _∷_, _++_, map}
 use mathlib.Core.List.{List·Memᴰ as In, List·Memᴰ·head as here, List·Memᴰ·not-nil as in-nil}
 use mathlib.Core.List.{Memᴰ·append-left as in-left, Memᴰ·append-right as in-right, List·Memᴰ·append-cases as in-append}
@@ -13,7 +13,7 @@ use Rattle.policy.specs.Layout.{Layout}
 use Rattle.policy.specs.Machine.{alter}
 use Rattle.policy.specs.Tables.{Tables, Unmet}
 use Rattle.policy.specs.History.{FourSets}
-use Rattle.policy.proofs.Sets.{true-T, false-T, keep-in, in-keep, once-keep, in-map, map-in, once-append, each-one}
+use Rattle.policy.proofs.Sets.{true-T, false-T, test, not-i, not-e, keep-in, in-keep, once-keep, in-map, map-in, once-append, each-one}
 use Rattle.policy.proofs.Equal.{eqAid→, eqAid-of}
 use Rattle.policy.proofs.Formed.{Names, ProvidesAt, RowAt, GrantAt, HasContract, Stands}
 
@@ -65,6 +65,32 @@ module _ {A : Type 0} where
 
     pub turned-one : (r : A) → More i (λ x. x ≡ r) P P′ → (P i r → ⊥) → Turned used i (λ l. l ++ (r ∷ [])) P P′
     turned-one r h new = turned-more (λ x. x ≡ r) (r ∷ []) (λ x. (each-one (λ y. y ≡ r) r refl x, λ e. here e)) (in-nil, tt) h (λ x e p. new (subst (P i) e p))
+
+    -- number i has those of m, each once
+    pub turned-union : (has : A → List A → Bool) → ((x : A) (l : List A) → T (has x l) ↔ In x l) → (m : List A) → NoRepeat m → More i (λ x. In x m) P P′
+        → Turned used i (λ l. l ++ keep (λ x. not (has x l)) m) P P′
+    turned-union has is m dm h = record {
+      others = λ n _ ne l e x. (λ k. h n x .1 (inl (e x .0 k)), λ p. e x .1 (other n ne x (h n x .0 p)));
+      own = λ l e x. (λ k. h i x .1 (to l e x (in-append l k)), λ p. back l e x (h i x .0 p));
+      once = λ l e d. once-append l (keep (λ x. not (has x l)) m) d (once-keep (λ x. not (has x l)) m dm)
+          (λ x p q. not-e (has x l) (keep-in (λ x. not (has x l)) m q .1) (is x l .1 p));
+    }
+      where
+        other : (n : ℕ) → (n ≡ i → ⊥) → (x : A) → P n x ⊎ ((n ≡ i) × In x m) → P n x
+        other n ne x (inl p) = p
+        other n ne x (inr q) = absurd (ne (q .0))
+
+        to : (l : List A) → Lists (P i) l → (x : A) → In x l ⊎ In x (keep (λ x. not (has x l)) m) → P i x ⊎ ((i ≡ i) × In x m)
+        to l e x (inl k) = inl (e x .0 k)
+        to l e x (inr k) = inr (refl, keep-in (λ x. not (has x l)) m k .0)
+
+        back : (l : List A) → Lists (P i) l → (x : A) → P i x ⊎ ((i ≡ i) × In x m) → In x (l ++ keep (λ x. not (has x l)) m)
+        back l e x (inl p) = in-left (keep (λ x. not (has x l)) m) (e x .1 p)
+        back l e x (inr q) = go (test (has x l))
+          where
+            go : T (has x l) ⊎ (T (has x l) → ⊥) → In x (l ++ keep (λ x. not (has x l)) m)
+            go (inl y) = in-left (keep (λ x. not (has x l)) m) (is x l .0 y)
+            go (inr y) = in-right l (in-keep (λ x. not (has x l)) (q .1) (not-i (has x l) y))
 
     pub turned-less : (N : A → Type 0) (s : A → Bool) → ((x : A) → T (s x) ↔ (N x → ⊥)) → Less i N P P′ → Turned used i (keep s) P P′
     turned-less N s is h = record {

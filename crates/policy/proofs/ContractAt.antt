@@ -12,7 +12,7 @@ use Rattle.policy.specs.Contract.{Tok, Row, Contract}
 use Rattle.policy.specs.Layout.{Layout}
 use Rattle.policy.specs.Tables.{Tables, Unmet, Waiting}
 use Rattle.policy.specs.Lookup.{numbers, places, usedNumbers, serviceAt, wanted, grantAt, contractAt}
-use Rattle.policy.specs.Draft.{callRow}
+use Rattle.policy.specs.Draft.{callRow, grantRow}
 use Rattle.policy.specs.History.{SameContract, FourSets}
 use Rattle.policy.proofs.Sets.{keep-in, in-keep, once-keep, in-map, map-in, once-map, once-append, pairs, pairs-in, in-pairs, once-pairs, in-upto, once-upto}
 use Rattle.policy.proofs.Equal.{row-path}
@@ -104,33 +104,28 @@ module _ (L : Layout) (t : Tables) where
     abbrev ownGrant : Waiting → Bool
     ownGrant w = eqb (w .callee) n
 
-    own-tok : (w : Waiting) → T (ownGrant w) → t .tok (w .callee) (w .service) ≡ t .tok n (w .service)
-    own-tok w h = ap (λ (z : ℕ). t .tok z (w .service)) (eqb→eq (w .callee) n h)
+    own-grant : (w : Waiting) → T (ownGrant w) → grantRow n (grantAt w) ≡ w
+    own-grant w h = λ i. record { caller = w .caller; callee = sym (eqb→eq (w .callee) n h) i; tok = w .tok }
 
     pub grants-at : (r : Row) → In r (contractAt L t n .grants) ↔ GrantAt t n r
     unfolding contractAt
     grants-at r = (λ m. to (in-append (bitRows granted (t .grants n)) m), of)
       where
-        to : In r (bitRows granted (t .grants n)) ⊎ In r (map (grantAt t) (keep ownGrant (t .waiting))) → GrantAt t n r
+        to : In r (bitRows granted (t .grants n)) ⊎ In r (map grantAt (keep ownGrant (t .waiting))) → GrantAt t n r
         to (inl m) =
             let p = bits-in granted (t .grants n) m in
             GrantAt.bit (p .0) (p .1) (p .2) (ap (λ (z : Row). z .aid) (p .3)) (ap (λ (z : Row). z .tok) (p .3))
         to (inr m) =
-            let p = map-in (grantAt t) (keep ownGrant (t .waiting)) m in
+            let p = map-in grantAt (keep ownGrant (t .waiting)) m in
             let q = keep-in ownGrant (t .waiting) (p .1) in
-            let w = p .0 in
-            let e : _≡_ {A = Waiting} (record { caller = r .aid; callee = n; service = w .service }) w =
-            λ i. record { caller = p .2 i .aid; callee = sym (eqb→eq (w .callee) n (q .1)) i; service = w .service } in
-            GrantAt.row (w .service) (in-cast e (q .0)) (ap (λ (z : Row). z .tok) (p .2) ∙ own-tok w (q .1))
+            GrantAt.row (in-cast (ap (grantRow n) (p .2) ∙ own-grant (p .0) (q .1)) (q .0))
 
-        of : GrantAt t n r → In r (bitRows granted (t .grants n) ++ map (grantAt t) (keep ownGrant (t .waiting)))
+        of : GrantAt t n r → In r (bitRows granted (t .grants n) ++ map grantAt (keep ownGrant (t .waiting)))
         of (GrantAt.bit i k h a s) =
             let l = bit-in L t (formed .names) (formed .grants) i n k h in
             let e : r ≡ granted i k = row-path a s in
-            in-left (map (grantAt t) (keep ownGrant (t .waiting))) (in-cast e (in-bits granted (t .grants n) i k (l .0, l .2) h))
-        of (GrantAt.row k m s) =
-            let e : r ≡ grantAt t (record { caller = r .aid; callee = n; service = k }) = λ z. record { aid = r .aid; tok = s z } in
-            in-right (bitRows granted (t .grants n)) (in-cast e (in-map (grantAt t) (in-keep ownGrant m (eqb-refl n))))
+            in-left (map grantAt (keep ownGrant (t .waiting))) (in-cast e (in-bits granted (t .grants n) i k (l .0, l .2) h))
+        of (GrantAt.row m) = in-right (bitRows granted (t .grants n)) (in-map grantAt (in-keep ownGrant m (eqb-refl n)))
 
     -- ---- package n has the contract that is read out for it, and every one with the same sets
     has-own : HasContract t [] n (contractAt L t n)
@@ -190,31 +185,21 @@ module _ (L : Layout) (t : Tables) where
 
     once-grants : NoRepeat (contractAt L t n .grants)
     unfolding contractAt
-    once-grants = once-append (bitRows granted (t .grants n)) (map (grantAt t) (keep ownGrant (t .waiting)))
+    once-grants = once-append (bitRows granted (t .grants n)) (map grantAt (keep ownGrant (t .waiting)))
         (once-bits granted (t .grants n) one-grant)
-        (once-map (grantAt t) (keep ownGrant (t .waiting)) one (once-keep ownGrant (t .waiting) (formed .waiting .wait-once)))
+        (once-map grantAt (keep ownGrant (t .waiting)) one (once-keep ownGrant (t .waiting) (formed .waiting .wait-once)))
         apart
       where
-        own-service : (w : Waiting) → In w (keep ownGrant (t .waiting)) → (w .callee ≡ n) × T (t .provides n (w .service))
-        own-service w m =
-            let p = keep-in ownGrant (t .waiting) m in
-            let e = eqb→eq (w .callee) n (p .1) in
-            (e, subst (λ (z : ℕ). T (t .provides z (w .service))) e (formed .waiting .wait-prov w (p .0)))
+        one : (v w : Waiting) → In v (keep ownGrant (t .waiting)) → In w (keep ownGrant (t .waiting)) → grantAt v ≡ grantAt w → v ≡ w
+        one v w p q e = sym (own-grant v (keep-in ownGrant (t .waiting) p .1)) ∙ ap (grantRow n) e ∙ own-grant w (keep-in ownGrant (t .waiting) q .1)
 
-        one : (v w : Waiting) → In v (keep ownGrant (t .waiting)) → In w (keep ownGrant (t .waiting)) → grantAt t v ≡ grantAt t w → v ≡ w
-        one v w p q e =
-            let x = own-service v p in
-            let y = own-service w q in
-            let s : t .tok n (v .service) ≡ t .tok n (w .service) =
-            sym (own-tok v (keep-in ownGrant (t .waiting) p .1)) ∙ ap (λ (z : Row). z .tok) e ∙ own-tok w (keep-in ownGrant (t .waiting) q .1) in
-            λ i. record { caller = e i .aid; callee = (x .0 ∙ sym (y .0)) i; service = formed .names .tok-inj n (v .service) (w .service) (x .1) (y .1) s i }
-
-        apart : (r : Row) → In r (bitRows granted (t .grants n)) → In r (map (grantAt t) (keep ownGrant (t .waiting))) → ⊥
+        apart : (r : Row) → In r (bitRows granted (t .grants n)) → In r (map grantAt (keep ownGrant (t .waiting))) → ⊥
         apart r m l =
             let p = bits-in granted (t .grants n) m in
-            let q = map-in (grantAt t) (keep ownGrant (t .waiting)) l in
-            formed .waiting .wait-off (q .0) (keep-in ownGrant (t .waiting) (q .1) .0) (p .0) (formed .grants .by-used (p .0) n (p .1) (p .2))
-            (ap (λ (z : Row). z .aid) (sym (p .3) ∙ q .2))
+            let q = map-in grantAt (keep ownGrant (t .waiting)) l in
+            let w = keep-in ownGrant (t .waiting) (q .1) in
+            formed .waiting .wait-off (grantRow n (grantAt (q .0))) (in-cast (own-grant (q .0) (w .1)) (w .0)) (p .0) (p .1) (formed .grants .by-used (p .0) n (p .1) (p .2))
+            (ap (λ (z : Row). z .aid) (sym (p .3) ∙ q .2)) (formed .grants .of-prov (p .0) n (p .1) (p .2)) (ap (λ (z : Row). z .tok) (sym (p .3) ∙ q .2))
 
     pub four-sets-at : T (t .used n) → FourSets (contractAt L t n)
     unfolding contractAt

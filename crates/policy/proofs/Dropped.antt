@@ -76,7 +76,7 @@ pub record Dropping (L : Layout) (t t′ : Tables) (j : ℕ) (d : ℕ → Bool) 
   pub needs-stay : BitsStay t′ j d (t .needs) (t′ .needs)
   pub unmet-stay : RowsStay t′ (t .unmet) m
   pub unmet-is : t′ .unmet ≡ m ++ leftBy L t (t .calls) j d
-  pub waiting : WaitingRows (t′ .used) (t′ .aid) (t′ .provides) (t′ .waiting)
+  pub waiting : WaitingRows (t′ .used) (t′ .aid) (t′ .tok) (t′ .provides) (t′ .waiting)
 
 none-stay : (t′ : Tables) → RowsStay t′ [] []
 none-stay t′ = record { old = λ u m. m; used = λ u m. absurd (in-nil m); stays = λ u m _. m; once = tt }

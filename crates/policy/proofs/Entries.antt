@@ -82,12 +82,12 @@ module _ (L : Layout) where
     settled : T (sound L img) → (q : Request) (n : ℕ) → answer (judgeCauses L t q) ≡ n
         → Judged img (judged L img (numberFor L t (q .aid)) (draft L t (q .aid) (q .change) .tables) n)
     settled ok q zero e =
-        let bad = not (proper (q .aid) (q .change)) in
+        let bad = not (proper L (q .aid) (q .change)) in
         let early = tableCauses L t (q .aid) (q .change) in
         let p = answer-append-zero 2 (3 when bad ∷ early) _ (judge-ascends L t (q .aid) bad (q .change)) e in
         inl (refl, number-lt t (q .aid) (sound-formed L img ok .names) (known t (q .aid) (q .change) (answer-zero 2 bad early (p .0) .1)))
     settled ok q (suc n) e =
-        let w = judge-causes L t (q .aid) (look L (draft L t (q .aid) (q .change))) (not (proper (q .aid) (q .change))) (q .change) in
+        let w = judge-causes L t (q .aid) (look L (draft L t (q .aid) (q .change))) (not (proper L (q .aid) (q .change))) (q .change) in
         inr (suc n, numbered (judgeCauses L t q) (w .0) (w .1) n e, refl)
 
     read : T (sound L img) → (o : Option Request) → Judged img (judgeTables L img t o)

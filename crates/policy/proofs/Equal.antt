@@ -70,18 +70,18 @@ pub eqWaiting→ : (v w : Waiting) → T (eqWaiting v w) → v ≡ w
 eqWaiting→ v w h =
     let a = eqAid (v .caller) (w .caller) in
     let b = eqb (v .callee) (w .callee) in
-    let c = eqb (v .service) (w .service) in
+    let c = eqTok (v .tok) (w .tok) in
     λ i. record {
       caller = eqAid→ (v .caller) (w .caller) (and-l a b (and-l (a && b) c h)) i;
       callee = eqb→eq (v .callee) (w .callee) (and-r a b (and-l (a && b) c h)) i;
-      service = eqb→eq (v .service) (w .service) (and-r (a && b) c h) i;
+      tok = eqTok→ (v .tok) (w .tok) (and-r (a && b) c h) i;
     }
 
 pub eqWaiting-refl : (w : Waiting) → T (eqWaiting w w)
 eqWaiting-refl w =
     let a = eqAid (w .caller) (w .caller) in
     let b = eqb (w .callee) (w .callee) in
-    and-i (a && b) (eqb (w .service) (w .service)) (and-i a b (eqAid-refl (w .caller)) (eqb-refl (w .callee))) (eqb-refl (w .service))
+    and-i (a && b) (eqTok (w .tok) (w .tok)) (and-i a b (eqAid-refl (w .caller)) (eqb-refl (w .callee))) (eqTok-refl (w .tok))
 
 -- ---- membership by these tests
 pub has-tok : (s : Tok) (l : List Tok) → T (hasTok s l) → In s l

@@ -1,25 +1,30 @@
 -- Changes of the rules: the passage of an image, and histories over any number of changes.
-use Prim.Native.Nat.{ℕ, _≤_}
+use Prim.Native.Nat.{ℕ, _-_, _≤_}
 use native.Mathlib.Omega.{arith}
 use native.Mathlib.Nat.{le-trans}
 use mathlib.Core.Path.{_≡_, refl, sym, ap, _∙_, subst}
+use mathlib.Core.Bool.{_&&_}
 use mathlib.Core.List.{List, [], _∷_, _++_}
-use lib.Dec.{T}
+use lib.Dec.{T, eqb, eqb→eq}
+use lib.ListN.{length, take, drop}
+use lib.Seq.{take-at, drop-at}
 use Rattle.policy.specs.Contract.{Contract}
-use Rattle.policy.specs.Layout.{Layout, LayoutOk}
+use Rattle.policy.specs.Layout.{Layout, LayoutOk, waitingSize, waitingAt, size}
 use Rattle.policy.specs.Machine.{machine}
-use Rattle.policy.specs.Tables.{Tables, decode, encode}
+use Rattle.policy.specs.Tables.{Tables, writeWaiting, writeList, decode, encode}
 use Rattle.policy.specs.Sound.{sound}
-use Rattle.policy.specs.Judge.{Out, refusal, judge}
+use Rattle.policy.specs.Judge.{Out, refusal, judge, check, readOutTables, readOut}
 use Rattle.policy.specs.History.{AllAllowed, StandsFor, answers, imageAfter, machineAnswers, contractsAfter}
 use Rattle.policy.specs.Claims.{CallsGranted, NeedsPresent}
 use Rattle.policy.specs.Eras.{carried, Widens, SameBytes, Era, lastRules, answersOver, imageOver, machineAnswersOver, contractsOver, AllPass, HistoryFrom}
-use Rattle.policy.specs.Eras.{Passage, LeftOut, Stays}
+use Rattle.policy.specs.Eras.{convert, Passage, LeftOut, RefusedAll, Stays, Converts}
+use Rattle.policy.proofs.Sets.{and-l, and-r, and-i, cond-true, cond-false}
+use Rattle.policy.proofs.Equal.{eqb-of}
 use Rattle.policy.proofs.Formed.{Formed, Fitting, Stands}
 use Rattle.policy.proofs.LawfulCard.{calls-granted, needs-present}
-use Rattle.policy.proofs.RoundTrip.{formed-room, round-trip}
+use Rattle.policy.proofs.RoundTrip.{formed-room, front, front-encode, length-front, round-trip}
 use Rattle.policy.proofs.SoundFacts.{sound-written, sound-formed, sound-ruled, sound-lawful, sound-fitting}
-use Rattle.policy.proofs.Ruled.{ruled-allowed}
+use Rattle.policy.proofs.Ruled.{ruled-allowed, allowed-ruled}
 use Rattle.policy.proofs.Step.{stands-of, image-stands, standing-allowed, unsound-refused, step}
 
 -- ---- an image that is not sound
@@ -31,6 +36,14 @@ module _ (L : Layout) (img : List ℕ) (bad : T (sound L img) → ⊥) where
 
   left-out : LeftOut L img
   left-out = record { unsound = bad; refuses = refuses }
+
+  pub refused-all : RefusedAll L img
+  unfolding check readOut
+  refused-all = record {
+    judging = λ s. unsound-refused L img s bad;
+    checking = cond-false (sound L img) _ (refusal 1 255 img) bad;
+    reading = λ n out. cond-false (sound L img) (readOutTables L (decode L img) n out) (refusal 1 0 out) bad;
+  }
 
 -- ---- the passage
 module _ (L M : Layout) where
@@ -62,10 +75,10 @@ module _ (L M : Layout) where
   passage img cs f p =
       let t = decode L img in
       let g = formed-wider (p .widens) t (sound-formed L img (f .is-sound)) in
-      let fit = fitting-wider (p .widens) t (sound-fitting L img (f .is-sound)) in (
-        round-trip M (p .is-ok) t (formed-room M t g fit),
-        image-stands M (p .is-ok) t cs g (sound-lawful L img (f .is-sound)) fit (stands-of L img cs f) (p .allowed (standing-allowed L img cs f)),
-      )
+      let fit = fitting-wider (p .widens) t (sound-fitting L img (f .is-sound)) in
+      let st = stands-of L img cs f in
+      let al = p .allowed (standing-allowed L img cs f) in
+      (round-trip M (p .is-ok) t (formed-room M t g (allowed-ruled M M t cs g st al) fit), image-stands M (p .is-ok) t cs g (sound-lawful L img (f .is-sound)) fit st al)
 
   -- ---- where the bytes stay the same
   module _ (e : SameBytes L M) where
@@ -77,6 +90,7 @@ module _ (L M : Layout) where
       width = M .width;
       capacity = M .capacity;
       header = M .header;
+      early = M .early;
       version = L .version;
       countWidth = L .countWidth;
       mostRows = L .mostRows;
@@ -91,6 +105,7 @@ module _ (L M : Layout) where
       width = e .width i;
       capacity = e .capacity i;
       header = e .header i;
+      early = e .early i;
       version = L .version;
       countWidth = L .countWidth;
       mostRows = L .mostRows;
@@ -127,6 +142,66 @@ module _ (L M : Layout) where
       goes-on = λ img cs f al. subst (λ (z : List ℕ). StandsFor M z cs) (same-image img (f .is-sound)) (passage img cs f (record { is-ok = mo; widens = widens; allowed = λ _. al }) .1);
       left-out = λ img cs f held. left-out M img (λ ok. held (allowed-of img cs f ok));
     }
+
+  -- ---- where the sizes stay the same: all that stands before the waiting grants is copied, behind another header
+  module _ (lo : LayoutOk L) (ep : L .packages ≡ M .packages) (es : L .services ≡ M .services) (ew : L .width ≡ M .width) (ec : L .capacity ≡ M .capacity) where
+    abbrev sized : Layout
+    sized = record {
+      packages = M .packages;
+      services = M .services;
+      width = M .width;
+      capacity = M .capacity;
+      header = L .header;
+      version = L .version;
+      countWidth = L .countWidth;
+      mostRows = L .mostRows;
+      mostCallers = L .mostCallers;
+      methods = L .methods;
+      early = L .early;
+    }
+
+    sizes : L ≡ sized
+    sizes i = record {
+      packages = ep i;
+      services = es i;
+      width = ew i;
+      capacity = ec i;
+      header = L .header;
+      version = L .version;
+      countWidth = L .countWidth;
+      mostRows = L .mostRows;
+      mostCallers = L .mostCallers;
+      methods = L .methods;
+      early = L .early;
+    }
+
+    same-front : (t : Tables) → front L t ≡ front M t
+    unfolding front
+    same-front t = ap (λ (z : Layout). front z t) sizes
+
+    pub carried-is : (img : List ℕ) → T (sound L img) → carried L M img
+        ≡ M .header ++ (take (waitingAt L - 3) (drop 3 img) ++ writeList M (writeWaiting M (decode L img .provides) (decode L img .tok)) (waitingSize M) (decode L img .waiting))
+    unfolding carried
+    carried-is img ok =
+        let t = decode L img in
+        let old = writeList L (writeWaiting L (t .provides) (t .tok)) (waitingSize L) (t .waiting) in
+        let bytes : img ≡ L .header ++ (front L t ++ old) = sym (sound-written L img ok) ∙ front-encode L t in
+        let copied : take (waitingAt L - 3) (drop 3 img) ≡ front L t =
+        ap (λ (z : List ℕ). take (waitingAt L - 3) (drop 3 z)) bytes ∙ ap (take (waitingAt L - 3)) (drop-at (L .header) (front L t ++ old) 3 (lo .header-size))
+        ∙ take-at (front L t) old (waitingAt L - 3) (length-front L lo t (formed-room L t (sound-formed L img ok) (sound-ruled L img ok) (sound-fitting L img ok))) in
+        front-encode M t ∙ ap (λ (z : List ℕ). M .header ++ (z ++ writeList M (writeWaiting M (t .provides) (t .tok)) (waitingSize M) (t .waiting))) (sym (copied ∙ same-front t))
+
+  -- ---- the converter
+  pub converts : (img b : List ℕ) → Converts L M img b
+  unfolding convert
+  converts img b =
+      let x = sound L img in
+      let y = eqb (length b) (size M) in
+      record {
+        taken = λ ok e. cond-true (x && y) _ (refusal 1 255 b) (and-i x y ok (eqb-of e));
+        not-sound = λ bad. cond-false (x && y) _ (refusal 1 255 b) (λ h. bad (and-l x y h));
+        not-sized = λ bad. cond-false (x && y) _ (refusal 1 255 b) (λ h. bad (eqb→eq (length b) (size M) (and-r x y h)));
+      }
 
 -- ---- one era
 module _ (L : Layout) (lo : LayoutOk L) where

@@ -1,6 +1,6 @@
 -- What follows at once from the facts: what stays, where bits stand, lawful tables by their test, and the contract of a number.
 use Prim.Native.Nat.{ℕ, _<_}
-use mathlib.Core.Path.{_≡_, sym, _∙_, subst}
+use mathlib.Core.Path.{_≡_, refl, sym, _∙_, subst}
 use mathlib.Core.Logic.{_⊎_, inl, inr, _↔_}
 use mathlib.Core.Bool.{Bool, _&&_}
 use mathlib.Core.List.{List, []}
@@ -10,10 +10,11 @@ use Rattle.policy.specs.Contract.{Aid, eqAid, Tok, Row, Contract, under}
 use Rattle.policy.specs.Layout.{Layout}
 use Rattle.policy.specs.Tables.{Tables, Unmet}
 use Rattle.policy.specs.Lookup.{serviceAt}
+use Rattle.policy.specs.Draft.{grantRow}
 use Rattle.policy.proofs.Sets.{and-l, and-r, and-i, exists-in, in-exists}
 use Rattle.policy.proofs.Equal.{eqAid→, eqAid-of}
 use Rattle.policy.proofs.EveryBit.{BitIn, among, among-to, among-back}
-use Rattle.policy.proofs.Formed.{Names, Bits, Off, grantBit, Formed, Lawful, ProvidesAt, at, RowAt, bit, row, GrantAt, HasContract, Stands}
+use Rattle.policy.proofs.Formed.{Names, Bits, Off, grantBit, Formed, Lawful, Ruled, ProvidesAt, at, RowAt, bit, row, GrantAt, HasContract, Stands}
 
 pub no-rows : (t : Tables) → Off (t .used) (t .aid) (t .tok) (t .provides) []
 no-rows t = record { off-used = λ u m. absurd (in-nil m); off-card = λ u m. absurd (in-nil m) }
@@ -109,10 +110,22 @@ module _ (L : Layout) (t : Tables) where
     pub need-bits : Bits (t .used) (t .provides) (t .needs)
     need-bits = bits-sub (f .calls) (f .need-call)
 
-    -- a granted service is provided
-    pub granted-provided : (n : ℕ) (r : Row) → GrantAt t n r → ProvidesAt t n (r .tok)
-    granted-provided n r (bit i k b e q) = at k (f .grants .of-prov i n k b) q
-    granted-provided n r (row k m q) = at k (f .waiting .wait-prov (record { caller = r .aid; callee = n; service = k }) m) q
+    -- a granted service is provided, before R-2
+    pub granted-provided : Ruled L t → (T (L .early) → ⊥) → (n : ℕ) (r : Row) → GrantAt t n r → ProvidesAt t n (r .tok)
+    granted-provided ru late n r (bit i k b e q) = at k (f .grants .of-prov i n k b) q
+    granted-provided ru late n r (row m) = let p = ru .own late (grantRow n r) m in at (p .0) (p .1) (sym (p .2))
+
+    -- a grant whose caller and service are on the card is a bit
+    pub granted-bit : (i j k : ℕ) → T (t .used i) → T (t .provides j k) → (r : Row) → r .aid ≡ t .aid i → r .tok ≡ t .tok j k → GrantAt t j r → T (t .grants j i k)
+    granted-bit i j k u p r e q (bit i′ k′ b e′ q′) =
+        let ei : i′ ≡ i = f .names .aid-inj i′ i (f .grants .by-used i′ j k′ b) u (sym e′ ∙ e) in
+        let ek : k′ ≡ k = f .names .tok-inj j k′ k (f .grants .of-prov i′ j k′ b) p (sym q′ ∙ q) in
+        subst (λ (z : ℕ). T (t .grants j i z)) ek (subst (λ (z : ℕ). T (t .grants j z k′)) ei b)
+    granted-bit i j k u p r e q (row m) = absurd (f .waiting .wait-off (grantRow j r) m i k u (sym e) p (sym q))
+
+    -- and does not wait
+    pub bit-not-waiting : (i j k : ℕ) → T (t .grants j i k) → In (record { caller = t .aid i; callee = j; tok = t .tok j k }) (t .waiting) → ⊥
+    bit-not-waiting i j k h m = f .waiting .wait-off _ m i k (f .grants .by-used i j k h) refl (f .grants .of-prov i j k h) refl
 
     -- ---- every call bit has its grant bit
     pub lawful-of : T (among L (t .calls) (grantBit t)) → Lawful t

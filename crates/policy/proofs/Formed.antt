@@ -15,7 +15,7 @@ use Rattle.policy.specs.Causes.{answer}
 use Rattle.policy.specs.Machine.{effect}
 use Rattle.policy.specs.Tables.{Tables, Unmet, Waiting, noTok}
 use Rattle.policy.specs.Lookup.{serviceAt}
-use Rattle.policy.specs.Draft.{Draft, callRow, draft, look}
+use Rattle.policy.specs.Draft.{Draft, callRow, grantRow, draft, look}
 use Rattle.policy.specs.Judge.{tableCauses}
 use Rattle.policy.specs.Records.{ValidTok, WithinChange}
 use Rattle.policy.specs.History.{FourSets}
@@ -50,10 +50,12 @@ pub record UnmetRows (used : ℕ → Bool) (aid : ℕ → Aid) (tok : ℕ → �
   pub unmet-other : (u : Unmet) → In u l → u .callee ≡ aid (u .caller) → ⊥
   pub unmet-once : NoRepeat l
 
-pub record WaitingRows (used : ℕ → Bool) (aid : ℕ → Aid) (provides : ℕ → ℕ → Bool) (l : List Waiting) : Type 0 where
+-- grants of used packages to others, whose caller and service are not both on the card
+pub record WaitingRows (used : ℕ → Bool) (aid : ℕ → Aid) (tok : ℕ → ℕ → Tok) (provides : ℕ → ℕ → Bool) (l : List Waiting) : Type 0 where
   pub wait-valid : (w : Waiting) → In w l → T (validAid (w .caller))
-  pub wait-off : (w : Waiting) → In w l → (n : ℕ) → T (used n) → aid n ≡ w .caller → ⊥
-  pub wait-prov : (w : Waiting) → In w l → T (provides (w .callee) (w .service))
+  pub wait-used : (w : Waiting) → In w l → T (used (w .callee))
+  pub wait-other : (w : Waiting) → In w l → w .caller ≡ aid (w .callee) → ⊥
+  pub wait-off : (w : Waiting) → In w l → (n k : ℕ) → T (used n) → aid n ≡ w .caller → T (provides (w .callee) k) → tok (w .callee) k ≡ w .tok → ⊥
   pub wait-once : NoRepeat l
 
 -- a grant bit by caller, callee and service, as for calls
@@ -66,7 +68,7 @@ pub record Formed (L : Layout) (t : Tables) : Type 0 where
   pub grants : Bits (t .used) (t .provides) (grantBit t)
   pub need-call : (i j k : ℕ) → T (t .needs i j k) → T (t .calls i j k)
   pub unmet : UnmetRows (t .used) (t .aid) (t .tok) (t .provides) (t .unmet)
-  pub waiting : WaitingRows (t .used) (t .aid) (t .provides) (t .waiting)
+  pub waiting : WaitingRows (t .used) (t .aid) (t .tok) (t .provides) (t .waiting)
 
 abbrev pub Lawful : Tables → Type 0
 Lawful t = (i j k : ℕ) → T (t .calls i j k) → T (grantBit t i j k)
@@ -79,6 +81,8 @@ pub record Fitting (L : Layout) (t : Tables) : Type 0 where
 pub record Ruled (L : Layout) (t : Tables) : Type 0 where
   pub provided : (j k : ℕ) → T (t .provides j k) → ValidTok L (t .tok j k)
   pub unmet : (u : Unmet) → In u (t .unmet) → ValidTok L (u .tok)
+  pub waiting : (w : Waiting) → In w (t .waiting) → ValidTok L (w .tok)
+  pub own : (T (L .early) → ⊥) → (w : Waiting) → In w (t .waiting) → (k : ℕ) × T (t .provides (w .callee) k) × (t .tok (w .callee) k ≡ w .tok)
 
 -- ---- what package n of the tables provides, calls, grants and needs
 pub data ProvidesAt (t : Tables) (n : ℕ) (s : Tok) : Type 0 where
@@ -91,7 +95,7 @@ pub data RowAt (t : Tables) (b : ℕ → ℕ → ℕ → Bool) (l : List Unmet) 
 
 pub data GrantAt (t : Tables) (n : ℕ) (r : Row) : Type 0 where
   bit : (i k : ℕ) → T (t .grants n i k) → r .aid ≡ t .aid i → r .tok ≡ t .tok n k → GrantAt t n r
-  row : (k : ℕ) → In (record { caller = r .aid; callee = n; service = k }) (t .waiting) → r .tok ≡ t .tok n k → GrantAt t n r
+  row : In (grantRow n r) (t .waiting) → GrantAt t n r
 
 -- package n has the contract c; a need may also be one of those lost
 pub record HasContract (t : Tables) (lost : List Unmet) (n : ℕ) (c : Contract) : Type 0 where
@@ -115,10 +119,10 @@ pub record Turns (L : Layout) (d : Draft) (ds : List Contract) : Type 0 where
   pub stands : Stands (d .tables) (d .lost) ds
 
 abbrev pub KindTurns : Change → Type 0
-KindTurns c = (L : Layout) (t : Tables) (cs : List Contract) (a : Aid) → Formed L t → Stands t [] cs → T (validAid a) → WithinChange L c → T (proper a c)
-    → answer (tableCauses L t a c) ≡ 0 → Turns L (draft L t a c) (effect cs a c)
+KindTurns c = (L : Layout) (t : Tables) (cs : List Contract) (a : Aid) → Formed L t → Stands t [] cs → T (validAid a) → WithinChange L c → T (proper L a c)
+    → answer (tableCauses L t a c) ≡ 0 → Turns L (draft L t a c) (effect L cs a c)
 
 -- and its short check says what the full look at its draft says, where the tables are lawful and fit
 abbrev pub KindShort : Change → Type 0
-KindShort c = (L : Layout) (t : Tables) (a : Aid) → Formed L t → Lawful t → Fitting L t → WithinChange L c → T (proper a c) → answer (tableCauses L t a c) ≡ 0
+KindShort c = (L : Layout) (t : Tables) (a : Aid) → Formed L t → Lawful t → Fitting L t → WithinChange L c → T (proper L a c) → answer (tableCauses L t a c) ≡ 0
     → look L (draft L t a c) ≡ shortLook L t a c

@@ -9,7 +9,7 @@ use Rattle.policy.specs.Lists.{first, from, upto, orElse}
 use Rattle.policy.specs.Contract.{Aid, eqAid, Tok, eqTok, Row}
 use Rattle.policy.specs.Layout.{Layout}
 use Rattle.policy.specs.Tables.{Tables}
-use Rattle.policy.specs.Lookup.{Place, numbers, places, numberOf, serviceOf, serverOf, freeNumber, freeService}
+use Rattle.policy.specs.Lookup.{Place, Spot, numbers, places, numberOf, serviceOf, serverOf, spotOf, freeNumber, freeService}
 use Rattle.policy.proofs.Sets.{false-T, and-l, and-r, and-i, not-e, not-not, Found, found, upto-in, in-upto}
 use Rattle.policy.proofs.Equal.{eqAid→, eqAid-of, eqTok→, eqTok-of}
 use Rattle.policy.proofs.Put.{by-number}
@@ -26,6 +26,11 @@ ServiceIs t j s (some k) = T (t .provides j k) × (t .tok j k ≡ s)
 abbrev pub ServerIs : Tables → Row → Option Place → Type 0
 ServerIs t r none = (j k : ℕ) → T (t .provides j k) → t .aid j ≡ r .aid → t .tok j k ≡ r .tok → ⊥
 ServerIs t r (some p) = T (t .provides (p .callee) (p .service)) × (t .aid (p .callee) ≡ r .aid) × (t .tok (p .callee) (p .service) ≡ r .tok)
+
+-- where a grant of package j stands as a bit
+abbrev pub SpotIs : Tables → ℕ → Row → Option Spot → Type 0
+SpotIs t j r none = (i k : ℕ) → T (t .used i) → t .aid i ≡ r .aid → T (t .provides j k) → t .tok j k ≡ r .tok → ⊥
+SpotIs t j r (some p) = T (t .used (p .caller)) × (t .aid (p .caller) ≡ r .aid) × T (t .provides j (p .service)) × (t .tok j (p .service) ≡ r .tok)
 
 abbrev pub FreeIs : ℕ → (ℕ → Bool) → Option ℕ → Type 0
 FreeIs most taken none = (n : ℕ) → n < most → T (taken n)
@@ -94,6 +99,16 @@ module _ (L : Layout) (t : Tables) where
         go : (o : Option ℕ) → NumberIs t (r .aid) o → ServerIs t r (orElse o none (λ j. orElse (serviceOf L t j (r .tok)) none (λ k. some (record { callee = j; service = k }))))
         go none h = λ j k p e f. h j (names .prov-used j k p) e
         go (some j) h = inner j h (serviceOf L t j (r .tok)) (service-is j (r .tok))
+
+    pub spot-is : (j : ℕ) (r : Row) → SpotIs t j r (spotOf L t j r)
+    unfolding spotOf
+    spot-is j r = go (numberOf L t (r .aid)) (number-is (r .aid)) (serviceOf L t j (r .tok)) (service-is j (r .tok))
+      where
+        go : (o : Option ℕ) → NumberIs t (r .aid) o → (q : Option ℕ) → ServiceIs t j (r .tok) q
+            → SpotIs t j r (orElse o none (λ i. orElse q none (λ k. some (record { caller = i; service = k }))))
+        go none h q s = λ i k u e p f. h i u e
+        go (some i) h none s = λ i′ k u e p f. s k p f
+        go (some i) h (some k) s = (h .0, h .1, s .0, s .1)
 
     -- two provided places with one service are one
     pub same-place : (j k j′ k′ : ℕ) → T (t .provides j k) → T (t .provides j′ k′) → t .aid j ≡ t .aid j′ → t .tok j k ≡ t .tok j′ k′ → (j ≡ j′) × (k ≡ k′)

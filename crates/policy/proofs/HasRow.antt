@@ -4,21 +4,21 @@ use mathlib.Core.Path.{_≡_, sym, ap, _∙_, subst}
 use mathlib.Core.Logic.{_↔_}
 use mathlib.Core.Bool.{Bool, false}
 use mathlib.Core.List.{List, []}
-use mathlib.Core.List.{List·Memᴰ as In, List·Memᴰ·not-nil as in-nil, Memᴰ·cast as in-cast}
+use mathlib.Core.List.{List·Memᴰ as In, List·Memᴰ·not-nil as in-nil}
 use mathlib.Core.Option.{Option, none, some}
 use lib.Dec.{T}
 use Rattle.policy.specs.Lists.{isSome, orElse}
 use Rattle.policy.specs.Contract.{Tok, Row, hasTok, hasRow}
 use Rattle.policy.specs.Layout.{Layout}
-use Rattle.policy.specs.Tables.{Tables, Unmet, Waiting}
-use Rattle.policy.specs.Lookup.{Place, numberOf, serviceOf, serverOf, contractAt}
-use Rattle.policy.specs.Draft.{callRow, hasUnmet, hasWaiting}
+use Rattle.policy.specs.Tables.{Tables, Unmet}
+use Rattle.policy.specs.Lookup.{Place, Spot, serviceOf, serverOf, spotOf, contractAt}
+use Rattle.policy.specs.Draft.{callRow, grantRow, hasUnmet, hasWaiting}
 use Rattle.policy.proofs.Sets.{T-eq, T-true, T-false}
 use Rattle.policy.proofs.Equal.{has-tok, tok-has, has-row, row-has, has-unmet, unmet-has, has-waiting, waiting-has}
 use Rattle.policy.proofs.Formed.{Formed, ProvidesAt, at, RowAt, bit, row, GrantAt}
-use Rattle.policy.proofs.Found.{NumberIs, ServiceIs, ServerIs, number-is, service-is, server-is, same-place}
+use Rattle.policy.proofs.Found.{ServiceIs, ServerIs, SpotIs, service-is, server-is, spot-is, same-place}
 use Rattle.policy.proofs.ContractAt.{provides-at, calls-at, needs-at, grants-at}
-use Rattle.policy.proofs.Facts.{granted-provided}
+use Rattle.policy.proofs.Facts.{granted-bit}
 
 -- a row stands in a list exactly where a test passes
 row-test : (r : Row) (l : List Row) (b : Bool) → (In r l → T b) → (T b → In r l) → hasRow r l ≡ b
@@ -68,41 +68,23 @@ module _ (L : Layout) (t : Tables) (formed : Formed L t) where
   has-need-is i r = row-is (t .needs) [] (λ i j k x. formed .calls .of-prov i j k (formed .need-call i j k x)) (λ u m. absurd (in-nil m)) i r
       (contractAt L t i .needs) (needs-at L t formed i r)
 
-  -- ---- a grant of package j: a bit where its caller is installed, else a row that waits
+  -- ---- a grant of package j: a bit where its caller and its service are on the card, else a row that waits
   pub has-grant-is : (j : ℕ) (r : Row)
-      → hasRow r (contractAt L t j .grants) ≡ orElse (serviceOf L t j (r .tok)) false (λ k.
-      orElse (numberOf L t (r .aid)) (hasWaiting (record { caller = r .aid; callee = j; service = k }) (t .waiting)) (λ i. t .grants j i k))
-  has-grant-is j r = go (serviceOf L t j (r .tok)) (service-is L t (formed .names) j (r .tok))
+      → hasRow r (contractAt L t j .grants) ≡ orElse (spotOf L t j r) (hasWaiting (grantRow j r) (t .waiting)) (λ p. t .grants j (p .caller) (p .service))
+  has-grant-is j r = go (spotOf L t j r) (spot-is L t (formed .names) j r)
     where
       rows : List Row
       rows = contractAt L t j .grants
 
-      asked : ℕ → Waiting
-      asked k = record { caller = r .aid; callee = j; service = k }
-
       same : In r rows ↔ GrantAt t j r
       same = grants-at L t formed j r
 
-      -- the place of a grant that is r
-      is-k : (k : ℕ) → ServiceIs t j (r .tok) (some k) → (z : ℕ) → T (t .provides j z) → r .tok ≡ t .tok j z → z ≡ k
-      is-k k s z p e = formed .names .tok-inj j z k p (s .0) (sym e ∙ sym (s .1))
+      waits : SpotIs t j r none → GrantAt t j r → T (hasWaiting (grantRow j r) (t .waiting))
+      waits h (bit i k b e q) = absurd (h i k (formed .grants .by-used i j k b) (sym e) (formed .grants .of-prov i j k b) (sym q))
+      waits h (row m) = waiting-has m
 
-      waits : (k : ℕ) → ServiceIs t j (r .tok) (some k) → NumberIs t (r .aid) none → GrantAt t j r → T (hasWaiting (asked k) (t .waiting))
-      waits k s h (bit i z b e q) = absurd (h i (formed .grants .by-used i j z b) (sym e))
-      waits k s h (row z m q) = waiting-has (in-cast (ap asked (sym (is-k k s z (formed .waiting .wait-prov (asked z) m) q))) m)
-
-      granted : (k i : ℕ) → ServiceIs t j (r .tok) (some k) → NumberIs t (r .aid) (some i) → GrantAt t j r → T (t .grants j i k)
-      granted k i s h (bit y z b e q) =
-          let ey : y ≡ i = formed .names .aid-inj y i (formed .grants .by-used y j z b) (h .0) (sym e ∙ sym (h .1)) in
-          let ez : z ≡ k = is-k k s z (formed .grants .of-prov y j z b) q in
-          subst (λ (x : ℕ). T (t .grants j x k)) ey (subst (λ (x : ℕ). T (t .grants j y x)) ez b)
-      granted k i s h (row z m q) = absurd (formed .waiting .wait-off (asked z) m i (h .0) (h .1))
-
-      caller : (k : ℕ) → ServiceIs t j (r .tok) (some k) → (o : Option ℕ) → NumberIs t (r .aid) o → hasRow r rows ≡ orElse o (hasWaiting (asked k) (t .waiting)) (λ i. t .grants j i k)
-      caller k s none h = row-test r rows (hasWaiting (asked k) (t .waiting)) (λ m. waits k s h (same .0 m)) (λ x. same .1 (row k (has-waiting (asked k) (t .waiting) x) (sym (s .1))))
-      caller k s (some i) h = row-test r rows (t .grants j i k) (λ m. granted k i s h (same .0 m)) (λ x. same .1 (bit i k x (sym (h .1)) (sym (s .1))))
-
-      go : (o : Option ℕ) → ServiceIs t j (r .tok) o
-          → hasRow r rows ≡ orElse o false (λ k. orElse (numberOf L t (r .aid)) (hasWaiting (asked k) (t .waiting)) (λ i. t .grants j i k))
-      go none h = T-false (hasRow r rows) (λ x. missed t j (r .tok) h (granted-provided L t formed j r (same .0 (has-row r rows x))))
-      go (some k) h = caller k h (numberOf L t (r .aid)) (number-is L t (formed .names) (r .aid))
+      go : (o : Option Spot) → SpotIs t j r o → hasRow r rows ≡ orElse o (hasWaiting (grantRow j r) (t .waiting)) (λ p. t .grants j (p .caller) (p .service))
+      go none h = row-test r rows (hasWaiting (grantRow j r) (t .waiting)) (λ m. waits h (same .0 m)) (λ x. same .1 (row (has-waiting (grantRow j r) (t .waiting) x)))
+      go (some p) h = row-test r rows (t .grants j (p .caller) (p .service))
+          (λ m. granted-bit L t formed (p .caller) j (p .service) (h .0) (h .2) r (sym (h .1)) (sym (h .3)) (same .0 m))
+          (λ x. same .1 (bit (p .caller) (p .service) x (sym (h .1)) (sym (h .3))))

@@ -1,30 +1,30 @@
--- Kind 3: a service added with its grants. Unmet calls on it become bits; a grant is a bit where its caller is installed, else it waits.
+-- Kind 3: a service added with its grants. Unmet calls on it become bits, and so do its grants, new or waiting, where the caller is installed; else they wait, each once.
 use Prim.Native.Nat.{ℕ, _<_}
 use mathlib.Core.Path.{_≡_, refl, sym, ap, _∙_, subst}
 use mathlib.Core.Logic.{_⊎_, inl, inr, _↔_}
-use mathlib.Core.Bool.{Bool, not, _&&_}
+use mathlib.Core.Bool.{Bool, not, _&&_, _||_}
 use mathlib.Core.List.{List, [], map}
 use mathlib.Core.List.{List·Memᴰ as In}
-use mathlib.Core.List.{Memᴰ·append-left as in-left, Memᴰ·append-right as in-right, List·Memᴰ·append-cases as in-append, Memᴰ·cast as in-cast}
+use mathlib.Core.List.{Memᴰ·append-left as in-left, Memᴰ·append-right as in-right, Memᴰ·cast as in-cast}
 use mathlib.Core.Option.{Option, none, some}
-use lib.Dec.{T}
+use lib.Dec.{T, eqb, eqb→eq}
 use Rattle.policy.specs.Lists.{every, exists, keep, isSome, distinct, NoRepeat}
-use Rattle.policy.specs.Contract.{Aid, eqAid, Tok, eqTok, Row, Contract, validAid}
+use Rattle.policy.specs.Contract.{Aid, eqAid, Tok, eqTok, Row, Contract, hasRow, validAid}
 use Rattle.policy.specs.Layout.{Layout}
 use Rattle.policy.specs.Record.{addService, proper}
 use Rattle.policy.specs.Machine.{altered, alter}
 use Rattle.policy.specs.Tables.{Tables, Unmet, Waiting}
 use Rattle.policy.specs.Lookup.{serviceAt, numberOf}
-use Rattle.policy.specs.Draft.{callRow, hasUnmet, asksFor, addServiceAt}
-use Rattle.policy.proofs.Sets.{and-l, and-r, and-i, test, not-i, not-e, none-to, every-in, keep-in, in-keep, once-keep, in-map, map-in, once-map, each-map-keep, once-append, each-append}
+use Rattle.policy.specs.Draft.{callRow, grantRow, hasUnmet, hasWaiting, asksFor, installedAid, nowGranted, addServiceAt}
+use Rattle.policy.proofs.Sets.{and-l, and-r, and-i, or-l, or-r, or-e, test, not-i, not-e, none-to, every-in, keep-in, in-keep, once-keep, in-map, map-in, once-map, each-map-keep, once-append, each-append}
 use Rattle.policy.proofs.Sets.{distinct→once}
-use Rattle.policy.proofs.Equal.{eqAid→, eqAid-refl, eqAid-of, eqTok→, eqTok-of, row-path, has-aid, aid-has, has-unmet, unmet-has}
+use Rattle.policy.proofs.Equal.{eqAid→, eqAid-refl, eqAid-of, eqb-of, eqTok→, eqTok-of, row-path, has-aid, aid-has, has-row, row-has, has-unmet, unmet-has, has-waiting, waiting-has}
 use Rattle.policy.proofs.Put.{NewPlace, new-place, orNew, OldOrNew, old-or-new}
 use Rattle.policy.proofs.Formed.{Names, Bits, grantBit, Formed, ProvidesAt, at, RowAt, bit, row, GrantAt, Stands, Turns, KindTurns}
 use Rattle.policy.proofs.Found.{NumberIs, number-is}
-use Rattle.policy.proofs.Facts.{no-rows, row-kept, need-bits, granted-provided}
+use Rattle.policy.proofs.Facts.{no-rows, row-kept, need-bits}
 use Rattle.policy.proofs.Reach.{reach-3}
-use Rattle.policy.proofs.Alter.{More, turned-same, turned-more, turned-one, stands-turned}
+use Rattle.policy.proofs.Alter.{More, turned-same, turned-union, turned-one, stands-turned}
 
 module _ (L : Layout) (t : Tables) (f : Formed L t) (j k : ℕ) (uj : T (t .used j)) (k< : k < L .services) (free : T (t .provides j k) → ⊥)
     (s : Tok) (fresh : ProvidesAt t j s → ⊥) (l : List Aid) (valid : (b : Aid) → In b l → T (validAid b)) (others : (b : Aid) → In b l → b ≡ t .aid j → ⊥) (once : NoRepeat l) where
@@ -92,30 +92,62 @@ module _ (L : Layout) (t : Tables) (f : Formed L t) (j k : ℕ) (uj : T (t .used
   abbrev asked : ℕ → Bool
   asked x = hasUnmet (asks x) (t .unmet)
 
+  abbrev waits : Aid → Waiting
+  waits b = record { caller = b; callee = j; tok = s }
+
+  -- the AID is one of the record's, or its grant waits
+  abbrev named : Aid → Bool
+  named b = exists (eqAid b) l || hasWaiting (waits b) (t .waiting)
+
   abbrev granted : ℕ → Bool
-  granted x = t .used x && exists (eqAid (t .aid x)) l
+  granted x = t .used x && named (t .aid x)
 
   was-asked : (x : ℕ) → T (asked x) → In (asks x) (t .unmet)
   was-asked x h = has-unmet (asks x) (t .unmet) h
 
-  in-l : (x : ℕ) → T (granted x) → In (t .aid x) l
-  in-l x h = has-aid (t .aid x) l (and-r (t .used x) (exists (eqAid (t .aid x)) l) h)
+  named-in : (b : Aid) → T (named b) → In b l ⊎ In (waits b) (t .waiting)
+  named-in b h = go (or-e (exists (eqAid b) l) (hasWaiting (waits b) (t .waiting)) h)
+    where
+      go : T (exists (eqAid b) l) ⊎ T (hasWaiting (waits b) (t .waiting)) → In b l ⊎ In (waits b) (t .waiting)
+      go (inl x) = inl (has-aid b l x)
+      go (inr x) = inr (has-waiting (waits b) (t .waiting) x)
 
-  -- not installed: its grant waits
+  named-other : (b : Aid) → T (named b) → b ≡ t .aid j → ⊥
+  named-other b h e = go (named-in b h)
+    where
+      go : In b l ⊎ In (waits b) (t .waiting) → ⊥
+      go (inl m) = others b m e
+      go (inr m) = f .waiting .wait-other (waits b) m e
+
+  -- the old rows that stay, and the AIDs whose grant waits anew
+  abbrev still : Waiting → Bool
+  still w = not (nowGranted L t j s w)
+
   abbrev lone : Aid → Bool
-  lone b = not (isSome (numberOf L t b))
+  lone b = not (installedAid L t b || hasWaiting (waits b) (t .waiting))
 
   lone-off : (b : Aid) → T (lone b) → NumberIs t b none
-  lone-off b = none-to (NumberIs t b) (numberOf L t b) (number-is L t (f .names) b)
+  lone-off b h = none-to (NumberIs t b) (numberOf L t b) (number-is L t (f .names) b)
+      (not-i (installedAid L t b) (λ x. not-e (installedAid L t b || hasWaiting (waits b) (t .waiting)) h (or-l (installedAid L t b) (hasWaiting (waits b) (t .waiting)) x)))
 
-  abbrev wait : ℕ → ℕ → Aid → Waiting
-  wait n z b = record { caller = b; callee = n; service = z }
-
-  abbrev waits : Aid → Waiting
-  waits b = wait j k b
+  lone-new : (b : Aid) → T (lone b) → In (waits b) (t .waiting) → ⊥
+  lone-new b h m = not-e (installedAid L t b || hasWaiting (waits b) (t .waiting)) h (or-r (installedAid L t b) (hasWaiting (waits b) (t .waiting)) (waiting-has m))
 
   each-wait : (P : Waiting → Type 0) → ((b : Aid) → In b l → T (lone b) → P (waits b)) → (w : Waiting) → In w (map waits (keep lone l)) → P w
   each-wait P = each-map-keep waits P lone l
+
+  each-row : (P : Waiting → Type 0) → ((w : Waiting) → In w (t .waiting) → T (still w) → P w) → ((b : Aid) → In b l → T (lone b) → P (waits b))
+      → (w : Waiting) → In w (after .waiting) → P w
+  each-row P g h = each-append {P = P} (keep still (t .waiting)) (map waits (keep lone l)) (λ w m. let q = keep-in still (t .waiting) m in g w (q .0) (q .1)) (each-wait P h)
+
+  -- a grant of the new service to an installed AID does not stay a row
+  now-granted : (w : Waiting) → w .callee ≡ j → w .tok ≡ s → (n : ℕ) → T (t .used n) → t .aid n ≡ w .caller → T (nowGranted L t j s w)
+  now-granted w ej es n u e = and-i (eqb (w .callee) j && eqTok (w .tok) s) (installedAid L t (w .caller))
+      (and-i (eqb (w .callee) j) (eqTok (w .tok) s) (eqb-of ej) (eqTok-of es)) (go (numberOf L t (w .caller)) (number-is L t (f .names) (w .caller)))
+    where
+      go : (o : Option ℕ) → NumberIs t (w .caller) o → T (isSome o)
+      go none h = h n u e
+      go (some i) h = tt
 
   was-unmet : (u : Unmet) → In u (after .unmet) → In u (t .unmet) × (T (asksFor L t (t .aid j) s u) → ⊥)
   was-unmet u m = let p = keep-in (λ v. not (asksFor L t (t .aid j) s v)) (t .unmet) m in (p .0, not-e (asksFor L t (t .aid j) s u) (p .1))
@@ -125,8 +157,8 @@ module _ (L : Layout) (t : Tables) (f : Formed L t) (j k : ℕ) (uj : T (t .used
     names = names;
     calls = bits (t .calls) asked (f .calls) (λ x h. f .unmet .off .off-used (asks x) (was-asked x h))
         (λ x h e. f .unmet .unmet-other (asks x) (was-asked x h) (ap (t .aid) (sym e)));
-    grants = bits (grantBit t) granted (f .grants) (λ x h. and-l (t .used x) (exists (eqAid (t .aid x)) l) h)
-        (λ x h e. others (t .aid x) (in-l x h) (ap (t .aid) e));
+    grants = bits (grantBit t) granted (f .grants) (λ x h. and-l (t .used x) (named (t .aid x)) h)
+        (λ x h e. named-other (t .aid x) (and-r (t .used x) (named (t .aid x)) h) (ap (t .aid) e));
     need-call = λ x y z h. old-or-new j k (t .calls) asked x y z .1 (inl (f .need-call x y z h));
     unmet = record {
       off = record {
@@ -138,18 +170,23 @@ module _ (L : Layout) (t : Tables) (f : Formed L t) (j k : ℕ) (uj : T (t .used
       unmet-once = once-keep (λ v. not (asksFor L t (t .aid j) s v)) (t .unmet) (f .unmet .unmet-once);
     };
     waiting = record {
-      wait-valid = each-append (t .waiting) (map waits (keep lone l)) (f .waiting .wait-valid)
-          (each-wait (λ w. T (validAid (w .caller))) (λ b m _. valid b m));
-      wait-off = each-append (t .waiting) (map waits (keep lone l)) (f .waiting .wait-off)
-          (each-wait (λ w. (n : ℕ) → T (t .used n) → t .aid n ≡ w .caller → ⊥) (λ b _ h. lone-off b h));
-      wait-prov = each-append (t .waiting) (map waits (keep lone l)) (λ w m. place .old-prov (w .callee) (w .service) (f .waiting .wait-prov w m))
-          (each-wait (λ w. T (after .provides (w .callee) (w .service))) (λ b _ _. place .new-prov));
-      wait-once = once-append (t .waiting) (map waits (keep lone l)) (f .waiting .wait-once)
+      wait-valid = each-row (λ w. T (validAid (w .caller))) (λ w m _. f .waiting .wait-valid w m) (λ b m _. valid b m);
+      wait-used = each-row (λ w. T (t .used (w .callee))) (λ w m _. f .waiting .wait-used w m) (λ b m _. uj);
+      wait-other = each-row (λ w. w .caller ≡ t .aid (w .callee) → ⊥) (λ w m _. f .waiting .wait-other w m) (λ b m _. others b m);
+      wait-off = each-row (λ w. (n z : ℕ) → T (t .used n) → t .aid n ≡ w .caller → T (after .provides (w .callee) z) → after .tok (w .callee) z ≡ w .tok → ⊥)
+          (λ w m h n z u e p q. waits-off w m h n z u e q (place .prov-cases (w .callee) z p)) (λ b _ h n z u e p q. lone-off b h n u e);
+      wait-once = once-append (keep still (t .waiting)) (map waits (keep lone l)) (once-keep still (t .waiting) (f .waiting .wait-once))
           (once-map waits (keep lone l) (λ b c m n e. ap (λ (v : Waiting). v .caller) e) (once-keep lone l once))
-          (λ w m n. each-wait (λ v. T (t .provides (v .callee) (v .service)) → ⊥) (λ b _ _. free) w n (f .waiting .wait-prov w m));
+          (λ w m n. each-wait (λ v. w ≡ v → ⊥) (λ b _ h e. lone-new b h (in-cast (sym e) (keep-in still (t .waiting) m .0))) w n refl);
     };
   }
     where
+      waits-off : (w : Waiting) → In w (t .waiting) → T (still w) → (n z : ℕ) → T (t .used n) → t .aid n ≡ w .caller → after .tok (w .callee) z ≡ w .tok
+          → ((w .callee ≡ j) × (z ≡ k)) ⊎ T (t .provides (w .callee) z) → ⊥
+      waits-off w m h n z u e q (inl c) =
+          not-e (nowGranted L t j s w) h (now-granted w (c .0) (sym q ∙ (λ i. after .tok (c .0 i) (c .1 i)) ∙ place .new-tok) n u e)
+      waits-off w m h n z u e q (inr p) = f .waiting .wait-off w m n z u e p (sym (place .old-tok (w .callee) z p) ∙ q)
+
       off : (u : Unmet) (y z : ℕ) → In u (t .unmet) → (T (asksFor L t (t .aid j) s u) → ⊥) → t .aid y ≡ u .callee → after .tok y z ≡ u .tok
           → ((y ≡ j) × (z ≡ k)) ⊎ T (t .provides y z) → ⊥
       off u y z m no-ask ea et (inl e) =
@@ -186,39 +223,74 @@ module _ (L : Layout) (t : Tables) (f : Formed L t) (j k : ℕ) (uj : T (t .used
   more-granted n x = (cases, back)
     where
       -- a grant at the new place to an AID of l
-      is-new : (z : ℕ) → n ≡ j → z ≡ k → x .tok ≡ after .tok n z → In (x .aid) l → (n ≡ j) × In x (map grantTo l)
-      is-new z en ez q m = let e : x .tok ≡ s = q ∙ tok-new n z en ez in (en, in-cast (λ i. record { aid = x .aid; tok = e i }) (in-map grantTo m))
+      is-new : n ≡ j → x .tok ≡ s → In (x .aid) l → (n ≡ j) × In x (map grantTo l)
+      is-new en es m = (en, in-cast (λ i. record { aid = x .aid; tok = es i }) (in-map grantTo m))
+
+      by-name : (i z : ℕ) → x .aid ≡ t .aid i → x .tok ≡ after .tok n z → n ≡ j → z ≡ k → In (t .aid i) l ⊎ In (waits (t .aid i)) (t .waiting) → GrantAt t n x ⊎ ((n ≡ j) × In x (map grantTo l))
+      by-name i z e q en ez (inl m) = inr (is-new en (q ∙ tok-new n z en ez) (in-cast e m))
+      by-name i z e q en ez (inr m) = inl (row (in-cast (λ y. record { caller = e y; callee = en y; tok = (q ∙ tok-new n z en ez) y }) m))
 
       by-bit : (i z : ℕ) → x .aid ≡ t .aid i → x .tok ≡ after .tok n z → OldOrNew j k (grantBit t) granted i n z → GrantAt t n x ⊎ ((n ≡ j) × In x (map grantTo l))
       by-bit i z e q (inl b) = inl (bit i z b e (q ∙ place .old-tok n z (f .grants .of-prov i n z b)))
-      by-bit i z e q (inr h) = inr (is-new z (h .0) (h .1) q (in-cast e (in-l i (h .2))))
+      by-bit i z e q (inr h) = by-name i z e q (h .0) (h .1) (named-in (t .aid i) (and-r (t .used i) (named (t .aid i)) (h .2)))
 
-      by-row : (z : ℕ) → x .tok ≡ after .tok n z → In (wait n z (x .aid)) (t .waiting) ⊎ In (wait n z (x .aid)) (map waits (keep lone l))
-          → GrantAt t n x ⊎ ((n ≡ j) × In x (map grantTo l))
-      by-row z q (inl m) = inl (row z m (q ∙ place .old-tok n z (f .waiting .wait-prov (wait n z (x .aid)) m)))
-      by-row z q (inr m) = inr (each-wait (λ w. wait n z (x .aid) ≡ w → (n ≡ j) × In x (map grantTo l))
-          (λ b i _ e. is-new z (ap (λ (v : Waiting). v .callee) e) (ap (λ (v : Waiting). v .service) e) q (in-cast (ap (λ (v : Waiting). v .caller) e) i)) (wait n z (x .aid)) m refl)
+      by-row : (w : Waiting) → In w (after .waiting) → grantRow n x ≡ w → GrantAt t n x ⊎ ((n ≡ j) × In x (map grantTo l))
+      by-row = each-row (λ w. grantRow n x ≡ w → GrantAt t n x ⊎ ((n ≡ j) × In x (map grantTo l))) (λ w m _ e. inl (row (in-cast e m)))
+          (λ b m _ e. inr (is-new (ap (λ (v : Waiting). v .callee) e) (ap (λ (v : Waiting). v .tok) e) (in-cast (ap (λ (v : Waiting). v .caller) e) m)))
 
       cases : GrantAt after n x → GrantAt t n x ⊎ ((n ≡ j) × In x (map grantTo l))
       cases (bit i z b e q) = by-bit i z e q (old-or-new j k (grantBit t) granted i n z .0 b)
-      cases (row z m q) = by-row z q (in-append (t .waiting) m)
+      cases (row m) = by-row (grantRow n x) m refl
+
+      -- a grant of the new service to an installed AID is a bit
+      as-bit : (b : Aid) → T (named b) → (i : ℕ) → NumberIs t b (some i) → GrantAt after j (grantTo b)
+      as-bit b h i w = bit i k (old-or-new j k (grantBit t) granted i j k .1
+          (inr (refl, refl, and-i (t .used i) (named (t .aid i)) (w .0) (subst (λ (z : Aid). T (named z)) (sym (w .1)) h)))) (sym (w .1)) (sym (place .new-tok))
+
+      -- a waiting grant turns where its caller is on the card
+      turns : In (grantRow n x) (t .waiting) → T (nowGranted L t j s (grantRow n x)) ⊎ (T (nowGranted L t j s (grantRow n x)) → ⊥) → GrantAt after n x
+      turns m (inr h) = row (in-left (map waits (keep lone l)) (in-keep still m (not-i (nowGranted L t j s (grantRow n x)) h)))
+      turns m (inl h) =
+          let c = eqb n j in
+          let d = eqTok (x .tok) s in
+          let o = installedAid L t (x .aid) in
+          let en : n ≡ j = eqb→eq n j (and-l c d (and-l (c && d) o h)) in
+          let es : x .tok ≡ s = eqTok→ (x .tok) s (and-r c d (and-l (c && d) o h)) in
+          let m′ : In (waits (x .aid)) (t .waiting) = in-cast (λ y. record { caller = x .aid; callee = sym en y; tok = sym es y }) m in
+          let w : T (named (x .aid)) = or-r (exists (eqAid (x .aid)) l) (hasWaiting (waits (x .aid)) (t .waiting)) (waiting-has m′) in
+          rw en (subst (λ (y : Row). GrantAt after j y) (λ y. record { aid = x .aid; tok = sym es y }) (at-number w (numberOf L t (x .aid)) (number-is L t (f .names) (x .aid)) (and-r (c && d) o h)))
+        where
+          at-number : T (named (x .aid)) → (o : Option ℕ) → NumberIs t (x .aid) o → T (isSome o) → GrantAt after j (grantTo (x .aid))
+          at-number w none h y = absurd y
+          at-number w (some i) h y = as-bit (x .aid) w i h
 
       old : GrantAt t n x → GrantAt after n x
       old (bit i z b e q) = bit i z (old-or-new j k (grantBit t) granted i n z .1 (inl b)) e (q ∙ sym (place .old-tok n z (f .grants .of-prov i n z b)))
-      old (row z m q) = row z (in-left (map waits (keep lone l)) m) (q ∙ sym (place .old-tok n z (f .waiting .wait-prov (wait n z (x .aid)) m)))
+      old (row m) = turns m (test (nowGranted L t j s (grantRow n x)))
 
-      -- by whether the caller is installed
-      new : (b : Aid) → In b l → (o : Option ℕ) → NumberIs t b o → (T (not (isSome o)) → T (lone b)) → GrantAt after j (grantTo b)
-      new b m none h g = row k (in-right (t .waiting) (in-map waits (in-keep lone m (g tt)))) (sym (place .new-tok))
-      new b m (some i) h g =
-          let q : T (granted i) = and-i (t .used i) (exists (eqAid (t .aid i)) l) (h .0) (aid-has (in-cast (h .1) m)) in
-          bit i k (old-or-new j k (grantBit t) granted i j k .1 (inr (refl, refl, q))) (sym (h .1)) (sym (place .new-tok))
+      -- a caller of the record, by whether it is installed and by whether its grant waits
+      new : (b : Aid) → In b l → (o : Option ℕ) → NumberIs t b o → numberOf L t b ≡ o → GrantAt after j (grantTo b)
+      new b m (some i) h e = as-bit b (or-l (exists (eqAid b) l) (hasWaiting (waits b) (t .waiting)) (aid-has m)) i h
+      new b m none h e = go (test (hasWaiting (waits b) (t .waiting)))
+        where
+          off : T (installedAid L t b) → ⊥
+          off x = subst (λ (o : Option ℕ). T (isSome o)) e x
+
+          go : T (hasWaiting (waits b) (t .waiting)) ⊎ (T (hasWaiting (waits b) (t .waiting)) → ⊥) → GrantAt after j (grantTo b)
+          go (inl y) = row (in-left (map waits (keep lone l)) (in-keep still (has-waiting (waits b) (t .waiting) y)
+              (not-i (nowGranted L t j s (waits b)) (λ g. off (and-r (eqb j j && eqTok s s) (installedAid L t b) g)))))
+          go (inr y) = row (in-right (keep still (t .waiting)) (in-map waits (in-keep lone m (not-i (installedAid L t b || hasWaiting (waits b) (t .waiting))
+              (λ g. either (or-e (installedAid L t b) (hasWaiting (waits b) (t .waiting)) g))))))
+            where
+              either : T (installedAid L t b) ⊎ T (hasWaiting (waits b) (t .waiting)) → ⊥
+              either (inl z) = off z
+              either (inr z) = y z
 
       back : GrantAt t n x ⊎ ((n ≡ j) × In x (map grantTo l)) → GrantAt after n x
       back (inl p) = old p
       back (inr p) =
           let q = map-in grantTo l (p .1) in
-          rw (p .0, q .2) (new (q .0) (q .1) (numberOf L t (q .0)) (number-is L t (f .names) (q .0)) (λ h. h))
+          rw (p .0, q .2) (new (q .0) (q .1) (numberOf L t (q .0)) (number-is L t (f .names) (q .0)) refl)
 
   calls-as : (n : ℕ) (r : Row) → RowAt t (t .calls) (t .unmet) n r ↔ RowAt after (after .calls) (after .unmet) n r
   calls-as n r = (there, back)
@@ -252,22 +324,21 @@ module _ (L : Layout) (t : Tables) (f : Formed L t) (j k : ℕ) (uj : T (t .used
   needs-as n = row-kept t after n (t .needs) [] (λ y z h. sym (service-as y z (need-bits L t f .of-prov n y z h)))
 
   -- ---- the package's contract gets the service and its grants
-  service-turns : (cs : List Contract) (a : Aid) → Stands t [] cs → t .aid j ≡ a → Turns L (addServiceAt L t j k s l) (alter a (altered (addService s l)) cs)
+  service-turns : (cs : List Contract) (a : Aid) → Stands t [] cs → t .aid j ≡ a → Turns L (addServiceAt L t j k s l) (alter a (altered L (addService s l)) cs)
   service-turns cs a st aj = record {
     formed = formed;
     lost-off = no-rows after;
     stands = stands-turned L t after [] cs a j (f .names) st uj aj refl refl
         (turned-one s more-provided fresh)
         (turned-same uj (λ n _. calls-as n))
-        (turned-more (λ x. In x (map grantTo l)) (map grantTo l) (λ x. (λ m. m, λ m. m)) (once-map grantTo l (λ x y m n e. ap (λ (v : Row). v .aid) e) once) more-granted
-        (λ x m g. fresh (subst (ProvidesAt t j) (ap (λ (v : Row). v .tok) (map-in grantTo l m .2)) (granted-provided L t f j x g))))
+        (turned-union hasRow (λ x g. (has-row x g, row-has)) (map grantTo l) (once-map grantTo l (λ x y m n e. ap (λ (v : Row). v .aid) e) once) more-granted)
         (turned-same uj (λ n _. needs-as n));
   }
 
 pub kind-3 : (s : Tok) (l : List Aid) → KindTurns (addService s l)
 unfolding proper
 kind-3 s l L t cs a f st va vl pr =
-    reach-3 L t f a (λ d _. Turns L d (alter a (altered (addService s l)) cs)) s l (λ j k uj aj fresh free.
+    reach-3 L t f a (λ d _. Turns L d (alter a (altered L (addService s l)) cs)) s l (λ j k uj aj fresh free.
     service-turns L t f j k uj (free .0) (free .1) s fresh l (vl .1 .1) (λ b m e. apart b m (e ∙ aj))
     (distinct→once eqAid eqAid→ eqAid-refl l (and-r (every (λ b. not (eqAid b a)) l) (distinct eqAid l) pr)) cs a st aj)
   where

@@ -42,7 +42,7 @@ module _ (L : Layout) (t : Tables) (cs : List Contract) (a : Aid) (fo : Formed L
           unmet-once = once-snoc (t .unmet) u (fo .unmet .unmet-once) (λ m. new (row m));
         }
 
-    more-call : (o : Option Place) → ServerIs t r o → Turns L (addCallAt L t i r o) (alter a (altered (addCall r)) cs)
+    more-call : (o : Option Place) → ServerIs t r o → Turns L (addCallAt L t i r o) (alter a (altered L (addCall r)) cs)
     more-call none s =
         let u = t .unmet ++ (callRow i r ∷ []) in
         let t′ = recalled t (t .calls) (t .needs) u in
@@ -78,7 +78,7 @@ module _ (L : Layout) (t : Tables) (cs : List Contract) (a : Aid) (fo : Formed L
       was : {u : Unmet} → In u (keep (λ v. not (eqUnmet (callRow i r) v)) (t .unmet)) → In u (t .unmet)
       was m = keep-in out (t .unmet) m .0
 
-  less-call : (o : Option Place) → ServerIs t r o → Turns L (removeCallAt L t i r o) (alter a (altered (removeCall r)) cs)
+  less-call : (o : Option Place) → ServerIs t r o → Turns L (removeCallAt L t i r o) (alter a (altered L (removeCall r)) cs)
   less-call none s =
       let u = keep (λ v. not (eqUnmet (callRow i r) v)) (t .unmet) in
       let t′ = recalled t (t .calls) (t .needs) u in
@@ -99,7 +99,7 @@ module _ (L : Layout) (t : Tables) (cs : List Contract) (a : Aid) (fo : Formed L
 pub kind-5 : (r : Row) → KindTurns (addCall r)
 unfolding proper
 kind-5 r L t cs a fo st va vr own =
-    reach-5 L t fo a (λ d _. Turns L d (alter a (altered (addCall r)) cs)) r (λ i ui ai. more-call L t cs a fo st r i ui ai (vr .0) (λ e. not-e (eqAid (r .aid) a) own (eqAid-of e)))
+    reach-5 L t fo a (λ d _. Turns L d (alter a (altered L (addCall r)) cs)) r (λ i ui ai. more-call L t cs a fo st r i ui ai (vr .0) (λ e. not-e (eqAid (r .aid) a) own (eqAid-of e)))
 
 pub kind-6 : (r : Row) → KindTurns (removeCall r)
-kind-6 r L t cs a fo st va vr own = reach-6 L t fo a (λ d _. Turns L d (alter a (altered (removeCall r)) cs)) r (less-call L t cs a fo st r)
+kind-6 r L t cs a fo st va vr own = reach-6 L t fo a (λ d _. Turns L d (alter a (altered L (removeCall r)) cs)) r (less-call L t cs a fo st r)

@@ -2,7 +2,7 @@
 use Prim.Native.Nat.{ℕ}
 use mathlib.Core.Path.{_≡_, refl, sym, ap, _∙_, subst}
 use mathlib.Core.Logic.{_⊎_, inl, inr, _↔_, Iff·trans}
-use mathlib.Core.Bool.{Bool, not, _&&_}
+use mathlib.Core.Bool.{Bool, false, not, _&&_}
 use mathlib.Core.List.{List, [], _∷_, map}
 use mathlib.Core.List.{List·Memᴰ as In, List·Memᴰ·head as here, List·Memᴰ·tail as there, List·Memᴰ·cases-cons as in-cons, List·Memᴰ·not-nil as in-nil}
 use mathlib.Core.List.{Memᴰ·append-left as in-left, Memᴰ·append-right as in-right, List·Memᴰ·append-cases as in-append, Memᴰ·cast as in-cast}
@@ -13,18 +13,18 @@ use Rattle.policy.specs.Contract.{eqAid, Tok, Row, Contract, hasTok, val
 use Rattle.policy.specs.Layout.{Layout}
 use Rattle.policy.specs.Record.{load}
 use Rattle.policy.specs.Tables.{Tables, Unmet, Waiting}
-use Rattle.policy.specs.Lookup.{Place, serviceAt, numberOf, serverOf}
-use Rattle.policy.specs.Draft.{callRow, loadedNames, notServed, loadedService, loadAt}
+use Rattle.policy.specs.Lookup.{Place, serviceAt, numberOf, serviceOf, serverOf}
+use Rattle.policy.specs.Draft.{callRow, grantRow, loadedNames, notServed, loadAt}
 use Rattle.policy.specs.History.{FourSets}
 use Rattle.policy.proofs.Sets.{and-l, and-r, test, not-i, keep-in, in-keep, in-map, map-in}
 use Rattle.policy.proofs.Equal.{eqAid→, row-path, has-tok}
 use Rattle.policy.proofs.Put.{by-number}
 use Rattle.policy.proofs.Formed.{ProvidesAt, at, RowAt, GrantAt, HasContract, Stands, Turns, KindTurns}
-use Rattle.policy.proofs.Found.{NumberIs, ServerIs, number-is, server-is}
+use Rattle.policy.proofs.Found.{NumberIs, ServiceIs, ServerIs, number-is, service-is, server-is}
 use Rattle.policy.proofs.Facts.{provides-kept}
 use Rattle.policy.proofs.LoadNames.{Newcomer, Loaded, loaded, service-old, tok-in, in-tok, load-reached}
 use Rattle.policy.proofs.LoadBits.{Named, CallIs, GrantIs, call-is, grant-is, need-new, need-old}
-use Rattle.policy.proofs.LoadFormed.{unmetStill, waitsStill, leftOff, uninstalled, waitingFor, each-left, names-on, service-loaded, left-off, each-unmet, each-waiting, load-formed}
+use Rattle.policy.proofs.LoadFormed.{unmetStill, waitedFor, waitsStill, leftOff, bothThere, waitsNew, waitingFor, each-left, names-on, left-off, each-unmet, each-waiting, load-formed}
 
 module _ (L : Layout) (t : Tables) (m : ℕ) (k : Contract) (new : Newcomer L t m k) (valid : T (validAid (k .aid))) where
   abbrev on : Tables
@@ -58,32 +58,31 @@ module _ (L : Layout) (t : Tables) (m : ℕ) (k : Contract) (new : Newcomer L t 
 
   grants-new : (r : Row) → In r (k .grants) ↔ GrantAt after m r
   grants-new r = (
-    (λ i. to i (numberOf L t (r .aid)) (number-is L t (new .formed .names) (r .aid))
-        (λ s. in-right (keep (waitsStill L t m k) (t .waiting)) (in-map (waitingFor L t m k) (in-keep (uninstalled L t m k) i s)))),
+    (λ i. to i (numberOf L t (r .aid)) (number-is L t (new .formed .names) (r .aid)) (test (hasTok (r .tok) (k .provides)))
+        (λ s. in-right (keep (waitsStill L t m k) (t .waiting)) (in-map (waitingFor L t m k) (in-keep (waitsNew L t m k) i (not-i (bothThere L t m k r) s))))),
     back,
   )
     where
-      to : In r (k .grants) → (o : Option ℕ) → NumberIs t (r .aid) o → (T (not (isSome o)) → In (waitingFor L t m k r) (after .waiting)) → GrantAt after m r
-      to i none h f = GrantAt.row (loadedService L t m k (r .tok)) (f tt) (sym (service-loaded L t m k new valid (new .grants-provided r i) .1))
-      to i (some x) h f =
-          let q = service-loaded L t m k new valid (new .grants-provided r i) in
-          let z = loadedService L t m k (r .tok) in
-          GrantAt.bit x z (grant-is L t m k new m x z .1 (GrantIs.own refl (q .0) (h .0) (in-cast (row-path (h .1) (q .1)) i)))
-          (sym (h .1) ∙ sym (l .aid-old x (l .old-ne x (h .0)))) (sym (q .1))
+      to : In r (k .grants) → (o : Option ℕ) → NumberIs t (r .aid) o → T (hasTok (r .tok) (k .provides)) ⊎ (T (hasTok (r .tok) (k .provides)) → ⊥)
+          → ((T (isSome o && hasTok (r .tok) (k .provides)) → ⊥) → In (waitingFor L t m k r) (after .waiting)) → GrantAt after m r
+      to i none h c f = GrantAt.row (f (λ x. x))
+      to i (some x) h (inr c) f = GrantAt.row (f c)
+      to i (some x) h (inl c) f =
+          let q = in-tok L t m k new (has-tok (r .tok) (k .provides) c) in
+          GrantAt.bit x (q .0) (grant-is L t m k new m x (q .0) .1 (GrantIs.own refl (q .1) (h .0) (in-cast (row-path (h .1) (q .2)) i)))
+          (sym (h .1) ∙ sym (l .aid-old x (l .old-ne x (h .0)))) (sym (q .2))
 
       bits : (x z : ℕ) → r .aid ≡ on .aid x → r .tok ≡ on .tok m z → GrantIs L t m k m x z → In r (k .grants)
       bits x z e f (GrantIs.own q p u i) = in-cast (row-path (e ∙ l .aid-old x (l .old-ne x u)) f) i
-      bits x z e f (GrantIs.waited q i) = absurd (l .prov-ne m z (new .formed .waiting .wait-prov (record { caller = k .aid; callee = m; service = z }) i) refl)
+      bits x z e f (GrantIs.waited q p i) = absurd (l .prov-ne m z p refl)
       bits x z e f (GrantIs.old h) = absurd (l .prov-ne m z (new .formed .grants .of-prov x m z h) refl)
 
       back : GrantAt after m r → In r (k .grants)
       back (GrantAt.bit x z h e f) = bits x z e f (grant-is L t m k new m x z .0 h)
-      back (GrantAt.row z i f) =
-          let w : Waiting = record { caller = r .aid; callee = m; service = z } in
-          each-waiting L t m k new valid (λ (v : Waiting). w ≡ v → In r (k .grants))
-          (λ v j s e. absurd (l .prov-ne (v .callee) (v .service) (new .formed .waiting .wait-prov v j) (sym (ap (λ (x : Waiting). x .callee) e))))
-          (λ s j n e. in-cast (row-path (ap (λ (x : Waiting). x .caller) e)
-          (f ∙ ap (λ (x : Waiting). on .tok m (x .service)) e ∙ service-loaded L t m k new valid (new .grants-provided s j) .1)) j) w i refl
+      back (GrantAt.row i) =
+          each-waiting L t m k new valid (λ (v : Waiting). grantRow m r ≡ v → In r (k .grants))
+          (λ v j s e. absurd (l .old-ne (v .callee) (new .formed .waiting .wait-used v j) (sym (ap (λ (x : Waiting). x .callee) e))))
+          (λ s j n e. in-cast (row-path (ap (λ (x : Waiting). x .caller) e) (ap (λ (x : Waiting). x .tok) e)) j) (grantRow m r) i refl
 
   has-new : HasContract after lost m k
   has-new = record {
@@ -151,30 +150,30 @@ module _ (L : Layout) (t : Tables) (m : ℕ) (k : Contract) (new : Newcomer L t 
     grants-old : (r : Row) → GrantAt t n r ↔ GrantAt after n r
     grants-old r = (to, back)
       where
-        turns : (z : ℕ) → In (record { caller = r .aid; callee = n; service = z }) (t .waiting) → r .tok ≡ on .tok n z
-            → T (eqAid (r .aid) (k .aid)) ⊎ (T (eqAid (r .aid) (k .aid)) → ⊥) → GrantAt after n r
-        turns z i f (inl s) =
+        turns : In (grantRow n r) (t .waiting) → (o : Option ℕ) → ServiceIs t n (r .tok) o → T (eqAid (r .aid) (k .aid)) ⊎ (T (eqAid (r .aid) (k .aid)) → ⊥)
+            → ((T (eqAid (r .aid) (k .aid) && isSome o) → ⊥) → In (grantRow n r) (after .waiting)) → GrantAt after n r
+        turns i o h (inr ne) f = GrantAt.row (f (λ x. ne (and-l (eqAid (r .aid) (k .aid)) (isSome o) x)))
+        turns i none h (inl s) f = GrantAt.row (f (λ x. and-r (eqAid (r .aid) (k .aid)) false x))
+        turns i (some z) h (inl s) f =
             let e : r .aid ≡ k .aid = eqAid→ (r .aid) (k .aid) s in
-            GrantAt.bit m z (grant-is L t m k new n m z .1 (GrantIs.waited refl (in-cast (λ x. record { caller = sym e x; callee = n; service = z }) i))) (e ∙ sym (l .aid-new)) f
-        turns z i f (inr h) = GrantAt.row z
-            (in-left (map (waitingFor L t m k) (keep (uninstalled L t m k) (k .grants))) (in-keep (waitsStill L t m k) i (not-i (eqAid (r .aid) (k .aid)) h))) f
+            GrantAt.bit m z (grant-is L t m k new n m z .1 (GrantIs.waited refl (h .0) (in-cast (λ x. record { caller = sym e x; callee = n; tok = h .1 x }) i)))
+            (e ∙ sym (l .aid-new)) (sym (h .1) ∙ sym (l .tok-old n z n-ne))
 
         to : GrantAt t n r → GrantAt after n r
         to (GrantAt.bit x z h e f) = GrantAt.bit x z (grant-is L t m k new n x z .1 (GrantIs.old h))
             (e ∙ sym (l .aid-old x (l .old-ne x (new .formed .grants .by-used x n z h)))) (f ∙ sym (l .tok-old n z n-ne))
-        to (GrantAt.row z i f) = turns z i (f ∙ sym (l .tok-old n z n-ne)) (test (eqAid (r .aid) (k .aid)))
+        to (GrantAt.row i) = turns i (serviceOf L t n (r .tok)) (service-is L t (new .formed .names) n (r .tok)) (test (eqAid (r .aid) (k .aid)))
+            (λ h. in-left (map (waitingFor L t m k) (keep (waitsNew L t m k) (k .grants))) (in-keep (waitsStill L t m k) i (not-i (waitedFor L t m k (grantRow n r)) h)))
 
         bits : (x z : ℕ) → r .aid ≡ on .aid x → r .tok ≡ t .tok n z → GrantIs L t m k n x z → GrantAt t n r
         bits x z e f (GrantIs.own q p w i) = absurd (n-ne q)
-        bits x z e f (GrantIs.waited q i) = GrantAt.row z (in-cast (λ y. record { caller = (e ∙ ap (on .aid) q ∙ l .aid-new) y; callee = n; service = z }) i) f
+        bits x z e f (GrantIs.waited q p i) = GrantAt.row (in-cast (λ y. record { caller = (e ∙ ap (on .aid) q ∙ l .aid-new) y; callee = n; tok = f y }) i)
         bits x z e f (GrantIs.old h) = GrantAt.bit x z h (e ∙ l .aid-old x (l .old-ne x (new .formed .grants .by-used x n z h))) f
 
         back : GrantAt after n r → GrantAt t n r
         back (GrantAt.bit x z h e f) = bits x z e (f ∙ l .tok-old n z n-ne) (grant-is L t m k new n x z .0 h)
-        back (GrantAt.row z i f) = GrantAt.row z
-            (each-waiting L t m k new valid (λ (w : Waiting). (w .callee ≡ m → ⊥) → In w (t .waiting)) (λ w j s h. j) (λ s j q h. absurd (h refl))
-            (record { caller = r .aid; callee = n; service = z }) i n-ne)
-            (f ∙ l .tok-old n z n-ne)
+        back (GrantAt.row i) = GrantAt.row
+            (each-waiting L t m k new valid (λ (w : Waiting). (w .callee ≡ m → ⊥) → In w (t .waiting)) (λ w j s h. j) (λ s j q h. absurd (h refl)) (grantRow n r) i n-ne)
 
     needs-old : (r : Row) → RowAt t (t .needs) [] n r ↔ RowAt after (after .needs) lost n r
     needs-old r = (to, back)

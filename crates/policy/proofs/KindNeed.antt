@@ -51,7 +51,7 @@ module _ (L : Layout) (t : Tables) (cs : List Contract) (a : Aid) (fo : Formed L
     still-called p s x y z (inl e) = rw (e .0, e .1, e .2) (call-bit p s called)
     still-called p s x y z (inr h) = fo .need-call x y z h
 
-    more-need : (o : Option Place) → ServerIs t r o → Turns L (addNeedAt L t i r o) (alter a (altered (addNeed r)) cs)
+    more-need : (o : Option Place) → ServerIs t r o → Turns L (addNeedAt L t i r o) (alter a (altered L (addNeed r)) cs)
     more-need none s =
         turns-calls L t cs a fo st i ui ai (t .calls) (t .needs) (t .unmet) (callRow i r ∷ []) (fo .calls) (fo .need-call) (fo .unmet) (lost-one s)
         (turned-same ui (λ n _. row-kept t t n (t .calls) (t .unmet) (λ j k _. refl)))
@@ -61,14 +61,14 @@ module _ (L : Layout) (t : Tables) (cs : List Contract) (a : Aid) (fo : Formed L
         (turned-one r (bit-more t _ (λ y z. refl) (t .needs) [] i r (p .callee) (p .service) (is-service t r p s)) new)
 
   -- ---- kind 10
-  less-need : (o : Option Place) → ServerIs t r o → Turns L (removeNeedAt L t i r o) (alter a (altered (removeNeed r)) cs)
+  less-need : (o : Option Place) → ServerIs t r o → Turns L (removeNeedAt L t i r o) (alter a (altered L (removeNeed r)) cs)
   less-need none s = needs-turn (t .needs) (fo .need-call) (turned-without r (row-less t t (λ j k. refl) (t .needs) [] i r (no-bit L t fo (need-bits L t fo) r s i)))
   less-need (some p) s =
       needs-turn (put3 i (p .callee) (p .service) false (t .needs)) (λ x y z h. fo .need-call x y z (put3-less i (p .callee) (p .service) (t .needs) x y z .0 h .0))
       (turned-without r (bit-less t _ (λ y z. refl) (t .needs) [] i r (p .callee) (p .service) (is-service t r p s) (one-bit L t fo (need-bits L t fo) (p .callee) (p .service) (s .0) i) in-nil))
 
 pub kind-9 : (r : Row) → KindTurns (addNeed r)
-kind-9 r L t cs a fo st va vr own = reach-9 L t fo a (λ d _. Turns L d (alter a (altered (addNeed r)) cs)) r (more-need L t cs a fo st r)
+kind-9 r L t cs a fo st va vr own = reach-9 L t fo a (λ d _. Turns L d (alter a (altered L (addNeed r)) cs)) r (more-need L t cs a fo st r)
 
 pub kind-10 : (r : Row) → KindTurns (removeNeed r)
-kind-10 r L t cs a fo st va vr own = reach-10 L t fo a (λ d _. Turns L d (alter a (altered (removeNeed r)) cs)) r (less-need L t cs a fo st r)
+kind-10 r L t cs a fo st va vr own = reach-10 L t fo a (λ d _. Turns L d (alter a (altered L (removeNeed r)) cs)) r (less-need L t cs a fo st r)

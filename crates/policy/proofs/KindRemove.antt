@@ -12,13 +12,14 @@ use Rattle.policy.specs.Layout.{Layout}
 use Rattle.policy.specs.Record.{remove}
 use Rattle.policy.specs.Tables.{Tables, Unmet, Waiting, noTok}
 use Rattle.policy.specs.Lookup.{numbers, places}
-use Rattle.policy.specs.Draft.{removeAt}
+use Rattle.policy.specs.Draft.{grantRow, removeAt}
 use Rattle.policy.proofs.Sets.{and-l, and-r, and-i, or-l, or-r, test, not-i, not-e, cond-either, cond-off, keep-in, in-keep, once-keep, once-map-keep, once-append, each-append, pairs, pairs-in}
 use Rattle.policy.proofs.Sets.{in-pairs, once-pairs, in-upto, once-upto}
 use Rattle.policy.proofs.Equal.{eqAid→, eqAid-of, eqb-of}
 use Rattle.policy.proofs.Put.{at-old}
 use Rattle.policy.proofs.Formed.{Bits, WaitingRows, grantBit, Formed, bit, row, GrantAt, HasContract, Stands, Turns, KindTurns}
-use Rattle.policy.proofs.Facts.{provides-kept, place-in, need-bits}
+use Rattle.policy.proofs.Found.{same-place}
+use Rattle.policy.proofs.Facts.{provides-kept, place-in, need-bits, bit-not-waiting}
 use Rattle.policy.proofs.Reach.{reach-2}
 use Rattle.policy.proofs.Dropped.{Without, BitsStay, RowsStay, Dropping, formed-dropped, lost-dropped, calls-dropped, needs-dropped}
 
@@ -111,7 +112,7 @@ module _ (L : Layout) (t : Tables) (fm : Formed L t) (n : ℕ) (un : T (t .used 
   stayW = keep (λ w. not (eqb (w .callee) n)) (t .waiting)
 
   abbrev waitFor : ℕ → ℕ → Waiting
-  waitFor j k = record { caller = t .aid n; callee = j; service = k }
+  waitFor j k = record { caller = t .aid n; callee = j; tok = t .tok j k }
 
   abbrev nowWait : List Waiting
   nowWait = pairs waitFor (λ j. t .grants j n) (places L) (numbers L)
@@ -133,19 +134,32 @@ module _ (L : Layout) (t : Tables) (fm : Formed L t) (n : ℕ) (un : T (t .used 
       → (w : Waiting) → In w (t′ .waiting) → P w
   each-wait {P} f g = each-append {P = P} stayW nowWait (λ w m. let p = wait-old m in f w (p .0) (p .1)) (λ w m. let p = wait-new m in subst P (sym (p .3)) (g (p .0) (p .1) (p .2)))
 
-  waiting′ : WaitingRows (t′ .used) (t′ .aid) (t′ .provides) (t′ .waiting)
+  -- the package of a grant to n stays
+  grantor-used : (j k : ℕ) → T (t .grants j n k) → T (t .used j)
+  grantor-used j k h = fm .names .prov-used j k (fm .grants .of-prov n j k h)
+
+  one-wait : (j k j′ k′ : ℕ) → T (t .grants j n k) → T (t .grants j′ n k′) → waitFor j k ≡ waitFor j′ k′ → (j ≡ j′) × (k ≡ k′)
+  one-wait j k j′ k′ h g e =
+      let ej : j ≡ j′ = ap (λ (w : Waiting). w .callee) e in
+      same-place L t (fm .names) j k j′ k′ (fm .grants .of-prov n j k h) (fm .grants .of-prov n j′ k′ g) (ap (t .aid) ej) (ap (λ (w : Waiting). w .tok) e)
+
+  waiting′ : WaitingRows (t′ .used) (t′ .aid) (t′ .tok) (t′ .provides) (t′ .waiting)
   waiting′ = record {
     wait-valid = each-wait {P = λ w. T (validAid (w .caller))} (λ w m _. fm .waiting .wait-valid w m) (λ j k h. fm .names .aid-valid n un);
-    wait-off = each-wait {P = λ w. (x : ℕ) → T (t′ .used x) → t′ .aid x ≡ w .caller → ⊥}
-        (λ w m _ x u e. let p = used-e x u in fm .waiting .wait-off w m x (p .1) (sym (aid-same x (p .0)) ∙ e))
-        (λ j k h x u e. let p = used-e x u in p .0 (fm .names .aid-inj x n (p .1) un (sym (aid-same x (p .0)) ∙ e)));
-    wait-prov = each-wait {P = λ w. T (t′ .provides (w .callee) (w .service))}
-        (λ w m ne. prov-i (w .callee) (w .service) (fm .waiting .wait-prov w m) ne)
-        (λ j k h. prov-i j k (fm .grants .of-prov n j k h) (grantor j k h));
+    wait-used = each-wait {P = λ w. T (t′ .used (w .callee))} (λ w m ne. used-i (w .callee) (fm .waiting .wait-used w m) ne) (λ j k h. used-i j (grantor-used j k h) (grantor j k h));
+    wait-other = each-wait {P = λ w. w .caller ≡ t′ .aid (w .callee) → ⊥}
+        (λ w m ne e. fm .waiting .wait-other w m (e ∙ aid-same (w .callee) ne))
+        (λ j k h e. grantor j k h (sym (fm .names .aid-inj n j un (grantor-used j k h) (e ∙ aid-same j (grantor j k h)))));
+    wait-off = each-wait {P = λ w. (x z : ℕ) → T (t′ .used x) → t′ .aid x ≡ w .caller → T (t′ .provides (w .callee) z) → t′ .tok (w .callee) z ≡ w .tok → ⊥}
+        (λ w m ne x z u e p f.
+        let q = used-e x u in
+        fm .waiting .wait-off w m x z (q .1) (sym (aid-same x (q .0)) ∙ e) (prov-e (w .callee) z p .0) (sym (tok-same (w .callee) z ne) ∙ f))
+        (λ j k h x z u e p f. let q = used-e x u in q .0 (fm .names .aid-inj x n (q .1) un (sym (aid-same x (q .0)) ∙ e)));
     wait-once = once-append stayW nowWait (once-keep (λ v. not (eqb (v .callee) n)) (t .waiting) (fm .waiting .wait-once))
-        (once-pairs waitFor (λ j. t .grants j n) (places L) (numbers L) (once-upto (L .services)) (once-upto (L .packages))
-        (λ j k j′ k′ _ _ e. (ap (λ (w : Waiting). w .callee) e, ap (λ (w : Waiting). w .service) e)))
-        (λ w m o. fm .waiting .wait-off w (wait-old m .0) n un (sym (ap (λ (v : Waiting). v .caller) (wait-new o .3))));
+        (once-pairs waitFor (λ j. t .grants j n) (places L) (numbers L) (once-upto (L .services)) (once-upto (L .packages)) one-wait)
+        (λ w m o.
+        let p = wait-new o in
+        bit-not-waiting L t fm n (p .0) (p .1) (p .2) (wait-old (in-cast (sym (p .3)) m) .0));
   }
 
   pub dropping : Dropping L t t′ n (λ z. true) stayU
@@ -162,25 +176,25 @@ module _ (L : Layout) (t : Tables) (fm : Formed L t) (n : ℕ) (un : T (t .used 
             let ei : i ≡ n = eqb→eq i n q in
             let g : T (t .grants m n k) = subst (λ (x : ℕ). T (t .grants m x k)) ei h in
             let l = place-in L t (fm .names) m k (fm .grants .of-prov n m k g) in
-            row k (in-right stayW (in-cast (λ z. record { caller = (e ∙ ap (t .aid) ei) z; callee = m; service = k })
+            row (in-right stayW (in-cast (λ z. record { caller = (e ∙ ap (t .aid) ei) z; callee = m; tok = f z })
             (in-pairs waitFor (λ j. t .grants j n) (places L) (numbers L) m k
             (in-upto (L .packages) m (l .0)) (in-upto (L .services) k (l .1)) g)))
-            (f ∙ sym (tok-same m k ne))
         go (inr q) =
             let ni : i ≡ n → ⊥ = λ x. q (eqb-of x) in
             bit i k (grants-stay .stays i m k h (used-i i (fm .grants .by-used i m k h) ni) (λ x _. ne x)) (e ∙ sym (aid-same i ni)) (f ∙ sym (tok-same m k ne))
-    grant-stays (row k h f) = row k (in-left nowWait (in-keep (λ v. not (eqb (v .callee) n)) h (not-i (eqb m n) (λ q. ne (eqb→eq m n q))))) (f ∙ sym (tok-same m k ne))
+    grant-stays (row h) = row (in-left nowWait (in-keep (λ v. not (eqb (v .callee) n)) h (not-i (eqb m n) (λ q. ne (eqb→eq m n q)))))
 
     grant-old : GrantAt t′ m r → GrantAt t m r
     grant-old (bit i k h e f) = bit i k (grants-stay .old i m k h) (e ∙ aid-same i (used-e i (grants-stay .used i m k h) .0)) (f ∙ tok-same m k ne)
-    grant-old (row k h f) = go (in-append stayW h)
+    grant-old (row h) = go (in-append stayW h)
       where
-        go : In (record { caller = r .aid; callee = m; service = k }) stayW ⊎ In (record { caller = r .aid; callee = m; service = k }) nowWait → GrantAt t m r
-        go (inl q) = row k (wait-old q .0) (f ∙ tok-same m k ne)
+        go : In (grantRow m r) stayW ⊎ In (grantRow m r) nowWait → GrantAt t m r
+        go (inl q) = row (wait-old q .0)
         go (inr q) =
             let p = wait-new q in
-            let g : T (t .grants m n (p .1)) = subst (λ (x : ℕ). T (t .grants x n (p .1))) (sym (ap (λ (w : Waiting). w .callee) (p .3))) (p .2) in
-            bit n k (subst (λ (x : ℕ). T (t .grants m n x)) (sym (ap (λ (w : Waiting). w .service) (p .3))) g) (ap (λ (w : Waiting). w .caller) (p .3)) (f ∙ tok-same m k ne)
+            let em : m ≡ p .0 = ap (λ (w : Waiting). w .callee) (p .3) in
+            bit n (p .1) (subst (λ (x : ℕ). T (t .grants x n (p .1))) (sym em) (p .2)) (ap (λ (w : Waiting). w .caller) (p .3))
+            (ap (λ (w : Waiting). w .tok) (p .3) ∙ ap (λ (x : ℕ). t .tok x (p .1)) (sym em))
 
   abbrev lost′ : List Unmet
   lost′ = removeAt L t n .lost

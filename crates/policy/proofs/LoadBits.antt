@@ -64,7 +64,7 @@ module _ (L : Layout) (t : Tables) (m : ℕ) (k : Contract) where
   -- a grant bit of callee x, caller y and the callee's service z
   pub data GrantIs (x y z : ℕ) : Type 0 where
     own : x ≡ m → T (on .provides m z) → T (t .used y) → In (record { aid = t .aid y; tok = on .tok m z }) (k .grants) → GrantIs x y z
-    waited : y ≡ m → In (record { caller = k .aid; callee = x; service = z }) (t .waiting) → GrantIs x y z
+    waited : y ≡ m → T (t .provides x z) → In (record { caller = k .aid; callee = x; tok = t .tok x z }) (t .waiting) → GrantIs x y z
     old : T (t .grants x y z) → GrantIs x y z
 
   module _ (new : Newcomer L t m k) where
@@ -113,7 +113,7 @@ module _ (L : Layout) (t : Tables) (m : ℕ) (k : Contract) where
     grant-is x y z = (
       chosen (eqb x m) (eqb y m) v w o
           (λ e h. GrantIs.own (eqb→eq x m e) (and-l p (u && q) h) (and-l u q (and-r p (u && q) h)) (has-row r (k .grants) (and-r u q (and-r p (u && q) h))))
-          (λ e h. GrantIs.waited (eqb→eq y m e) (has-waiting f (t .waiting) h))
+          (λ e h. GrantIs.waited (eqb→eq y m e) (and-l s (hasWaiting f (t .waiting)) h) (has-waiting f (t .waiting) (and-r s (hasWaiting f (t .waiting)) h)))
           GrantIs.old,
       back,
     )
@@ -131,20 +131,23 @@ module _ (L : Layout) (t : Tables) (m : ℕ) (k : Contract) where
         q = hasRow r (k .grants)
 
         f : Waiting
-        f = record { caller = k .aid; callee = x; service = z }
+        f = record { caller = k .aid; callee = x; tok = t .tok x z }
+
+        s : Bool
+        s = t .provides x z
 
         v : Bool
         v = p && (u && q)
 
         w : Bool
-        w = hasWaiting f (t .waiting)
+        w = s && hasWaiting f (t .waiting)
 
         o : Bool
         o = t .grants x y z
 
         back : GrantIs x y z → T (after .grants x y z)
         back (GrantIs.own e h i j) = choose-1 (eqb x m) (eqb y m) v w o (eqb-of e) (and-i p (u && q) h (and-i u q i (row-has j)))
-        back (GrantIs.waited e i) = choose-2 (eqb x m) (eqb y m) v w o (ne x (l .prov-ne x z (new .formed .waiting .wait-prov f i))) (eqb-of e) (waiting-has i)
+        back (GrantIs.waited e h i) = choose-2 (eqb x m) (eqb y m) v w o (ne x (l .prov-ne x z h)) (eqb-of e) (and-i s (hasWaiting f (t .waiting)) h (waiting-has i))
         back (GrantIs.old h) = choose-3 (eqb x m) (eqb y m) v w o
             (ne x (l .prov-ne x z (new .formed .grants .of-prov y x z h))) (ne y (l .old-ne y (new .formed .grants .by-used y x z h))) h
 

@@ -3,7 +3,7 @@ use Prim.Native.Nat.{ℕ, zero, suc, _≤_, _<_, zero-le, suc-le-suc}
 use native.Mathlib.Omega.{arith}
 use native.Mathlib.Nat.{not-suc-le-zero, le-of-suc-le-suc}
 use mathlib.Core.Path.{_≡_, refl, sym, ap, _∙_, subst}
-use mathlib.Core.Bool.{true, not, _&&_}
+use mathlib.Core.Bool.{true, not, _&&_, _||_}
 use mathlib.Core.List.{List, [], _∷_}
 use mathlib.Core.List.{List·Memᴰ as In, List·Memᴰ·head as here, List·Memᴰ·tail as there, Memᴰ·cast as in-cast}
 use mathlib.Core.Option.{none, some}
@@ -21,7 +21,7 @@ use Rattle.policy.specs.Judge.{tableCauses}
 use Rattle.policy.specs.History.{FourSets}
 use Rattle.policy.specs.ShortCheck.{shortLoad, shortLook}
 use Rattle.policy.proofs.Sets.{and-l, and-r, not-i, not-e, in-row, every-in, distinct→once}
-use Rattle.policy.proofs.Equal.{eqAid-of, eqTok→, eqTok-refl, row-path, eqRow→, eqRow-refl, has-tok, has-row}
+use Rattle.policy.proofs.Equal.{eqAid-of, eqTok→, eqTok-refl, row-path, eqRow→, eqRow-refl, has-row}
 use Rattle.policy.proofs.Put.{at-new, at-old, by-number}
 use Rattle.policy.proofs.Formed.{Names, Formed}
 use Rattle.policy.proofs.Found.{NumberIs, FreeIs}
@@ -52,7 +52,6 @@ pub record Newcomer (L : Layout) (t : Tables) (m : ℕ) (k : Contract) : Type 0 
   pub calls-other : (r : Row) → In r (k .calls) → r .aid ≡ k .aid → ⊥
   pub grants-other : (r : Row) → In r (k .grants) → r .aid ≡ k .aid → ⊥
   pub needs-called : (r : Row) → In r (k .needs) → In r (k .calls)
-  pub grants-provided : (r : Row) → In r (k .grants) → In (r .tok) (k .provides)
 
 module _ (L : Layout) (t : Tables) (m : ℕ) (k : Contract) where
   abbrev on : Tables
@@ -148,7 +147,7 @@ module _ (L : Layout) (t : Tables) (a : Aid) (p : List Tok) (c g n : List Row) w
   abbrev contract : Contract
   contract = record { aid = a; provides = p; calls = c; grants = g; needs = n }
 
-  newcomer : Formed L t → length p ≤ L .services → T (proper a (load p c g n)) → (m : ℕ) → NumberIs t a none → FreeIs (L .packages) (t .used) (some m) → Newcomer L t m contract
+  newcomer : Formed L t → length p ≤ L .services → T (proper L a (load p c g n)) → (m : ℕ) → NumberIs t a none → FreeIs (L .packages) (t .used) (some m) → Newcomer L t m contract
   unfolding proper
   newcomer f fit pr m away fr =
       let d1 = distinct eqTok p in
@@ -159,7 +158,7 @@ module _ (L : Layout) (t : Tables) (a : Aid) (p : List Tok) (c g n : List Row) w
       let o2 = notOwn a g in
       let o3 = notOwn a n in
       let i1 = every (λ r. hasRow r c) n in
-      let i2 = every (λ r. hasTok (r .tok) p) g in
+      let i2 = L .early || every (λ r. hasTok (r .tok) p) g in
       let d = d1 && d2 && d3 && d4 in
       let o = o1 && o2 && o3 in
       let i = i1 && i2 in
@@ -184,7 +183,6 @@ module _ (L : Layout) (t : Tables) (a : Aid) (p : List Tok) (c g n : List Row) w
         calls-other = other c (and-l o1 o2 (and-l (o1 && o2) o3 ho));
         grants-other = other g (and-r o1 o2 (and-l (o1 && o2) o3 ho));
         needs-called = λ r m. has-row r c (every-in (λ x. hasRow x c) n (and-l i1 i2 hi) m);
-        grants-provided = λ r m. has-tok (r .tok) p (every-in (λ x. hasTok (x .tok) p) g (and-r i1 i2 hi) m);
       }
     where
       rows-once : (l : List Row) → T (distinct eqRow l) → NoRepeat l
@@ -193,7 +191,7 @@ module _ (L : Layout) (t : Tables) (a : Aid) (p : List Tok) (c g n : List Row) w
       other : (l : List Row) → T (notOwn a l) → (r : Row) → In r l → r .aid ≡ a → ⊥
       other l h r m e = not-e (eqAid (r .aid) a) (every-in (λ x. not (eqAid (x .aid) a)) l h m) (eqAid-of e)
 
-  pub load-reached : (P : Draft → Look → Type 0) → Formed L t → length p ≤ L .services → T (proper a (load p c g n))
+  pub load-reached : (P : Draft → Look → Type 0) → Formed L t → length p ≤ L .services → T (proper L a (load p c g n))
       → ((m : ℕ) → Newcomer L t m contract → P (loadAt L t m contract) (shortLoad L t contract)) → answer (tableCauses L t a (load p c g n)) ≡ 0
       → P (draft L t a (load p c g n)) (shortLook L t a (load p c g n))
   load-reached P f fit pr h = reach-1 L t f a P p c g n (λ m away fr. h m (newcomer f fit pr m away fr))

@@ -5,16 +5,17 @@ use native.Mathlib.Nat.{le-of-suc-le-suc, not-suc-le-zero, zero-mul, suc-mul, mu
 use native.Mathlib.Numerals.{one-add}
 use mathlib.Core.Path.{_≡_, refl, sym, ap, _∙_}
 use mathlib.Core.Logic.{_⊎_, inl, inr}
+use mathlib.Core.Bool.{Bool, true, false, cond}
 use mathlib.Core.List.{List, [], _∷_, _++_, map, append-assoc, append-nil}
 use mathlib.Core.List.{List·Memᴰ as In, List·Memᴰ·head as here, List·Memᴰ·tail as there}
 use lib.Dec.{T, leb, leb→le, ltb, ltb→lt, nltb→le}
 use lib.ListN.{length, getD, take, drop, replicate, length-append, length-map, length-replicate, replicate-append-replicate, List·getD-eq-default}
 use lib.Seq.{take-at, drop-at, drop-drop}
 use Rattle.policy.specs.Lists.{flat, from, upto}
-use Rattle.policy.specs.Contract.{Aid, validAid}
-use Rattle.policy.specs.Layout.{Layout}
-use Rattle.policy.specs.Tables.{Unmet, Waiting, pieces, readAid, writeAid, readTok, writeTok, readUnmet, writeUnmet, readWaiting, writeWaiting, readList, writeList}
-use Rattle.policy.proofs.Sets.{and-r, test, not-i, length-from, upto-in}
+use Rattle.policy.specs.Contract.{Aid, Tok, validAid}
+use Rattle.policy.specs.Layout.{Layout, waitingSize}
+use Rattle.policy.specs.Tables.{Unmet, Waiting, pieces, readAid, writeAid, readTok, writeTok, readUnmet, writeUnmet, numberWith, readWaiting, writeWaiting, readList, writeList}
+use Rattle.policy.proofs.Sets.{T-true, and-r, test, not-i, length-from, upto-in}
 
 -- ---- one piece for each element of a list
 module _ {A : Type 0} (g : A → List ℕ) (w : ℕ) where
@@ -134,21 +135,57 @@ module _ (u : Unmet) (h : length (u .callee) ≤ 16) where
         caller = ap (λ (z : List ℕ). getD z 2 0) q i;
       }
 
-module _ (v : Waiting) (h : length (v .caller) ≤ 16) where
-  abbrev numbers : List ℕ
-  numbers = v .callee ∷ v .service ∷ []
+-- a row of waiting grants: its AID, its callee, and what stands for its service
+module _ (v : Waiting) (h : length (v .caller) ≤ 16) (last : List ℕ) where
+  abbrev rest : List ℕ
+  rest = v .callee ∷ last
 
-  pub length-waiting : length (writeWaiting v) ≡ 19
-  length-waiting = length-append (writeAid (v .caller)) numbers ∙ rw (length-aid (v .caller) h) refl
+  length-wait : length (writeAid (v .caller) ++ rest) ≡ 18 + length last
+  length-wait = length-append (writeAid (v .caller)) rest ∙ rw (length-aid (v .caller) h) (omega arith)
 
-  pub read-waiting : readWaiting (writeWaiting v) ≡ v
-  read-waiting =
-      let q = drop-at (writeAid (v .caller)) numbers 17 (length-aid (v .caller) h) in
-      λ i. record {
-        caller = (ap readAid (take-at (writeAid (v .caller)) numbers 17 (length-aid (v .caller) h)) ∙ read-aid (v .caller)) i;
-        callee = ap (λ (z : List ℕ). getD z 0 0) q i;
-        service = ap (λ (z : List ℕ). getD z 1 0) q i;
-      }
+  wait-caller : readAid (take 17 (writeAid (v .caller) ++ rest)) ≡ v .caller
+  wait-caller = ap readAid (take-at (writeAid (v .caller)) rest 17 (length-aid (v .caller) h)) ∙ read-aid (v .caller)
+
+  wait-rest : drop 17 (writeAid (v .caller) ++ rest) ≡ rest
+  wait-rest = drop-at (writeAid (v .caller)) rest 17 (length-aid (v .caller) h)
+
+module _ (L : Layout) (provides : ℕ → ℕ → Bool) (tok : ℕ → ℕ → Tok) (v : Waiting) (h : length (v .caller) ≤ 16) where
+  -- what stands for the service, by whether it is its tokens
+  abbrev named : Bool → List ℕ
+  named b = cond b (writeTok (v .tok)) (numberWith L (provides (v .callee)) (tok (v .callee)) (v .tok) ∷ [])
+
+  pub length-waiting : length (writeWaiting L provides tok v) ≡ waitingSize L
+  length-waiting = length-wait v h (named (L .early)) ∙ go (L .early)
+    where
+      go : (b : Bool) → 18 + length (named b) ≡ cond b 20 19
+      go true = refl
+      go false = refl
+
+  -- the service with these tokens has a number, where a number stands for it
+  abbrev Numbered : Type 0
+  Numbered = (T (L .early) → ⊥) → tok (v .callee) (numberWith L (provides (v .callee)) (tok (v .callee)) (v .tok)) ≡ v .tok
+
+  pub read-waiting : Numbered → readWaiting L tok (writeWaiting L provides tok v) ≡ v
+  read-waiting n = λ i. record {
+    caller = wait-caller v h (named (L .early)) i;
+    callee = ap (λ (z : List ℕ). getD z 0 0) (wait-rest v h (named (L .early))) i;
+    tok = (ap (λ (z : List ℕ). cond (L .early) (readTok (drop 1 z)) (tok (getD z 0 0) (getD z 1 0))) (wait-rest v h (named (L .early))) ∙ go (L .early) n) i;
+  }
+    where
+      go : (b : Bool) → ((T b → ⊥) → tok (v .callee) (numberWith L (provides (v .callee)) (tok (v .callee)) (v .tok)) ≡ v .tok)
+          → cond b (readTok (named b)) (tok (v .callee) (getD (v .callee ∷ named b) 1 0)) ≡ v .tok
+      go true f = refl
+      go false f = f (λ x. x)
+
+-- where tokens stand for the service a row is read and written by itself: what the code of the cards in force uses
+module _ (L : Layout) (early : T (L .early)) where
+  pub early-size : waitingSize L ≡ 20
+  early-size = ap (λ (b : Bool). cond b 20 19) (T-true (L .early) early)
+
+  pub early-write : (provides : ℕ → ℕ → Bool) (tok : ℕ → ℕ → Tok) (w : Waiting) → writeWaiting L provides tok w ≡ writeAid (w .caller) ++ (w .callee ∷ writeTok (w .tok))
+  early-write provides tok w = λ i.
+      writeAid (w .caller)
+      ++ (w .callee ∷ cond (T-true (L .early) early i) (writeTok (w .tok)) (numberWith L (provides (w .callee)) (tok (w .callee)) (w .tok) ∷ []))
 
 -- ---- nothing but zeros
 abbrev pub Zeros : List ℕ → Type 0

@@ -3,37 +3,38 @@ use Prim.Native.Nat.{ℕ, _≤_, _<_}
 use native.Mathlib.Omega.{arith}
 use mathlib.Core.Path.{_≡_, refl, sym, ap, _∙_, subst}
 use mathlib.Core.Logic.{_⊎_, inl, inr}
-use mathlib.Core.Bool.{Bool, true, not, _&&_}
+use mathlib.Core.Bool.{Bool, true, false, not, _&&_, _||_, cond}
 use mathlib.Core.List.{List, [], _∷_, _++_, map, map-id}
-use mathlib.Core.List.{List·Memᴰ as In, Sublistᴰ as InOrder, Sublistᴰ·slnil as none-left, Sublistᴰ·cons-cons as stays, Sublistᴰ·refl as all-stay}
+use mathlib.Core.List.{List·Memᴰ as In, Memᴰ·cast as in-cast, Sublistᴰ as InOrder, Sublistᴰ·slnil as none-left, Sublistᴰ·cons-cons as stays, Sublistᴰ·refl as all-stay}
 use mathlib.Core.Option.{Option, none, some}
 use lib.Dec.{T, eqb}
-use Rattle.policy.specs.Lists.{keep, isSome, orElse}
-use Rattle.policy.specs.Contract.{Aid, Tok, Row, Contract, validAid}
+use Rattle.policy.specs.Lists.{keep, orElse}
+use Rattle.policy.specs.Contract.{Aid, Tok, eqTok, Row, Contract}
 use Rattle.policy.specs.Layout.{Layout}
 use Rattle.policy.specs.Record.{Change, load, remove, addService, removeService, addCall, removeCall, addGrant, removeGrant, addNeed, removeNeed, proper}
 use Rattle.policy.specs.Causes.{answer}
 use Rattle.policy.specs.Tables.{Tables, Unmet, Waiting}
-use Rattle.policy.specs.Lookup.{Place, numbers, places, serviceAt, wanted, grantAt, numberOf, freeNumber}
+use Rattle.policy.specs.Lookup.{Place, Spot, numbers, places, serviceAt, wanted, grantAt, numberOf, freeNumber}
 use Rattle.policy.specs.Sound.{eqUnmet, eqWaiting}
-use Rattle.policy.specs.Draft.{Draft, Look, callRow, leftBy, notServed, addCallAt, removeCallAt, addNeedAt, removeNeedAt, addGrantAt, removeGrantAt, addServiceAt, removeServiceAt, removeAt, loadAt, asksFor, draft, numberFor}
+use Rattle.policy.specs.Draft.{Draft, Look, callRow, grantRow, hasWaiting, installedAid, nowGranted, leftBy, notServed, addCallAt, removeCallAt, addNeedAt, removeNeedAt, addGrantAt, removeGrantAt, addServiceAt, removeServiceAt, removeAt, loadAt, asksFor, draft, numberFor}
 use Rattle.policy.specs.Judge.{tableCauses}
 use Rattle.policy.specs.Numbering.{HasNumber, Numbered}
-use Rattle.policy.specs.Placing.{Lowest, Stay, ClosedUp, callsOf, grantsOf, callsOn, rule, Placed}
-use Rattle.policy.proofs.Sets.{and-l, each-map-keep, each-one, pairs, pairs-in}
-use Rattle.policy.proofs.Equal.{row-path}
+use Rattle.policy.specs.Placing.{Lowest, Stay, ClosedUp, callsOf, grantsOf, callsOn, grantsBy, rule, Placed}
+use Rattle.policy.proofs.Sets.{and-l, or-r, not-e, each-map-keep, each-one, pairs, pairs-in}
+use Rattle.policy.proofs.Equal.{waiting-has}
 use Rattle.policy.proofs.Put.{by-number, NewPlace, new-place}
 use Rattle.policy.proofs.Pieces.{in-or-off}
 use Rattle.policy.specs.Records.{WithinChange}
 use Rattle.policy.proofs.Formed.{Formed, ProvidesAt, at, RowAt, GrantAt}
 use Rattle.policy.proofs.Found.{NumberIs, FreeIs, free-number-is, number-is}
+use Rattle.policy.proofs.Facts.{bit-not-waiting}
 use Rattle.policy.proofs.Reach.{reach-2, reach-3, reach-4, reach-5, reach-6, reach-7, reach-8, reach-9, reach-10}
 use Rattle.policy.proofs.LoadNames.{Newcomer, Loaded, loaded, load-reached}
-use Rattle.policy.proofs.LoadFormed.{unmetStill, waitsStill, waitingFor, uninstalled, service-loaded}
+use Rattle.policy.proofs.LoadFormed.{unmetStill, waitsStill, waitsNew}
 use Rattle.policy.proofs.Dropped.{Without, left-in}
 use Rattle.policy.proofs.KindRemove.{dropping as package-dropped}
 use Rattle.policy.proofs.KindRemoveService.{dropping as service-dropped}
-use Rattle.policy.proofs.PlacingLists.{OldOrNew, stay, keep-order, none-new, none-recorded, recorded, by-numbers}
+use Rattle.policy.proofs.PlacingLists.{OldOrNew, stay, keep-order, none-new, none-recorded, recorded, by-numbers, by-firsts, none-by-number}
 
 -- there is one lowest number that is not taken
 lowest-one : (taken : ℕ → Bool) (m n : ℕ) → Lowest taken m → Lowest taken n → m ≡ n
@@ -103,14 +104,14 @@ module _ (L : Layout) (t : Tables) (fm : Formed L t) (a : Aid) where
   no-calls : (m : ℕ) (rows : List Row) {u : List Unmet} → InOrder u (t .unmet) → ClosedUp (t .unmet) u (callsOf m rows)
   no-calls m rows h = none-new h (none-recorded wanted (λ u. u .caller) m rows)
 
-  no-grants : (t′ : Tables) (m : ℕ) (rows : List Row) {w : List Waiting} → InOrder w (t .waiting) → ClosedUp (t .waiting) w (grantsOf t′ m rows)
-  no-grants t′ m rows h = none-new h (none-recorded (grantAt t′) (λ w. w .callee) m rows)
+  no-grants : (m : ℕ) (rows : List Row) {w : List Waiting} → InOrder w (t .waiting) → ClosedUp (t .waiting) w (grantsOf m rows)
+  no-grants m rows h = none-new h (none-recorded grantAt (λ w. w .callee) m rows)
 
   same-calls : (m : ℕ) (rows : List Row) → ClosedUp (t .unmet) (t .unmet) (callsOf m rows)
   same-calls m rows = no-calls m rows (all-stay (t .unmet))
 
-  same-grants : (m : ℕ) (rows : List Row) → ClosedUp (t .waiting) (t .waiting) (grantsOf t m rows)
-  same-grants m rows = no-grants t m rows (all-stay (t .waiting))
+  same-grants : (m : ℕ) (rows : List Row) → ClosedUp (t .waiting) (t .waiting) (grantsOf m rows)
+  same-grants m rows = no-grants m rows (all-stay (t .waiting))
 
   module _ (r : Row) (i : ℕ) (h : HasNumber t a i) where
     add-call : (RowAt t (t .calls) (t .unmet) i r → ⊥) → (o : Option Place) → Settles (addCall r) (addCallAt L t i r o .tables) i
@@ -130,25 +131,21 @@ module _ (L : Layout) (t : Tables) (fm : Formed L t) (a : Aid) where
     remove-call none = rows-settle _ _ _ _ _ (removeCall r) i h tt (no-calls i [] (keep-order (λ u. not (eqUnmet (callRow i r) u)) (t .unmet))) (same-grants i [])
     remove-call (some p) = rows-settle _ _ _ _ _ (removeCall r) i h tt (same-calls i []) (same-grants i [])
 
-    module _ (k : ℕ) where
-      abbrev wait : Waiting
-      wait = record { caller = r .aid; callee = i; service = k }
+    add-grant : (GrantAt t i r → ⊥) → (o : Option Spot) → Settles (addGrant r) (addGrantAt L t i r o .tables) i
+    add-grant fresh none = rows-settle _ _ _ _ _ (addGrant r) i h tt (same-calls i [])
+        (record {
+          stayed = t .waiting;
+          new = grantRow i r ∷ [];
+          is = refl;
+          in-order = all-stay (t .waiting);
+          unseen = each-one (λ w. In w (t .waiting) → ⊥) (grantRow i r) (λ m. fresh (GrantAt.row m));
+          ordered = (stays refl none-left, each-one (λ w. w .callee ≡ i) (grantRow i r) refl);
+        })
+    add-grant fresh (some p) = rows-settle _ _ _ _ _ (addGrant r) i h tt (same-calls i []) (same-grants i (r ∷ []))
 
-      add-grant : t .tok i k ≡ r .tok → (GrantAt t i r → ⊥) → (o : Option ℕ) → Settles (addGrant r) (addGrantAt L t i (r .aid) k o .tables) i
-      add-grant e fresh none = rows-settle _ _ _ _ _ (addGrant r) i h tt (same-calls i [])
-          (record {
-            stayed = t .waiting;
-            new = wait ∷ [];
-            is = refl;
-            in-order = all-stay (t .waiting);
-            unseen = each-one (λ w. In w (t .waiting) → ⊥) wait (λ m. fresh (GrantAt.row k m (sym e)));
-            ordered = (stays (row-path refl e) none-left, each-one (λ w. w .callee ≡ i) wait refl);
-          })
-      add-grant e fresh (some x) = rows-settle _ _ _ _ _ (addGrant r) i h tt (same-calls i []) (same-grants i (r ∷ []))
-
-      remove-grant : (o : Option ℕ) → Settles (removeGrant r) (removeGrantAt L t i (r .aid) k o .tables) i
-      remove-grant none = rows-settle _ _ _ _ _ (removeGrant r) i h tt (same-calls i []) (no-grants t i [] (keep-order (λ w. not (eqWaiting wait w)) (t .waiting)))
-      remove-grant (some x) = rows-settle _ _ _ _ _ (removeGrant r) i h tt (same-calls i []) (same-grants i [])
+    remove-grant : (o : Option Spot) → Settles (removeGrant r) (removeGrantAt L t i r o .tables) i
+    remove-grant none = rows-settle _ _ _ _ _ (removeGrant r) i h tt (same-calls i []) (no-grants i [] (keep-order (λ w. not (eqWaiting (grantRow i r) w)) (t .waiting)))
+    remove-grant (some p) = rows-settle _ _ _ _ _ (removeGrant r) i h tt (same-calls i []) (same-grants i [])
 
     add-need : (o : Option Place) → Settles (addNeed r) (addNeedAt L t i r o .tables) i
     add-need none = rows-settle _ _ _ _ _ (addNeed r) i h tt (same-calls i []) (same-grants i [])
@@ -189,7 +186,9 @@ module _ (L : Layout) (t : Tables) (fm : Formed L t) (a : Aid) where
       new = pairs waitFor (λ j. t .grants j n) (places L) (numbers L);
       is = refl;
       in-order = keep-order (λ w. not (eqb (w .callee) n)) (t .waiting);
-      unseen = λ w m o. fm .waiting .wait-off w o n un (sym (ap (λ (v : Waiting). v .caller) (pairs-in waitFor (λ j. t .grants j n) (places L) (numbers L) m .3)));
+      unseen = λ w m o.
+          let x = pairs-in waitFor (λ j. t .grants j n) (places L) (numbers L) m in
+          bit-not-waiting L t fm n (x .0) (x .1) (x .2) (in-cast (sym (x .3)) o);
       ordered = by-numbers (λ j. t .grants j n) waitFor (λ j. t .grants j n) (λ j k b. b) (L .services) (L .packages);
     };
   }
@@ -198,7 +197,7 @@ module _ (L : Layout) (t : Tables) (fm : Formed L t) (a : Aid) where
       gone = package-dropped L t fm n un .without
 
       waitFor : ℕ → ℕ → Waiting
-      waitFor j k = record { caller = t .aid n; callee = j; service = k }
+      waitFor j k = record { caller = t .aid n; callee = j; tok = t .tok j k }
 
   remove-service-placed : (s : Tok) (j k : ℕ) → T (t .provides j k) → Placed t (removeServiceAt L t j k .tables) j (removeService s)
   remove-service-placed s j k p = record {
@@ -206,9 +205,28 @@ module _ (L : Layout) (t : Tables) (fm : Formed L t) (a : Aid) where
     services-stay = services-without (removeServiceAt L t j k .tables) j (λ z. eqb z k) gone;
     numbers = tt;
     unmet = left-placed j (λ z. eqb z k) (t .unmet) (all-stay (t .unmet));
-    waiting = no-grants (removeServiceAt L t j k .tables) j [] (keep-order (λ w. not (eqb (w .callee) j && eqb (w .service) k)) (t .waiting));
+    waiting = after (L .early);
   }
     where
+      waitOf : ℕ → ℕ → Waiting
+      waitOf i z = record { caller = t .aid i; callee = j; tok = t .tok j z }
+
+      others : Waiting → Bool
+      others w = not (eqb (w .callee) j && eqTok (w .tok) (t .tok j k))
+
+      after : (b : Bool) → ClosedUp (t .waiting)
+          (cond b (t .waiting ++ map (λ i. record { caller = t .aid i; callee = j; tok = t .tok j k }) (keep (λ i. t .grants j i k) (numbers L)))
+          (keep (λ w. not (eqb (w .callee) j && eqTok (w .tok) (t .tok j k))) (t .waiting))) (grantsBy t j)
+      after true = record {
+        stayed = t .waiting;
+        new = map (λ i. waitOf i k) (keep (λ i. t .grants j i k) (numbers L));
+        is = refl;
+        in-order = all-stay (t .waiting);
+        unseen = each-map-keep (λ i. waitOf i k) (λ w. In w (t .waiting) → ⊥) (λ i. t .grants j i k) (numbers L) (λ i _ h. bit-not-waiting L t fm i j k h);
+        ordered = by-firsts waitOf (t .grants j) (λ i. t .grants j i k) k (λ i h. h) (L .packages);
+      }
+      after false = none-new (keep-order others (t .waiting)) (none-by-number waitOf (t .grants j))
+
       gone : Without t (removeServiceAt L t j k .tables) j (λ z. eqb z k)
       gone = service-dropped L t fm j k p .without
 
@@ -227,20 +245,24 @@ module _ (L : Layout) (t : Tables) (fm : Formed L t) (a : Aid) where
       numbers = (k, (free .1, free .2), place .new-prov, place .new-tok);
       unmet = no-calls j [] (keep-order (λ u. not (asksFor L t (t .aid j) s u)) (t .unmet));
       waiting = record {
-        stayed = t .waiting;
+        stayed = keep (λ w. not (nowGranted L t j s w)) (t .waiting);
         new = map waits (keep lone l);
         is = refl;
-        in-order = all-stay (t .waiting);
-        unseen = each-map-keep waits (λ w. In w (t .waiting) → ⊥) lone l (λ b _ _ m. free .1 (fm .waiting .wait-prov (waits b) m));
-        ordered = recorded waits lone (grantAt served) (λ w. w .callee) j (λ b. record { aid = b; tok = s }) l (λ b _. row-path refl (place .new-tok)) (λ b. refl);
+        in-order = keep-order (λ w. not (nowGranted L t j s w)) (t .waiting);
+        unseen = each-map-keep waits (λ w. In w (t .waiting) → ⊥) lone l
+            (λ b _ h m. not-e (installedAid L t b || waiting b) h (or-r (installedAid L t b) (waiting b) (waiting-has m)));
+        ordered = recorded waits lone grantAt (λ w. w .callee) j (λ b. record { aid = b; tok = s }) l (λ b _. refl) (λ b. refl);
       };
     }
       where
-        lone : Aid → Bool
-        lone b = not (isSome (numberOf L t b))
-
         waits : Aid → Waiting
-        waits b = record { caller = b; callee = j; service = k }
+        waits b = record { caller = b; callee = j; tok = s }
+
+        waiting : Aid → Bool
+        waiting b = hasWaiting (waits b) (t .waiting)
+
+        lone : Aid → Bool
+        lone b = not (installedAid L t b || waiting b)
 
         old-or-new : (y z : ℕ) → ((y ≡ j) × (z ≡ k)) ⊎ T (t .provides y z) → OldOrNew (t .provides y) (t .tok y) (served .tok y) z
         old-or-new y z (inl e) = inr (
@@ -251,7 +273,7 @@ module _ (L : Layout) (t : Tables) (fm : Formed L t) (a : Aid) where
         old-or-new y z (inr p) = inl (p, place .old-tok y z p)
 
   -- ---- kind 1: package m is new
-  module _ (p : List Tok) (c g n : List Row) (va : T (validAid a)) (m : ℕ) where
+  module _ (p : List Tok) (c g n : List Row) (m : ℕ) where
     abbrev contract : Contract
     contract = record { aid = a; provides = p; calls = c; grants = g; needs = n }
 
@@ -278,14 +300,12 @@ module _ (L : Layout) (t : Tables) (fm : Formed L t) (a : Aid) where
         };
         waiting = record {
           stayed = keep (waitsStill L t m contract) (t .waiting);
-          new = map (waitingFor L t m contract) (keep (uninstalled L t m contract) g);
+          new = map (grantRow m) (keep (waitsNew L t m contract) g);
           is = refl;
           in-order = keep-order (waitsStill L t m contract) (t .waiting);
-          unseen = each-map-keep (waitingFor L t m contract) (λ w. In w (t .waiting) → ⊥) (uninstalled L t m contract) g
-              (λ r _ _ o. on .prov-ne m _ (fm .waiting .wait-prov (waitingFor L t m contract r) o) refl);
-          ordered = subst (λ (rows : List Row). grantsOf joined m rows (map (waitingFor L t m contract) (keep (uninstalled L t m contract) g))) (map-id g)
-              (recorded (waitingFor L t m contract) (uninstalled L t m contract) (grantAt joined) (λ w. w .callee) m (λ r. r) g
-              (λ r i. row-path refl (service-loaded L t m contract new va (new .grants-provided r i) .1)) (λ r. refl));
+          unseen = each-map-keep (grantRow m) (λ w. In w (t .waiting) → ⊥) (waitsNew L t m contract) g (λ r _ _ o. new .free (fm .waiting .wait-used (grantRow m r) o));
+          ordered = subst (λ (rows : List Row). grantsOf m rows (map (grantRow m) (keep (waitsNew L t m contract) g))) (map-id g)
+              (recorded (grantRow m) (waitsNew L t m contract) grantAt (λ w. w .callee) m (λ r. r) g (λ r _. refl) (λ r. refl));
         };
       },
     )
@@ -302,23 +322,17 @@ module _ (L : Layout) (t : Tables) (fm : Formed L t) (a : Aid) where
     under : {t′ : Tables} (n : ℕ) → HasNumber t a n → Settles c t′ n → Settles c t′ (numberFor L t a)
     under {t′} n h = subst (Settles c t′) (number-here n (h .0) (h .1))
 
-  -- package j provides service k
-  provider : (j k : ℕ) → T (t .provides j k) → t .aid j ≡ a → HasNumber t a j
-  provider j k p e = (fm .names .prov-used j k p, e)
-
-  pub settles : (c : Change) → T (validAid a) → WithinChange L c → T (proper a c) → answer (tableCauses L t a c) ≡ 0 → Settles c (draft L t a c .tables) (numberFor L t a)
-  settles (load p c g n) va v pr = load-reached L t a p c g n (Settled (load p c g n)) fm (v .0 .0) pr (λ m new.
-      subst (Settles (load p c g n) (joined p c g n va m)) (number-new m (contract p c g n va m) refl new) (load-settles p c g n va m new))
-  settles remove va v pr = reach-2 L t fm a (Settled remove) (λ n u e. under remove n (u, e) ((u, e), remove-placed n u))
-  settles (addService s l) va v pr =
+  pub settles : (c : Change) → WithinChange L c → T (proper L a c) → answer (tableCauses L t a c) ≡ 0 → Settles c (draft L t a c .tables) (numberFor L t a)
+  settles (load p c g n) v pr = load-reached L t a p c g n (Settled (load p c g n)) fm (v .0 .0) pr (λ m new.
+      subst (Settles (load p c g n) (joined p c g n m)) (number-new m (contract p c g n m) refl new) (load-settles p c g n m new))
+  settles remove v pr = reach-2 L t fm a (Settled remove) (λ n u e. under remove n (u, e) ((u, e), remove-placed n u))
+  settles (addService s l) v pr =
       reach-3 L t fm a (Settled (addService s l)) s l (λ j k u e fresh free. under (addService s l) j (u, e) ((u, e), add-service-placed s l j k fresh free))
-  settles (removeService s) va v pr =
-      reach-4 L t fm a (Settled (removeService s)) s (λ j k p e _. let h = provider j k p e in under (removeService s) j h (h, remove-service-placed s j k p))
-  settles (addCall r) va v pr = reach-5 L t fm a (Settled (addCall r)) r (λ i u e fresh o _. under (addCall r) i (u, e) (add-call r i (u, e) fresh o))
-  settles (removeCall r) va v pr = reach-6 L t fm a (Settled (removeCall r)) r (λ i u e o _. under (removeCall r) i (u, e) (remove-call r i (u, e) o))
-  settles (addGrant r) va v pr =
-      reach-7 L t fm a (Settled (addGrant r)) r (λ j k p e ek fresh o _. let h = provider j k p e in under (addGrant r) j h (add-grant r j h k ek fresh o))
-  settles (removeGrant r) va v pr =
-      reach-8 L t fm a (Settled (removeGrant r)) r (λ j k p e _ o _. let h = provider j k p e in under (removeGrant r) j h (remove-grant r j h k o))
-  settles (addNeed r) va v pr = reach-9 L t fm a (Settled (addNeed r)) r (λ i u e _ _ o _. under (addNeed r) i (u, e) (add-need r i (u, e) o))
-  settles (removeNeed r) va v pr = reach-10 L t fm a (Settled (removeNeed r)) r (λ i u e o _. under (removeNeed r) i (u, e) (remove-need r i (u, e) o))
+  settles (removeService s) v pr =
+      reach-4 L t fm a (Settled (removeService s)) s (λ j k p e _. let h : HasNumber t a j = (fm .names .prov-used j k p, e) in under (removeService s) j h (h, remove-service-placed s j k p))
+  settles (addCall r) v pr = reach-5 L t fm a (Settled (addCall r)) r (λ i u e fresh o _. under (addCall r) i (u, e) (add-call r i (u, e) fresh o))
+  settles (removeCall r) v pr = reach-6 L t fm a (Settled (removeCall r)) r (λ i u e o _. under (removeCall r) i (u, e) (remove-call r i (u, e) o))
+  settles (addGrant r) v pr = reach-7 L t fm a (Settled (addGrant r)) r (λ j u e fresh o _. under (addGrant r) j (u, e) (add-grant r j (u, e) fresh o))
+  settles (removeGrant r) v pr = reach-8 L t fm a (Settled (removeGrant r)) r (λ j u e o _. under (removeGrant r) j (u, e) (remove-grant r j (u, e) o))
+  settles (addNeed r) v pr = reach-9 L t fm a (Settled (addNeed r)) r (λ i u e _ _ o _. under (addNeed r) i (u, e) (add-need r i (u, e) o))
+  settles (removeNeed r) v pr = reach-10 L t fm a (Settled (removeNeed r)) r (λ i u e o _. under (removeNeed r) i (u, e) (remove-need r i (u, e) o))

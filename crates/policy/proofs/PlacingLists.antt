@@ -1,5 +1,5 @@
 -- Laws of order: what stays of a list, new rows in record order and by numbers, and numbers that stay.
-use Prim.Native.Nat.{ℕ, zero, suc}
+use Prim.Native.Nat.{ℕ, zero, suc, _<_}
 use mathlib.Core.Path.{_≡_, refl, sym, ap, _∙_, subst}
 use mathlib.Core.Logic.{_⊎_, inl, inr, _↔_}
 use mathlib.Core.Bool.{Bool, true, false, cond}
@@ -64,30 +64,32 @@ up-append (p ∷ l) m u v h = (λ q n. go q (in-append l n), up-append l m (u .1
     go q (inl n) = u .0 q n
     go q (inr n) = h p q (here refl) n
 
+-- the numbers that pass, as pairs that go up with them
+module _ (g : ℕ → ℕ × ℕ) (p : ℕ → Bool) (up : (x y : ℕ) → x < y → Below (g x) (g y)) where
+  line-up : (k n : ℕ) → GoesUp (map g (keep p (from k n)))
+  line-up k zero = tt
+  line-up k (suc n) = go (p k) (line-up (suc k) n)
+    where
+      rest : List ℕ
+      rest = keep p (from (suc k) n)
+
+      above : (q : ℕ × ℕ) → In q (map g rest) → Below (g k) q
+      above q m =
+          let x = map-in g rest m in
+          let h = keep-in p (from (suc k) n) (x .1) .0 in
+          subst (Below (g k)) (sym (x .2)) (up k (x .0) (from-in (suc k) n h .0))
+
+      go : (b : Bool) → GoesUp (map g (keep p (from (suc k) n))) → GoesUp (map g (cond b (k ∷ keep p (from (suc k) n)) (keep p (from (suc k) n))))
+      go true h = (above, h)
+      go false h = h
+
 module _ (f : ℕ → ℕ → Bool) where
   abbrev both : ℕ → ℕ → ℕ × ℕ
   both i k = (i, k)
 
-  line-up : (i k n : ℕ) → GoesUp (map (both i) (keep (f i) (from k n)))
-  line-up i k zero = tt
-  line-up i k (suc n) = go (f i k) (line-up i (suc k) n)
-    where
-      rest : List ℕ
-      rest = keep (f i) (from (suc k) n)
-
-      above : (q : ℕ × ℕ) → In q (map (both i) rest) → Below (i, k) q
-      above q m =
-          let p = map-in (both i) rest m in
-          let h = keep-in (f i) (from (suc k) n) (p .1) .0 in
-          subst (Below (i, k)) (sym (p .2)) (inr (refl, from-in (suc k) n h .0))
-
-      go : (b : Bool) → GoesUp (map (both i) (keep (f i) (from (suc k) n))) → GoesUp (map (both i) (cond b (k ∷ keep (f i) (from (suc k) n)) (keep (f i) (from (suc k) n))))
-      go true h = (above, h)
-      go false h = h
-
   pairs-up : (s i n : ℕ) → GoesUp (pairs both f (upto s) (from i n))
   pairs-up s i zero = tt
-  pairs-up s i (suc n) = up-append (line i) (flat line (from (suc i) n)) (line-up i 0 s) (pairs-up s (suc i) n) (λ p q m o.
+  pairs-up s i (suc n) = up-append (line i) (flat line (from (suc i) n)) (line-up (both i) (f i) (λ x y h. inr (refl, h)) 0 s) (pairs-up s (suc i) n) (λ p q m o.
       let x = map-in (both i) (keep (f i) (upto s)) m in
       let y = flat-in line (from (suc i) n) o in
       let z = map-in (both (y .0)) (keep (f (y .0)) (upto s)) (y .2) in
@@ -113,3 +115,18 @@ module _ (f : ℕ → ℕ → Bool) where
       λ p m. let x = pairs-in both f (upto s) (upto n) m in subst (λ (w : ℕ × ℕ). T (bits (w .0) (w .1))) (sym (x .3)) (h (x .0) (x .1) (x .2)),
       pairs-map (upto s) (upto n),
     )
+
+-- of one second number
+pub by-firsts : {A : Type 0} (row : ℕ → ℕ → A) (bits : ℕ → ℕ → Bool) (p : ℕ → Bool) (k : ℕ) → ((i : ℕ) → T (p i) → T (bits i k)) → (n : ℕ)
+    → ByNumber bits row (map (λ i. row i k) (keep p (upto n)))
+by-firsts row bits p k h n = (
+  map (λ i. (i, k)) (keep p (upto n)),
+  line-up (λ i. (i, k)) p (λ x y l. inl l) 0 n,
+  λ q m.
+      let x = map-in (λ i. (i, k)) (keep p (upto n)) m in
+      subst (λ (w : ℕ × ℕ). T (bits (w .0) (w .1))) (sym (x .2)) (h (x .0) (keep-in p (upto n) (x .1) .1)),
+  sym (map-map (λ q. row (q .0) (q .1)) (λ i. (i, k)) (keep p (upto n))),
+)
+
+pub none-by-number : {A : Type 0} (row : ℕ → ℕ → A) (bits : ℕ → ℕ → Bool) → ByNumber bits row []
+none-by-number row bits = ([], tt, λ q m. absurd (in-nil m), refl)

@@ -11,7 +11,7 @@ use Rattle.policy.specs.Layout.{Layout}
 use Rattle.policy.specs.Record.{Change, load, remove, addService, removeService, addCall, removeCall, addGrant, removeGrant, addNeed, removeNeed}
 use Rattle.policy.specs.Causes.{Cause, _when_, answer}
 use Rattle.policy.specs.Tables.{Tables}
-use Rattle.policy.specs.Lookup.{Place, numberOf, serviceOf, serverOf, freeNumber, freeService, contractAt}
+use Rattle.policy.specs.Lookup.{Place, Spot, numberOf, serviceOf, serverOf, spotOf, freeNumber, freeService, contractAt}
 use Rattle.policy.specs.Draft.{Draft, Look, kept, addCallAt, removeCallAt, addNeedAt, removeNeedAt, addGrantAt, removeGrantAt, addServiceAt, removeServiceAt, removeAt, loadAt, draft}
 use Rattle.policy.specs.Judge.{absent, tableCauses}
 use Rattle.policy.specs.ShortCheck.{fine, shortAddCall, shortAddNeed, shortAddGrant, shortRemoveGrant, shortAddService, shortRemoveService, shortRemove, shortLoad, shortLook}
@@ -19,12 +19,11 @@ use Rattle.policy.proofs.Sets.{false-T, or-l, or-r, not-i, not-not, non
 use Rattle.policy.proofs.Equal.{has-tok, tok-has, has-row, row-has}
 use Rattle.policy.proofs.Answers.{answer-zero}
 use Rattle.policy.proofs.Formed.{Formed, ProvidesAt, at, RowAt, GrantAt}
-use Rattle.policy.proofs.Found.{NumberIs, ServiceIs, ServerIs, FreeIs, free-number-is, free-service-is, number-is, service-is, server-is}
-use Rattle.policy.proofs.Facts.{granted-provided}
+use Rattle.policy.proofs.Found.{NumberIs, ServiceIs, ServerIs, SpotIs, FreeIs, free-number-is, free-service-is, number-is, service-is, server-is, spot-is}
 use Rattle.policy.proofs.ContractAt.{provides-at, calls-at, needs-at, grants-at}
 
 -- cause 6 of kinds 7 and 9: the row that is asked for holds, and the new one does not yet
-asked-and-new : (x y : Bool) → (T (not x || y) → ⊥) → T x × (T y → ⊥)
+pub asked-and-new : (x y : Bool) → (T (not x || y) → ⊥) → T x × (T y → ⊥)
 asked-and-new x y n = (not-not x (λ h. n (or-l (not x) y h)), λ h. n (or-r (not x) y h))
 
 module _ (L : Layout) (t : Tables) (f : Formed L t) (a : Aid) where
@@ -111,34 +110,24 @@ module _ (L : Layout) (t : Tables) (f : Formed L t) (a : Aid) where
         (λ i u ai _. h i u ai (serverOf L t r) (server-is L t (f .names) r))
 
     pub reach-7 : (r : Row)
-        → ((j k : ℕ) → T (t .provides j k) → t .aid j ≡ a → t .tok j k ≡ r .tok → (GrantAt t j r → ⊥) → (o : Option ℕ) → NumberIs t (r .aid) o
-        → P (addGrantAt L t j (r .aid) k o) (shortAddGrant L t o))
+        → ((j : ℕ) → T (t .used j) → t .aid j ≡ a → (GrantAt t j r → ⊥) → (o : Option Spot) → SpotIs t j r o → P (addGrantAt L t j r o) (shortAddGrant L t o))
         → Reaches (addGrant r)
     unfolding draft shortLook
     reach-7 r h e =
-        let caller = numberOf L t (r .aid) in
-        at-six (λ o. P (orElse o (kept t) (λ j. orElse (serviceOf L t j (r .tok)) (kept t) (λ k. addGrantAt L t j (r .aid) k caller))) (shortAddGrant L t caller))
-        (λ o. not (orElse o false (λ i. hasTok (r .tok) (contractAt L t i .provides))) || orElse o false (λ i. hasRow r (contractAt L t i .grants))) e
+        at-six (λ o. P (orElse o (kept t) (λ j. addGrantAt L t j r (spotOf L t j r))) (orElse o fine (λ j. shortAddGrant L t (spotOf L t j r))))
+        (λ o. not (L .early || orElse o false (λ i. hasTok (r .tok) (contractAt L t i .provides))) || orElse o false (λ i. hasRow r (contractAt L t i .grants))) e
         (λ j u aj n.
-        let w = asked-and-new (hasTok (r .tok) (contractAt L t j .provides)) (hasRow r (contractAt L t j .grants)) n in
-        at-service (λ o. P (orElse o (kept t) (λ k. addGrantAt L t j (r .aid) k caller)) (shortAddGrant L t caller)) j (r .tok) (provided j (r .tok) (w .0))
-        (λ k p ek. h j k p aj ek (λ g. w .1 (row-has (grants-at L t f j r .1 g))) caller (number-is L t (f .names) (r .aid))))
+        let w = asked-and-new (L .early || hasTok (r .tok) (contractAt L t j .provides)) (hasRow r (contractAt L t j .grants)) n in
+        h j u aj (λ g. w .1 (row-has (grants-at L t f j r .1 g))) (spotOf L t j r) (spot-is L t (f .names) j r))
 
     pub reach-8 : (r : Row)
-        → ((j k : ℕ) → T (t .provides j k) → t .aid j ≡ a → t .tok j k ≡ r .tok → (o : Option ℕ) → NumberIs t (r .aid) o
-        → P (removeGrantAt L t j (r .aid) k o) (shortRemoveGrant L t j k o))
+        → ((j : ℕ) → T (t .used j) → t .aid j ≡ a → (o : Option Spot) → SpotIs t j r o → P (removeGrantAt L t j r o) (shortRemoveGrant L t j o))
         → Reaches (removeGrant r)
     unfolding draft shortLook
     reach-8 r h e =
-        let caller = numberOf L t (r .aid) in
-        at-six (λ o. P (orElse o (kept t) (λ j. orElse (serviceOf L t j (r .tok)) (kept t) (λ k. removeGrantAt L t j (r .aid) k caller)))
-        (orElse o fine (λ j. orElse (serviceOf L t j (r .tok)) fine (λ k. shortRemoveGrant L t j k caller))))
+        at-six (λ o. P (orElse o (kept t) (λ j. removeGrantAt L t j r (spotOf L t j r))) (orElse o fine (λ j. shortRemoveGrant L t j (spotOf L t j r))))
         (λ o. not (orElse o false (λ i. hasRow r (contractAt L t i .grants)))) e
-        (λ j u aj n.
-        let had = hasRow r (contractAt L t j .grants) in
-        at-service (λ o. P (orElse o (kept t) (λ k. removeGrantAt L t j (r .aid) k caller)) (orElse o fine (λ k. shortRemoveGrant L t j k caller))) j (r .tok)
-        (granted-provided L t f j r (grants-at L t f j r .0 (has-row r (contractAt L t j .grants) (not-not had n))))
-        (λ k p ek. h j k p aj ek caller (number-is L t (f .names) (r .aid))))
+        (λ j u aj _. h j u aj (spotOf L t j r) (spot-is L t (f .names) j r))
 
     pub reach-9 : (r : Row)
         → ((i : ℕ) → T (t .used i) → t .aid i ≡ a → RowAt t (t .calls) (t .unmet) i r → (RowAt t (t .needs) [] i r → ⊥) → (o : Option Place) → ServerIs t r o

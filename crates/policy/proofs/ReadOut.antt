@@ -4,7 +4,7 @@ use native.Mathlib.Omega.{arith}
 use native.Mathlib.Nat.{suc-mul}
 use mathlib.Core.Path.{_≡_, refl, sym, ap, _∙_, subst}
 use mathlib.Core.Logic.{_⊎_, inl, inr}
-use mathlib.Core.Bool.{Bool, not, _&&_}
+use mathlib.Core.Bool.{Bool, not, _&&_, _||_}
 use mathlib.Core.List.{List, [], _∷_, _++_, map}
 use mathlib.Core.List.{List·Memᴰ as In, List·Memᴰ·cases-cons as in-cons, List·Memᴰ·not-nil as in-nil}
 use mathlib.Core.Option.{some}
@@ -19,11 +19,11 @@ use Rattle.policy.specs.Lookup.{numbers, places, usedNumbers, serviceAt,
 use Rattle.policy.specs.Judge.{loadRecord}
 use Rattle.policy.specs.Records.{loadOf, requestOf}
 use Rattle.policy.specs.History.{Allowed}
-use Rattle.policy.proofs.Sets.{and-i, not-i, cond-false, in-every, in-map, in-keep, length-keep, length-flat-le, once→distinct, pairs, length-from, in-upto}
+use Rattle.policy.proofs.Sets.{and-i, or-l, or-r, test, not-i, cond-false, in-every, in-map, in-keep, length-keep, length-flat-le, once→distinct, pairs, length-from, in-upto}
 use Rattle.policy.proofs.Equal.{eqAid→, eqTok→, eqTok-refl, eqRow→, eqRow-refl, tok-has, row-has}
 use Rattle.policy.proofs.Formed.{Formed, Fitting, Ruled, RowAt, GrantAt}
-use Rattle.policy.proofs.Facts.{need-bits, granted-provided}
-use Rattle.policy.proofs.ContractAt.{provides-at, calls-at, needs-at, grants-at, four-sets-at, stands-self}
+use Rattle.policy.proofs.Facts.{need-bits}
+use Rattle.policy.proofs.ContractAt.{calls-at, needs-at, grants-at, four-sets-at, stands-self}
 use Rattle.policy.proofs.Ruled.{ruled-allowed}
 use Rattle.policy.proofs.Written.{written-read, load-record}
 use Rattle.policy.proofs.RecordsLength.{load-writable}
@@ -100,7 +100,7 @@ module _ (L : Layout) (lo : LayoutOk L) (t : Tables) (g : Formed L t) (ru : Rule
   grants-length : length (c .grants) ≤ L .mostRows
   unfolding contractAt
   grants-length =
-      rows-length (λ i k. record { aid = t .aid i; tok = t .tok n k }) (t .grants n) (λ k h. g .grants .other n n k h refl) (grantAt t) (λ w. eqb (w .callee) n) (t .waiting) (fit .waiting-fits)
+      rows-length (λ i k. record { aid = t .aid i; tok = t .tok n k }) (t .grants n) (λ k h. g .grants .other n n k h refl) grantAt (λ w. eqb (w .callee) n) (t .waiting) (fit .waiting-fits)
 
   needs-length : length (c .needs) ≤ L .mostRows
   unfolding contractAt
@@ -141,10 +141,7 @@ module _ (L : Layout) (lo : LayoutOk L) (t : Tables) (g : Formed L t) (ru : Rule
       go (GrantAt.bit i k b e f) =
           let ui = g .grants .by-used i n k b in
           (subst (λ (z : Aid). T (validAid z)) (sym e) (g .names .aid-valid i ui), λ q. g .grants .other i n k b (g .names .aid-inj i n ui un (sym e ∙ q)))
-      go (GrantAt.row k p f) = (g .waiting .wait-valid _ p, λ q. g .waiting .wait-off _ p n un (sym q))
-
-  grant-provided : (r : Row) → In r (c .grants) → In (r .tok) (c .provides)
-  grant-provided r m = provides-at L t g n (r .tok) .1 (granted-provided L t g n r (grants-at L t g n r .0 m))
+      go (GrantAt.row p) = (g .waiting .wait-valid _ p, g .waiting .wait-other _ p)
 
   valid-aid : T (validAid (c .aid))
   unfolding contractAt
@@ -159,10 +156,10 @@ module _ (L : Layout) (lo : LayoutOk L) (t : Tables) (g : Formed L t) (ru : Rule
       ap (parse L) (load-record L c) ∙ written-read L lo (requestOf c) (load-writable L lo c (
         valid-aid,
         (
-          (provides-length, allowed .provides),
-          (calls-length, λ r m. (call-other r m .0, allowed .calls r m)),
-          (grants-length, λ r m. (grant-other r m .0, allowed .grants r m)),
-          (needs-length, λ r m. let i = need-called r m in (call-other r i .0, allowed .calls r i)),
+          (provides-length, allowed .tokens .provides),
+          (calls-length, λ r m. (call-other r m .0, allowed .tokens .calls r m)),
+          (grants-length, λ r m. (grant-other r m .0, allowed .tokens .grants r m)),
+          (needs-length, λ r m. let i = need-called r m in (call-other r i .0, allowed .tokens .calls r i)),
         ),
       ))
 
@@ -170,16 +167,21 @@ module _ (L : Layout) (lo : LayoutOk L) (t : Tables) (g : Formed L t) (ru : Rule
   not-own : (l : List Row) → ((r : Row) → In r l → Other r) → T (notOwn (t .aid n) l)
   not-own l h = in-every (λ r. not (eqAid (r .aid) (t .aid n))) l (λ r m. not-i (eqAid (r .aid) (t .aid n)) (λ e. h r m .1 (eqAid→ (r .aid) (t .aid n) e)))
 
-  pub read-out-proper : T (proper (c .aid) (loadOf c))
+  own-grants : T (L .early) ⊎ (T (L .early) → ⊥) → T (L .early || every (λ r. hasTok (r .tok) (c .provides)) (c .grants))
+  own-grants (inl e) = or-l (L .early) (every (λ r. hasTok (r .tok) (c .provides)) (c .grants)) e
+  own-grants (inr late) = or-r (L .early) (every (λ r. hasTok (r .tok) (c .provides)) (c .grants))
+      (in-every (λ r. hasTok (r .tok) (c .provides)) (c .grants) (λ r m. tok-has (allowed .own late r m)))
+
+  pub read-out-proper : T (proper L (c .aid) (loadOf c))
   unfolding proper contractAt
   read-out-proper =
       let s = four-sets-at L t g n un in
       let p1 = distinct eqTok (c .provides) in let p2 = distinct eqRow (c .calls) in let p3 = distinct eqRow (c .grants) in let p4 = distinct eqRow (c .needs) in
       let o1 = notOwn (t .aid n) (c .calls) in let o2 = notOwn (t .aid n) (c .grants) in let o3 = notOwn (t .aid n) (c .needs) in
-      let n1 = every (λ r. hasRow r (c .calls)) (c .needs) in let n2 = every (λ r. hasTok (r .tok) (c .provides)) (c .grants) in
+      let n1 = every (λ r. hasRow r (c .calls)) (c .needs) in let n2 = L .early || every (λ r. hasTok (r .tok) (c .provides)) (c .grants) in
       and-i (p1 && p2 && p3 && p4 && (o1 && o2 && o3)) (n1 && n2)
       (and-i (p1 && p2 && p3 && p4) (o1 && o2 && o3)
       (and-i (p1 && p2 && p3) p4 (and-i (p1 && p2) p3 (and-i p1 p2 (once→distinct eqTok eqTok→ eqTok-refl (c .provides) (s .provides)) (once→distinct eqRow eqRow→ eqRow-refl (c .calls) (s .calls)))
       (once→distinct eqRow eqRow→ eqRow-refl (c .grants) (s .grants))) (once→distinct eqRow eqRow→ eqRow-refl (c .needs) (s .needs)))
       (and-i (o1 && o2) o3 (and-i o1 o2 (not-own (c .calls) call-other) (not-own (c .grants) grant-other)) (not-own (c .needs) (λ r m. call-other r (need-called r m)))))
-      (and-i n1 n2 (in-every (λ r. hasRow r (c .calls)) (c .needs) (λ r m. row-has (need-called r m))) (in-every (λ r. hasTok (r .tok) (c .provides)) (c .grants) (λ r m. tok-has (grant-provided r m))))
+      (and-i n1 n2 (in-every (λ r. hasRow r (c .calls)) (c .needs) (λ r m. row-has (need-called r m))) (own-grants (test (L .early))))

@@ -1,4 +1,4 @@
--- The longest record, for every layout that is ok; and records of the card of 1,094 bytes.
+-- The longest record, for every layout that is ok; and records of the card of eight packages.
 use Prim.Native.Nat.{ℕ, zero, suc, _≤_, _<_}
 use native.Mathlib.Omega.{arith}
 use mathlib.Core.Path.{_≡_, refl}
@@ -43,7 +43,7 @@ module _ (L : Layout) (lo : LayoutOk L) where
   pub longest-record : LongestRecord L
   longest-record = (too-long, read-out-short)
 
--- ---- the card of 1,094 bytes
+-- ---- the card of eight packages
 -- 'The longest record has 4,145 bytes.'
 pub small-longest : longestRecord small ≡ 4145
 small-longest = refl

@@ -4,23 +4,25 @@ use native.Mathlib.Omega.{arith}
 use native.Mathlib.Nat.{not-le-of-lt}
 use mathlib.Core.Path.{_≡_, refl, sym, ap, _∙_, subst}
 use mathlib.Core.Logic.{_⊎_, inl, inr}
-use mathlib.Core.Bool.{false}
-use mathlib.Core.List.{List, [], _++_, map, append-nil}
-use mathlib.Core.List.{List·Memᴰ·not-nil as in-nil}
+use mathlib.Core.Bool.{Bool, false, _&&_}
+use mathlib.Core.Option.{Option, none, some}
+use mathlib.Core.List.{List, [], _++_, map, append-assoc, append-nil}
+use mathlib.Core.List.{List·Memᴰ as In, List·Memᴰ·not-nil as in-nil}
 use lib.Dec.{T}
 use lib.ListN.{length, getD, take, drop, replicate, length-append}
 use lib.Seq.{take-at, drop-at, drop-drop}
-use Rattle.policy.specs.Lists.{flat, upto}
-use Rattle.policy.specs.Contract.{Aid, Tok}
+use Rattle.policy.specs.Lists.{flat, upto, first, orElse}
+use Rattle.policy.specs.Contract.{Aid, Tok, eqTok}
 use Rattle.policy.specs.Layout.{Layout, LayoutOk, aidSize, unmetSize, waitingSize, usedAt, aidsAt, tokensAt, providesAt, callsAt, grantsAt, needsAt, unmetAt, waitingAt, size}
-use Rattle.policy.specs.Tables.{Tables, noTok, pieces, readAid, writeAid, readTok, writeTok, readUnmet, writeUnmet, readWaiting, writeWaiting, writeList, bitOf, writeBits}
+use Rattle.policy.specs.Tables.{Tables, Waiting, noTok, pieces, readAid, writeAid, readTok, writeTok, readUnmet, writeUnmet, numberWith, readWaiting, writeWaiting, readList, writeList, bitOf, writeBits}
 use Rattle.policy.specs.Tables.{writeTable, decode, encode, emptyImage}
-use Rattle.policy.proofs.Sets.{test}
+use Rattle.policy.proofs.Sets.{and-r, and-i, test, Found, found, in-upto}
+use Rattle.policy.proofs.Equal.{eqTok→, eqTok-of}
 use Rattle.policy.proofs.Pieces.{in-or-off, length-table, piece-at, piece-only, read-at, read-off, length-list, read-list, valid-short, length-aid, read-aid, length-unmet, read-unmet}
 use Rattle.policy.proofs.Pieces.{length-waiting, read-waiting, Zeros, zeros-append, zeros-flat, zeros-list}
 use Rattle.policy.proofs.Bits.{length-bits, read-bits, zeros-bits, writeLine, length-line, length-lines, read-line, read-lines}
 use Rattle.policy.specs.Room.{Room}
-use Rattle.policy.proofs.Formed.{Formed, Fitting}
+use Rattle.policy.proofs.Formed.{Formed, Ruled, Fitting}
 use Rattle.policy.proofs.Facts.{no-rows, place-in, bit-in, need-bits}
 
 -- the next part of an image, after one of b bytes
@@ -35,9 +37,9 @@ pub in-not-off : {j k n m : ℕ} → (j < n) × (k < m) → (n ≤ j) ⊎ (m ≤
 in-not-off h (inl p) = not-le-of-lt (h .0) p
 in-not-off h (inr p) = not-le-of-lt (h .1) p
 
--- what is formed and fits is in range
-pub formed-room : (L : Layout) (t : Tables) → Formed L t → Fitting L t → Room L t
-formed-room L t fo fi = record {
+-- what is formed, within the rules and fits, is in range
+pub formed-room : (L : Layout) (t : Tables) → Formed L t → Ruled L t → Fitting L t → Room L t
+formed-room L t fo ru fi = record {
   used-in = fo .names .used-lt;
   aid-short = λ i. short i (test (t .used i));
   aid-off = λ i p. fo .names .aid-blank i (λ u. not-le-of-lt (fo .names .used-lt i u) p);
@@ -50,11 +52,37 @@ formed-room L t fo fi = record {
   unmet-short = λ u i. valid-short (u .callee) (fo .unmet .unmet-valid u i);
   waiting-fits = fi .waiting-fits;
   waiting-short = λ v i. valid-short (v .caller) (fo .waiting .wait-valid v i);
+  waiting-own = ru .own;
 }
   where
     short : (i : ℕ) → T (t .used i) ⊎ (T (t .used i) → ⊥) → length (t .aid i) ≤ 16
     short i (inl u) = valid-short (t .aid i) (fo .names .aid-valid i u)
     short i (inr f) = subst (λ (z : Aid). length z ≤ 16) (sym (fo .names .aid-blank i f)) zero-le
+
+-- ---- all that stands between the header and the waiting grants
+module _ (L : Layout) (t : Tables) where
+  abbrev lists : List ℕ
+  lists = writeList L writeUnmet unmetSize (t .unmet)
+
+  abbrev waits : List ℕ
+  waits = writeList L (writeWaiting L (t .provides) (t .tok)) (waitingSize L) (t .waiting)
+
+  unfoldable pub front : List ℕ
+  front =
+      writeBits L (L .packages) (t .used)
+      ++ (flat (λ i. writeAid (t .aid i)) (upto (L .packages))
+      ++ (flat (λ j. flat (λ k. writeTok (t .tok j k)) (upto (L .services))) (upto (L .packages))
+      ++ (writeLine L (t .provides) ++ (writeTable L (t .calls) ++ (writeTable L (t .grants) ++ (writeTable L (t .needs) ++ lists))))))
+
+  pub front-encode : encode L t ≡ L .header ++ (front ++ waits)
+  unfolding encode front
+  front-encode = ap (λ (z : List ℕ). L .header ++ z) (sym
+      (behind (writeBits L (L .packages) (t .used)) _ (behind (flat (λ i. writeAid (t .aid i)) (upto (L .packages))) _
+      (behind (flat (λ j. flat (λ k. writeTok (t .tok j k)) (upto (L .services))) (upto (L .packages))) _
+      (behind (writeLine L (t .provides)) _ (behind (writeTable L (t .calls)) _ (behind (writeTable L (t .grants)) _ (append-assoc (writeTable L (t .needs)) lists waits))))))))
+    where
+      behind : (a b : List ℕ) {c : List ℕ} → b ++ waits ≡ c → (a ++ b) ++ waits ≡ a ++ c
+      behind a b e = append-assoc a b waits ∙ ap (λ (z : List ℕ). a ++ z) e
 
 module _ (L : Layout) (lo : LayoutOk L) where
   abbrev n : ℕ
@@ -79,7 +107,7 @@ module _ (L : Layout) (lo : LayoutOk L) where
     tokens j = flat (λ k. writeTok (t .tok j k)) (upto m)
 
     abbrev from-waiting : List ℕ
-    from-waiting = writeList L writeWaiting waitingSize (t .waiting)
+    from-waiting = writeList L (writeWaiting L (t .provides) (t .tok)) (waitingSize L) (t .waiting)
 
     abbrev from-unmet : List ℕ
     from-unmet = writeList L writeUnmet unmetSize (t .unmet) ++ from-waiting
@@ -120,8 +148,30 @@ module _ (L : Layout) (lo : LayoutOk L) where
     pub length-unmets : length (writeList L writeUnmet unmetSize (t .unmet)) ≡ 1 + L .capacity * unmetSize
     length-unmets = length-list L writeUnmet unmetSize (t .unmet) (λ u i. length-unmet u (room .unmet-short u i)) (room .unmet-fits)
 
-    pub length-waitings : length from-waiting ≡ 1 + L .capacity * waitingSize
-    length-waitings = length-list L writeWaiting waitingSize (t .waiting) (λ v i. length-waiting v (room .waiting-short v i)) (room .waiting-fits)
+    pub length-waitings : length from-waiting ≡ 1 + L .capacity * waitingSize L
+    length-waitings = length-list L (writeWaiting L (t .provides) (t .tok)) (waitingSize L) (t .waiting)
+        (λ v i. length-waiting L (t .provides) (t .tok) v (room .waiting-short v i)) (room .waiting-fits)
+
+    -- a waiting grant's service has a number, where the image holds that number
+    numbered : (v : Waiting) → In v (t .waiting) → (T (L .early) → ⊥) → t .tok (v .callee) (numberWith L (t .provides (v .callee)) (t .tok (v .callee)) (v .tok)) ≡ v .tok
+    numbered v i late = go (first test′ (upto m)) (found test′ (upto m))
+      where
+        test′ : ℕ → Bool
+        test′ k = t .provides (v .callee) k && eqTok (t .tok (v .callee) k) (v .tok)
+
+        go : (o : Option ℕ) → Found (λ k. t .provides (v .callee) k && eqTok (t .tok (v .callee) k) (v .tok)) (upto m) o → t .tok (v .callee) (orElse o 0 (λ k. k)) ≡ v .tok
+        go none h =
+            let p = room .waiting-own late v i in
+            absurd (h (p .0) (in-upto m (p .0) (room .provides-in (v .callee) (p .0) (p .1) .1)) (and-i (t .provides (v .callee) (p .0)) (eqTok (t .tok (v .callee) (p .0)) (v .tok)) (p .1) (eqTok-of (p .2))))
+        go (some k) h = eqTok→ (t .tok (v .callee) k) (v .tok) (and-r (t .provides (v .callee) k) (eqTok (t .tok (v .callee) k) (v .tok)) (h .1))
+
+    pub length-front : length (front L t) ≡ waitingAt L - 3
+    unfolding front
+    length-front =
+        long (writeBits L n (t .used)) _ (length-bits L n (t .used)) (long aids _ length-aids (long (flat tokens (upto n)) _ length-tokens
+        (long (writeLine L (t .provides)) _ (length-line L (t .provides)) (long (writeTable L (t .calls)) _ (length-lines L (t .calls))
+        (long (writeTable L (t .grants)) _ (length-lines L (t .grants)) (long (writeTable L (t .needs)) _ (length-lines L (t .needs)) length-unmets))))))
+        ∙ omega arith
 
     pub length-encode : length (encode L t) ≡ size L
     unfolding encode
@@ -208,8 +258,10 @@ module _ (L : Layout) (lo : LayoutOk L) where
       grants = λ j i k. read-lines L lo (t .grants) (room .grants-in) (drop (grantsAt L) img) from-needs at-grants j i k z;
       needs = λ i j k. read-lines L lo (t .needs) (room .needs-in) (drop (needsAt L) img) from-unmet at-needs i j k z;
       unmet = read-list L writeUnmet unmetSize (t .unmet) (λ u i. length-unmet u (room .unmet-short u i)) readUnmet (λ u i. read-unmet u (room .unmet-short u i)) (drop (unmetAt L) img) from-waiting at-unmet z;
-      waiting = read-list L writeWaiting waitingSize (t .waiting) (λ v i. length-waiting v (room .waiting-short v i)) readWaiting (λ v i. read-waiting v (room .waiting-short v i))
-          (drop (waitingAt L) img) [] (at-waiting ∙ sym (append-nil from-waiting)) z;
+      waiting = (ap (λ (x : ℕ → ℕ → Tok). readList (readWaiting L x) (waitingSize L) (drop (waitingAt L) img)) (λ y j k. read-tokens j k y)
+          ∙ read-list L (writeWaiting L (t .provides) (t .tok)) (waitingSize L) (t .waiting) (λ v i. length-waiting L (t .provides) (t .tok) v (room .waiting-short v i))
+          (readWaiting L (t .tok)) (λ v i. read-waiting L (t .provides) (t .tok) v (room .waiting-short v i) (numbered v i))
+          (drop (waitingAt L) img) [] (at-waiting ∙ sym (append-nil from-waiting))) z;
     }
 
 -- ---- no package
@@ -248,8 +300,12 @@ empty-formed L = record {
     unmet-once = tt;
   };
   waiting = record
-      { wait-valid = λ v i. absurd (in-nil i); wait-off = λ v i n u e. u; wait-prov = λ v i. absurd (in-nil i); wait-once = tt };
+      { wait-valid = λ v i. absurd (in-nil i); wait-used = λ v i. absurd (in-nil i); wait-other = λ v i e. in-nil i; wait-off = λ v i n k u e p f. u; wait-once = tt };
 }
+
+pub empty-ruled : (L : Layout) → Ruled L emptyTables
+empty-ruled L = record
+    { provided = λ j k s. absurd s; unmet = λ u i. absurd (in-nil i); waiting = λ w i. absurd (in-nil i); own = λ late w i. absurd (in-nil i) }
 
 pub empty-fitting : (L : Layout) → Fitting L emptyTables
 empty-fitting L = record { unmet-fits = zero-le; waiting-fits = zero-le }
@@ -266,7 +322,7 @@ empty-encode L lo =
     let each : (f : ℕ → List ℕ) → ((i : ℕ) → Zeros (f i)) → Zeros (flat f (upto (L .packages))) = λ f. zeros-flat f (upto (L .packages)) in
     let line : Zeros (writeLine L (λ j k. false)) = each _ (λ j. zeros-bits L (L .services)) in
     let table : Zeros (writeTable L (λ i j k. false)) = each _ (λ i. line) in
-    zeros-after (L .header) _ (size L) (lo .header-size) (length-encode L lo emptyTables (formed-room L emptyTables (empty-formed L) (empty-fitting L)))
+    zeros-after (L .header) _ (size L) (lo .header-size) (length-encode L lo emptyTables (formed-room L emptyTables (empty-formed L) (empty-ruled L) (empty-fitting L)))
     (zeros-append (zeros-bits L (L .packages)) (zeros-append (each (λ i. writeAid []) (λ i. refl))
     (zeros-append (each (λ j. flat (λ k. writeTok noTok) (upto (L .services))) (λ j. zeros-flat (λ k. writeTok noTok) (upto (L .services)) (λ k. refl)))
-    (zeros-append line (zeros-append table (zeros-append table (zeros-append table (zeros-append (zeros-list L writeUnmet unmetSize) (zeros-list L writeWaiting waitingSize)))))))))
+    (zeros-append line (zeros-append table (zeros-append table (zeros-append table (zeros-append (zeros-list L writeUnmet unmetSize) (zeros-list L (writeWaiting L (λ j k. false) (λ j k. noTok)) (waitingSize L))))))))))

@@ -115,11 +115,11 @@ module _ (t : Tables) (c d : ℕ → ℕ → ℕ → Bool) (u : List Unmet) wher
     where
       to : GrantAt t n x → GrantAt recalled n x
       to (bit y z p e q) = bit y z p e q
-      to (row z m e) = row z m e
+      to (row m) = row m
 
       back : GrantAt recalled n x → GrantAt t n x
       back (bit y z p e q) = bit y z p e q
-      back (row z m e) = row z m e
+      back (row m) = row m
 
 module _ (L : Layout) (t : Tables) (cs : List Contract) (a : Aid) (fo : Formed L t) (st : Stands t [] cs) (i : ℕ) (ui : T (t .used i)) (ai : t .aid i ≡ a) where
   module _ (c d : ℕ → ℕ → ℕ → Bool) (u lost : List Unmet) where
@@ -142,7 +142,7 @@ module _ (L : Layout) (t : Tables) (cs : List Contract) (a : Aid) (fo : Formed L
     abbrev regranted : Tables
     regranted = withGrants g w t
 
-    pub turns-grants : {fg : List Row → List Row} → Bits (t .used) (t .provides) (λ x y z. g y x z) → WaitingRows (t .used) (t .aid) (t .provides) w → Turned (t .used) i fg (GrantAt t) (GrantAt regranted)
+    pub turns-grants : {fg : List Row → List Row} → Bits (t .used) (t .provides) (λ x y z. g y x z) → WaitingRows (t .used) (t .aid) (t .tok) (t .provides) w → Turned (t .used) i fg (GrantAt t) (GrantAt regranted)
         → Turns L (kept regranted) (alter a (λ k. record { aid = k .aid; provides = k .provides; calls = k .calls; grants = fg (k .grants); needs = k .needs }) cs)
     turns-grants bits rows tg = record {
       formed = record { names = fo .names; calls = fo .calls; grants = bits; need-call = fo .need-call; unmet = fo .unmet; waiting = rows };

@@ -1,7 +1,7 @@
 -- A judgement in steps: the image, the record, causes 4 to 7 on the tables, causes 8 to 11 by the short check; and what is left after acceptance.
 use Prim.Native.Nat.{ℕ, zero, suc, _<_}
 use native.Mathlib.Omega.{arith}
-use mathlib.Core.Path.{_≡_, refl, ap, _∙_}
+use mathlib.Core.Path.{_≡_, refl, sym, ap, _∙_, subst}
 use mathlib.Core.Bool.{Bool, true, false, not, cond}
 use mathlib.Core.List.{List, [], _∷_, _++_, map}
 use mathlib.Core.Option.{Option, none, some}
@@ -9,8 +9,9 @@ use lib.Dec.{T, ltb, ltb→lt}
 use Rattle.policy.specs.Contract.{Aid, validAid}
 use Rattle.policy.specs.Layout.{Layout}
 use Rattle.policy.specs.Record.{Request, Change, parse, proper}
+use Rattle.policy.specs.Machine.{effect}
 use Rattle.policy.specs.Causes.{Cause, _when_, answer}
-use Rattle.policy.specs.Tables.{decode, encode}
+use Rattle.policy.specs.Tables.{Unmet, decode, encode}
 use Rattle.policy.specs.Lookup.{contractAt, usedNumbers}
 use Rattle.policy.specs.Sound.{sound}
 use Rattle.policy.specs.Draft.{Draft, Look, look, draft, numberFor}
@@ -19,9 +20,11 @@ use Rattle.policy.specs.Judge.{Out, refusal, tableCauses, lookCauses, ju
 use Rattle.policy.specs.Settled.{settled}
 use Rattle.policy.proofs.Sets.{T-true, and-l, and-r}
 use Rattle.policy.specs.Records.{WithinChange}
-use Rattle.policy.proofs.Formed.{Formed, Fitting}
+use Rattle.policy.proofs.Formed.{Formed, Ruled, Fitting, Stands}
 use Rattle.policy.proofs.Answers.{ascends}
-use Rattle.policy.proofs.SoundFacts.{sound-formed, sound-lawful, sound-fitting}
+use Rattle.policy.proofs.SoundFacts.{sound-formed, sound-ruled, sound-lawful, sound-fitting}
+use Rattle.policy.proofs.Ruled.{ruled-allowed, allowed-ruled, effect-allowed}
+use Rattle.policy.proofs.Tests.{tests-agree}
 use Rattle.policy.proofs.ContractAt.{stands-self}
 use Rattle.policy.proofs.AllKinds.{kinds}
 use Rattle.policy.proofs.Step.{judge-ascends, accepted}
@@ -47,12 +50,12 @@ module _ (L : Layout) (img : List ℕ) where
       let d = draft L t (q .aid) (q .change) in
       judged L img (numberFor L t (q .aid)) (d .tables) (answer (3 when not b ∷ tableCauses L t (q .aid) (q .change) ++ lookCauses (look L d)))
 
-  pub judge-improper : (s : List ℕ) (q : Request) → T (sound L img) → parse L s ≡ some q → proper (q .aid) (q .change) ≡ false → judge L img s ≡ refusal 3 255 img
+  pub judge-improper : (s : List ℕ) (q : Request) → T (sound L img) → parse L s ≡ some q → proper L (q .aid) (q .change) ≡ false → judge L img s ≡ refusal 3 255 img
   judge-improper s q ok e h = judge-read s ok (some q) e ∙ ap (byProper q) h
 
-  pub judge-settled : (s : List ℕ) (q : Request) → T (sound L img) → parse L s ≡ some q → T (proper (q .aid) (q .change)) → judge L img s ≡ settled L img (q .aid) (q .change)
+  pub judge-settled : (s : List ℕ) (q : Request) → T (sound L img) → parse L s ≡ some q → T (proper L (q .aid) (q .change)) → judge L img s ≡ settled L img (q .aid) (q .change)
   unfolding settled
-  judge-settled s q ok e h = judge-read s ok (some q) e ∙ ap (byProper q) (T-true (proper (q .aid) (q .change)) h)
+  judge-settled s q ok e h = judge-read s ok (some q) e ∙ ap (byProper q) (T-true (proper L (q .aid) (q .change)) h)
 
 -- ---- the answer of two lists of causes: the first's, or the second's where that is 0
 abbrev orThen : ℕ → ℕ → ℕ
@@ -89,7 +92,7 @@ module _ (L : Layout) (img : List ℕ) (a : Aid) (c : Change) where
   settled-refused n e = settled-is ∙ ap (λ (k : ℕ). byAnswers k (answer (lookCauses (look L d)))) e
 
   -- none of them applies: the short check of causes 8 to 11 is the full look
-  module _ (ok : T (sound L img)) (vc : WithinChange L c) (pr : T (proper a c)) (none-early : answer (tableCauses L (decode L img) a c) ≡ 0) where
+  module _ (ok : T (sound L img)) (vc : WithinChange L c) (pr : T (proper L a c)) (none-early : answer (tableCauses L (decode L img) a c) ≡ 0) where
     short : look L d ≡ shortLook L (decode L img) a c
     short = kinds c .1 L (decode L img) a (sound-formed L img ok) (sound-lawful L img ok) (sound-fitting L img ok) vc pr none-early
 
@@ -103,11 +106,22 @@ module _ (L : Layout) (img : List ℕ) (a : Aid) (c : Change) where
         → settled L img a c ≡ record { answered = 0; second = numberFor L (decode L img) a; bytes = encode L (draft L (decode L img) a c .tables) }
     settled-accepted e = settled-late 0 e
 
-  -- after acceptance the draft's tables are formed and fit
-  pub accepted-formed : T (sound L img) → T (validAid a) → WithinChange L c → T (proper a c) → answer (tableCauses L (decode L img) a c) ≡ 0
-      → answer (lookCauses (shortLook L (decode L img) a c)) ≡ 0 → Formed L (draft L (decode L img) a c .tables) × Fitting L (draft L (decode L img) a c .tables)
-  accepted-formed ok va vc pr none-early e =
+  -- after acceptance the draft's tables are formed, within the rules, and fit
+  abbrev Stand : Type 0
+  Stand = Formed L (draft L (decode L img) a c .tables) × Ruled L (draft L (decode L img) a c .tables) × Fitting L (draft L (decode L img) a c .tables)
+
+  pub looked-formed : T (sound L img) → T (validAid a) → WithinChange L c → T (proper L a c) → answer (tableCauses L (decode L img) a c) ≡ 0
+      → answer (lookCauses (look L (draft L (decode L img) a c))) ≡ 0 → Stand
+  looked-formed ok va vc pr none-early e =
       let t = decode L img in
       let g = sound-formed L img ok in
-      let h = kinds c .0 L t (map (contractAt L t) (usedNumbers L t)) a g (stands-self L t g) va vc pr none-early in
-      (h .formed, accepted L d (h .formed) (ap (λ (k : Look). answer (lookCauses k)) (short ok vc pr none-early) ∙ e) .1)
+      let cs = map (contractAt L t) (usedNumbers L t) in
+      let st = stands-self L t g in
+      let h = kinds c .0 L t cs a g st va vc pr none-early in
+      let w = accepted L d (h .formed) e in
+      let al = effect-allowed L cs a (ruled-allowed L t cs g st (sound-ruled L img ok)) (st .one-each) c vc pr (sym (ap answer (tests-agree L t cs g st a c)) ∙ none-early) in
+      (h .formed, allowed-ruled L L (d .tables) (effect L cs a c) (h .formed) (subst (λ (l : List Unmet). Stands (d .tables) l (effect L cs a c)) (w .2) (h .stands)) al, w .1)
+
+  pub accepted-formed : T (sound L img) → T (validAid a) → WithinChange L c → T (proper L a c) → answer (tableCauses L (decode L img) a c) ≡ 0
+      → answer (lookCauses (shortLook L (decode L img) a c)) ≡ 0 → Stand
+  accepted-formed ok va vc pr none-early e = looked-formed ok va vc pr none-early (ap (λ (k : Look). answer (lookCauses k)) (short ok vc pr none-early) ∙ e)

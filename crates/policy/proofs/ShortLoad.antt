@@ -3,7 +3,7 @@ use Prim.Native.Nat.{ℕ, _+_, _≤_}
 use native.Mathlib.Omega.{arith}
 use mathlib.Core.Path.{_≡_, refl, sym, ap, _∙_, subst}
 use mathlib.Core.Logic.{inl, inr}
-use mathlib.Core.Bool.{Bool, true, false, not, _&&_, cond}
+use mathlib.Core.Bool.{Bool, true, false, not, _&&_, _||_, cond}
 use mathlib.Core.List.{List, [], _∷_, _++_, map}
 use mathlib.Core.List.{List·Memᴰ as In, Memᴰ·cast as in-cast}
 use mathlib.Core.Option.{Option, none, some}
@@ -15,8 +15,8 @@ use Rattle.policy.specs.Layout.{Layout}
 use Rattle.policy.specs.Record.{load, addService}
 use Rattle.policy.specs.Tables.{Tables, Unmet, Waiting}
 use Rattle.policy.specs.Lookup.{Place, serviceAt, numberOf, serviceOf, serverOf}
-use Rattle.policy.specs.Draft.{kept, callRow, hasUnmet, hasWaiting, asksFor, addServiceAt, loadedNames, notServed, loadedService, loadAt, look}
-use Rattle.policy.specs.ShortCheck.{count, notInstalled, newcomerRights, nowMet, othersRights, shortLoad, shortAddService}
+use Rattle.policy.specs.Draft.{callRow, grantRow, hasUnmet, hasWaiting, asksFor, installedAid, nowGranted, addServiceAt, loadedNames, notServed, loadAt, look}
+use Rattle.policy.specs.ShortCheck.{count, newcomerRights, nowMet, othersRights, shortLoad, shortAddService}
 use Rattle.policy.proofs.Sets.{T-eq, and-l, and-r, and-i, implies-i, implies-e, every-in, in-every, length-keep, keep-ext}
 use Rattle.policy.proofs.Equal.{eqAid→, eqAid-refl, eqAid-of, eqTok→, eqTok-refl, row-path, has-tok, tok-has, has-row, row-has, has-unmet, unmet-has, has-waiting, waiting-has}
 use Rattle.policy.proofs.Put.{by-number, OldOrNew, old-or-new}
@@ -51,22 +51,23 @@ module _ (L : Layout) (t : Tables) (formed : Formed L t) (lawful : Lawful t) (fi
     look-3 : look L (addServiceAt L t j k s l) ≡ shortAddService L t j s l
     look-3 = look-is L (addServiceAt L t j k s l) (T-eq full (every short (t .unmet)) to back) refl
         (fits L (length (after .unmet)) kept)
-        (fits-as L (length-kept (t .waiting) (λ a. record { caller = a; callee = j; service = k }) (keep (notInstalled L t) l)))
+        (fits-as L (length-kept (keep (λ w. not (nowGranted L t j s w)) (t .waiting)) (λ a. record { caller = a; callee = j; tok = s })
+        (keep (λ a. not (installedAid L t a || hasWaiting (record { caller = a; callee = j; tok = s }) (t .waiting))) l)))
       where
         full : Bool
         full = among L (after .calls) (grantBit after)
 
+        allowed : ℕ → Bool
+        allowed x = exists (eqAid (t .aid x)) l || hasWaiting (record { caller = t .aid x; callee = j; tok = s }) (t .waiting)
+
         short : Unmet → Bool
-        short u = implies (asksFor L t (t .aid j) s u) (exists (eqAid (t .aid (u .caller))) l)
+        short u = implies (asksFor L t (t .aid j) s u) (allowed (u .caller))
 
         kept : length (after .unmet) ≤ L .capacity
         kept = omega (arith, length-keep (λ u. not (asksFor L t (t .aid j) s u)) (t .unmet), fitting .unmet-fits)
 
         asked : ℕ → Bool
         asked x = hasUnmet (record { callee = t .aid j; tok = s; caller = x }) (t .unmet)
-
-        allowed : ℕ → Bool
-        allowed x = exists (eqAid (t .aid x)) l
 
         given : ℕ → Bool
         given x = t .used x && allowed x
@@ -162,32 +163,32 @@ module _ (L : Layout) (t : Tables) (m : ℕ) (k : Contract) (new : Newcomer L t 
   right h x y z c i = grant-is L t m k new y x z .0 (among-to L (loadedTables .calls) (grantBit loadedTables) h x y z c (call-is L t m k new x y z .1 i))
 
   -- a grant of service z of package y to the newcomer, and the newcomer's rights that the short check asks
-  abbrev toNewcomer : ℕ → ℕ → Waiting
-  toNewcomer y z = record { caller = k .aid; callee = y; service = z }
+  abbrev toNewcomer : ℕ → Tok → Waiting
+  toNewcomer y s = record { caller = k .aid; callee = y; tok = s }
 
-  abbrev rightOf : Option Place → Bool
-  rightOf o = orElse o true (λ p. hasWaiting (toNewcomer (p .callee) (p .service)) (t .waiting))
+  abbrev rightOf : Row → Option Place → Bool
+  rightOf r o = orElse o true (λ p. hasWaiting (toNewcomer (p .callee) (r .tok)) (t .waiting))
 
   -- an installed caller's right that the short check asks
   abbrev rightBy : Unmet → Row
   rightBy u = record { aid = t .aid (u .caller); tok = u .tok }
 
   newcomers : T full → T (newcomerRights L t k)
-  newcomers h = in-every (λ r. rightOf (serverOf L t r)) (k .calls) (λ r i. go r i (serverOf L t r) (server-is L t (new .formed .names) r))
+  newcomers h = in-every (λ r. rightOf r (serverOf L t r)) (k .calls) (λ r i. go r i (serverOf L t r) (server-is L t (new .formed .names) r))
     where
-      waits : (y z : ℕ) → T (t .provides y z) → GrantIs L t m k y m z → T (hasWaiting (toNewcomer y z) (t .waiting))
+      waits : (y z : ℕ) → T (t .provides y z) → GrantIs L t m k y m z → T (hasWaiting (toNewcomer y (t .tok y z)) (t .waiting))
       waits y z p (GrantIs.own e q u i) = absurd (l .prov-ne y z p e)
-      waits y z p (GrantIs.waited e i) = waiting-has i
+      waits y z p (GrantIs.waited e q i) = waiting-has i
       waits y z p (GrantIs.old g) = absurd (new .free (new .formed .grants .by-used m y z g))
 
-      go : (r : Row) → In r (k .calls) → (o : Option Place) → ServerIs t r o → T (rightOf o)
+      go : (r : Row) → In r (k .calls) → (o : Option Place) → ServerIs t r o → T (rightOf r o)
       go r i none q = tt
       go r i (some p) q =
           let y = p .callee in
           let z = p .service in
           let b = place-in L t (new .formed .names) y z (q .0) in
-          waits y z (q .0) (right h m y z (new .number-lt, b .0, b .1)
-          (CallIs.own refl (l .prov-old y z (q .0), in-cast (service-old L t m k new y z (q .0) ∙ row-path (q .1) (q .2)) i)))
+          subst (λ (s : Tok). T (hasWaiting (toNewcomer y s) (t .waiting))) (q .2) (waits y z (q .0) (right h m y z (new .number-lt, b .0, b .1)
+          (CallIs.own refl (l .prov-old y z (q .0), in-cast (service-old L t m k new y z (q .0) ∙ row-path (q .1) (q .2)) i))))
 
   others : T full → T (othersRights L t k)
   others h = in-every (λ u. implies (nowMet L t k u) (hasRow (rightBy u) (k .grants))) (t .unmet) (λ u i. implies-i (nowMet L t k u) (hasRow (rightBy u) (k .grants)) (λ q.
@@ -201,11 +202,11 @@ module _ (L : Layout) (t : Tables) (m : ℕ) (k : Contract) (new : Newcomer L t 
     where
       grants : (u : Unmet) → T (t .used (u .caller)) → (z : ℕ) → on .tok m z ≡ u .tok → GrantIs L t m k m (u .caller) z → T (hasRow (rightBy u) (k .grants))
       grants u w z f (GrantIs.own e p v i) = row-has (in-cast (row-path refl (sym f)) i)
-      grants u w z f (GrantIs.waited e i) = absurd (l .old-ne (u .caller) w e)
+      grants u w z f (GrantIs.waited e q i) = absurd (l .old-ne (u .caller) w e)
       grants u w z f (GrantIs.old g) = absurd (l .prov-ne m z (new .formed .grants .of-prov (u .caller) m z g) refl)
 
   all-granted : Lawful t → T (newcomerRights L t k) → T (othersRights L t k) → (x y z : ℕ) → CallIs L t m k x y z → GrantIs L t m k y x z
-  all-granted lawful a b x y z (CallIs.own e h) = GrantIs.waited e (go (serverOf L t r) (server-is L t (new .formed .names) r) (every-in (λ q. rightOf (serverOf L t q)) (k .calls) a (h .1)))
+  all-granted lawful a b x y z (CallIs.own e h) = GrantIs.waited e p (go (serverOf L t r) (server-is L t (new .formed .names) r) (every-in (λ q. rightOf q (serverOf L t q)) (k .calls) a (h .1)))
     where
       r : Row
       r = serviceAt on y z
@@ -216,11 +217,11 @@ module _ (L : Layout) (t : Tables) (m : ℕ) (k : Contract) (new : Newcomer L t 
       p : T (t .provides y z)
       p = l .prov-back y z ne (h .0)
 
-      go : (o : Option Place) → ServerIs t (serviceAt on y z) o → T (rightOf o) → In (toNewcomer y z) (t .waiting)
+      go : (o : Option Place) → ServerIs t (serviceAt on y z) o → T (rightOf (serviceAt on y z) o) → In (toNewcomer y (t .tok y z)) (t .waiting)
       go none q s = absurd (q y z p (sym (l .aid-old y ne)) (sym (l .tok-old y z ne)))
       go (some w) q s =
           let at = same-place L t (new .formed .names) y z (w .callee) (w .service) p (q .0) (sym (l .aid-old y ne) ∙ sym (q .1)) (sym (l .tok-old y z ne) ∙ sym (q .2)) in
-          in-cast (λ x. toNewcomer (at .0 x) (at .1 x)) (has-waiting (toNewcomer (w .callee) (w .service)) (t .waiting) s)
+          in-cast (λ x. toNewcomer (at .0 x) (sym (l .tok-old y z ne) x)) (has-waiting (toNewcomer (w .callee) (on .tok y z)) (t .waiting) s)
   all-granted lawful a b x y z (CallIs.met e p i) =
       let u = callRow x (serviceAt on m z) in
       let c = eqAid (u .callee) (k .aid) in
@@ -242,8 +243,8 @@ module _ (L : Layout) (t : Tables) (m : ℕ) (k : Contract) (new : Newcomer L t 
       (ap (λ (rs : List Row). isNil (map (callRow m) rs)) (left-same (k .needs) (new .needs-called)) ∙ none-kept (λ r. isSome (serverOf L t r)) (callRow m) (k .needs))
       (fits-as L (length-kept (keep (λ u. not (nowMet L t k u)) (t .unmet)) (callRow m) (keep (notServed L t m k) (k .calls))
       ∙ ap (λ (rs : List Row). count (λ u. not (nowMet L t k u)) (t .unmet) + length rs) (left-same (k .calls) (λ r i. i))))
-      (fits-as L (length-kept (keep (λ w. not (eqAid (w .caller) (k .aid))) (t .waiting)) (λ r. record { caller = r .aid; callee = m; service = loadedService L t m k (r .tok) })
-      (keep (λ r. notInstalled L t (r .aid)) (k .grants))))
+      (fits-as L (length-kept (keep (λ w. not (eqAid (w .caller) (k .aid) && isSome (serviceOf L t (w .callee) (w .tok)))) (t .waiting)) (grantRow m)
+      (keep (λ r. not (isSome (numberOf L t (r .aid)) && hasTok (r .tok) (k .provides))) (k .grants))))
 
 pub short-1 : (p : List Tok) (c g n : List Row) → KindShort (load p c g n)
 short-1 p c g n L t a formed lawful _ v pr =

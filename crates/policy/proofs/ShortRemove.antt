@@ -2,13 +2,13 @@
 use Prim.Native.Nat.{ℕ, zero, suc, _+_}
 use native.Mathlib.Nat.{zero-add, suc-add, le-trans}
 use mathlib.Core.Path.{_≡_, refl, sym, ap, _∙_, subst}
-use mathlib.Core.Bool.{Bool, true, false, not, _&&_, cond, and-true}
-use mathlib.Core.List.{List, [], _∷_, map}
+use mathlib.Core.Bool.{Bool, true, false, not, _&&_, _||_, cond, and-true}
+use mathlib.Core.List.{List, [], _∷_, _++_, map}
 use mathlib.Core.List.{List·Memᴰ as In, Memᴰ·cast as in-cast}
-use lib.Dec.{T, eqb, eqb→eq, eqb-refl, eqb·suc-zero}
+use lib.Dec.{T, eqb, eqb→eq, eqb-refl, eqb·suc-zero, leb}
 use lib.ListN.{length, length-append, length-map}
 use Rattle.policy.specs.Lists.{every, keep, isNil}
-use Rattle.policy.specs.Contract.{Tok}
+use Rattle.policy.specs.Contract.{Tok, eqTok}
 use Rattle.policy.specs.Layout.{Layout}
 use Rattle.policy.specs.Record.{remove, removeService}
 use Rattle.policy.specs.Tables.{Tables, Unmet, Waiting}
@@ -103,7 +103,7 @@ module _ (L : Layout) (t : Tables) where
           ofOther w = not (eqb (w .callee) n)
 
           waitFor : ℕ → ℕ → Waiting
-          waitFor j k = record { caller = t .aid n; callee = j; service = k }
+          waitFor j k = record { caller = t .aid n; callee = j; tok = t .tok j k }
 
       -- ---- kind 4
       look-dropped : Fitting L t → (j k : ℕ) → T (t .provides j k) → look L (removeServiceAt L t j k) ≡ shortRemoveService L t j k
@@ -111,10 +111,24 @@ module _ (L : Layout) (t : Tables) where
           (granted L (removeServiceAt L t j k .tables) (lawful-dropped L t (removeServiceAt L t j k .tables) j (λ x. eqb x k) (t .unmet) fm (dropping-4 L t fm j k pk) law))
           (nil-length (leftBy L t (t .needs) j (λ x. eqb x k)) ∙ ap (λ (x : ℕ). eqb x 0) (left-one (t .needs) (need-bits L t fm) j k) ∙ none-pass (λ i. t .needs i j k) (numbers L))
           (fits-as L (length-append (t .unmet) (leftBy L t (t .calls) j (λ x. eqb x k)) ∙ ap (λ (x : ℕ). length (t .unmet) + x) (left-one (t .calls) (fm .calls) j k)))
-          (fits L (count stays (t .waiting)) (le-trans (length-keep stays (t .waiting)) (fit .waiting-fits)))
+          (waiting-fits fit j k (L .early))
         where
-          stays : Waiting → Bool
-          stays w = not (eqb (w .callee) j && eqb (w .service) k)
+          -- its grants go, so the list fits; or they wait
+          waiting-fits : Fitting L t → (j k : ℕ) (b : Bool)
+              → leb (length (cond b (t .waiting ++ map (λ i. record { caller = t .aid i; callee = j; tok = t .tok j k }) (keep (λ i. t .grants j i k) (numbers L)))
+              (keep (λ w. not (eqb (w .callee) j && eqTok (w .tok) (t .tok j k))) (t .waiting)))) (L .capacity)
+              ≡ not b || leb (length (t .waiting) + count (λ i. t .grants j i k) (numbers L)) (L .capacity)
+          waiting-fits fit j k true = fits-as L (length-append (t .waiting) (map nowWaits (keep callers (numbers L))) ∙ ap (λ (x : ℕ). length (t .waiting) + x) (length-map (keep callers (numbers L)) nowWaits))
+            where
+              nowWaits : ℕ → Waiting
+              nowWaits i = record { caller = t .aid i; callee = j; tok = t .tok j k }
+
+              callers : ℕ → Bool
+              callers i = t .grants j i k
+          waiting-fits fit j k false = fits L (count stays (t .waiting)) (le-trans (length-keep stays (t .waiting)) (fit .waiting-fits))
+            where
+              stays : Waiting → Bool
+              stays w = not (eqb (w .callee) j && eqTok (w .tok) (t .tok j k))
 
 -- ---- the two kinds
 pub short-2 : KindShort remove

@@ -8,13 +8,13 @@ use mathlib.Core.Option.{Option, none, some}
 use lib.Dec.{T}
 use lib.ListN.{length}
 use Rattle.policy.specs.Lists.{isNil}
-use Rattle.policy.specs.Contract.{Aid, Row}
+use Rattle.policy.specs.Contract.{Row}
 use Rattle.policy.specs.Layout.{Layout}
 use Rattle.policy.specs.Record.{addCall, removeCall, addGrant, removeGrant, addNeed, removeNeed}
 use Rattle.policy.specs.Tables.{Tables}
-use Rattle.policy.specs.Lookup.{Place}
+use Rattle.policy.specs.Lookup.{Place, Spot}
 use Rattle.policy.specs.Sound.{eqUnmet, eqWaiting}
-use Rattle.policy.specs.Draft.{Draft, callRow, put3, addCallAt, removeCallAt, addGrantAt, removeGrantAt, addNeedAt, removeNeedAt, look}
+use Rattle.policy.specs.Draft.{Draft, callRow, grantRow, put3, addCallAt, removeCallAt, addGrantAt, removeGrantAt, addNeedAt, removeNeedAt, look}
 use Rattle.policy.specs.ShortCheck.{fine, shortAddCall, shortAddGrant, shortRemoveGrant, shortAddNeed}
 use Rattle.policy.proofs.Sets.{T-eq, not-i, not-e, length-keep, length-snoc}
 use Rattle.policy.proofs.Put.{At, put3-new, put3-keep, put3-cases, put3-less}
@@ -69,20 +69,19 @@ module _ (L : Layout) (t : Tables) (fo : Formed L t) (law : Lawful t) (fit : Fit
   look-remove-call r i (some p) =
       look-fine (removeCallAt L t i r (some p)) (λ x y z m. law x y z (put3-less i (p .callee) (p .service) (t .calls) x y z .0 m .0)) refl (fit .unmet-fits) (fit .waiting-fits)
 
-  -- ---- kinds 7 and 8: service k of package j, to the AID b
-  look-add-grant : (j k : ℕ) (b : Aid) (o : Option ℕ) → look L (addGrantAt L t j b k o) ≡ shortAddGrant L t o
-  look-add-grant j k b none =
-      look-is L (addGrantAt L t j b k none) (granted L t law) refl (fits L (length (t .unmet)) (fit .unmet-fits))
-      (fits-as L (length-snoc (t .waiting) (record { caller = b; callee = j; service = k })))
-  look-add-grant j k b (some i) =
-      look-fine (addGrantAt L t j b k (some i)) (λ x y z m. put3-keep j i k (t .grants) y x z (law x y z m)) refl (fit .unmet-fits) (fit .waiting-fits)
+  -- ---- kinds 7 and 8: a grant r of package j
+  look-add-grant : (j : ℕ) (r : Row) (o : Option Spot) → look L (addGrantAt L t j r o) ≡ shortAddGrant L t o
+  look-add-grant j r none =
+      look-is L (addGrantAt L t j r none) (granted L t law) refl (fits L (length (t .unmet)) (fit .unmet-fits)) (fits-as L (length-snoc (t .waiting) (grantRow j r)))
+  look-add-grant j r (some p) =
+      look-fine (addGrantAt L t j r (some p)) (λ x y z m. put3-keep j (p .caller) (p .service) (t .grants) y x z (law x y z m)) refl (fit .unmet-fits) (fit .waiting-fits)
 
-  look-remove-grant : (j k : ℕ) (b : Aid) (o : Option ℕ) → look L (removeGrantAt L t j b k o) ≡ shortRemoveGrant L t j k o
-  look-remove-grant j k b none =
-      look-fine (removeGrantAt L t j b k none) law refl (fit .unmet-fits)
-      (le-trans (length-keep (λ w. not (eqWaiting (record { caller = b; callee = j; service = k }) w)) (t .waiting)) (fit .waiting-fits))
-  look-remove-grant j k b (some i) =
-      look-is L (removeGrantAt L t j b k (some i)) (one-less i j k) refl (fits L (length (t .unmet)) (fit .unmet-fits)) (fits L (length (t .waiting)) (fit .waiting-fits))
+  look-remove-grant : (j : ℕ) (r : Row) (o : Option Spot) → look L (removeGrantAt L t j r o) ≡ shortRemoveGrant L t j o
+  look-remove-grant j r none =
+      look-fine (removeGrantAt L t j r none) law refl (fit .unmet-fits) (le-trans (length-keep (λ w. not (eqWaiting (grantRow j r) w)) (t .waiting)) (fit .waiting-fits))
+  look-remove-grant j r (some p) =
+      look-is L (removeGrantAt L t j r (some p)) (one-less (p .caller) j (p .service)) refl
+      (fits L (length (t .unmet)) (fit .unmet-fits)) (fits L (length (t .waiting)) (fit .waiting-fits))
 
   -- ---- kinds 9 and 10: calls, grants and lists stay
   look-add-need : (r : Row) (i : ℕ) (o : Option Place) → look L (addNeedAt L t i r o) ≡ shortAddNeed L t o
@@ -101,10 +100,10 @@ pub short-6 : (r : Row) → KindShort (removeCall r)
 short-6 r L t a f law fit _ _ = reach-6 L t f a (λ d k. look L d ≡ k) r (λ i _ _ o _. look-remove-call L t f law fit r i o)
 
 pub short-7 : (r : Row) → KindShort (addGrant r)
-short-7 r L t a f law fit _ _ = reach-7 L t f a (λ d k. look L d ≡ k) r (λ j k _ _ _ _ o _. look-add-grant L t f law fit j k (r .aid) o)
+short-7 r L t a f law fit _ _ = reach-7 L t f a (λ d k. look L d ≡ k) r (λ j _ _ _ o _. look-add-grant L t f law fit j r o)
 
 pub short-8 : (r : Row) → KindShort (removeGrant r)
-short-8 r L t a f law fit _ _ = reach-8 L t f a (λ d k. look L d ≡ k) r (λ j k _ _ _ o _. look-remove-grant L t f law fit j k (r .aid) o)
+short-8 r L t a f law fit _ _ = reach-8 L t f a (λ d k. look L d ≡ k) r (λ j _ _ o _. look-remove-grant L t f law fit j r o)
 
 pub short-9 : (r : Row) → KindShort (addNeed r)
 short-9 r L t a f law fit _ _ = reach-9 L t f a (λ d k. look L d ≡ k) r (λ i _ _ _ _ o _. look-add-need L t f law fit r i o)

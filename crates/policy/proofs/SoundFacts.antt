@@ -5,6 +5,7 @@ use mathlib.Core.Logic.{_⊎_, inl, inr}
 use mathlib.Core.Bool.{Bool, true, false, not, _&&_, _||_}
 use mathlib.Core.List.{List, [], _∷_, map}
 use mathlib.Core.List.{List·Memᴰ as In}
+use mathlib.Core.Option.{Option, none, some}
 use lib.Dec.{T, eqb, leb, ltb, eqb→eq, ltb→lt, leb→le, le→leb}
 use lib.ListN.{length, getD, take, drop, length-map}
 use Rattle.policy.specs.Lists.{implies, every, keep, distinct, isNil, isSome, upto, eqBytes, NoRepeat}
@@ -12,16 +13,16 @@ use Rattle.policy.specs.Contract.{eqAid, validAid, Tok, eqTok}
 use Rattle.policy.specs.Layout.{Layout, size, aidSize, usedAt, aidsAt, tokensAt, providesAt, callsAt, grantsAt, needsAt}
 use Rattle.policy.specs.Record.{validTok}
 use Rattle.policy.specs.Tables.{Tables, Unmet, Waiting, noTok, bit, readNumber, readAid, readTok, pieces, bitOf, readTable, decode, encode}
-use Rattle.policy.specs.Lookup.{numbers, places, usedNumbers, numberOf, serverOf, wanted}
-use Rattle.policy.specs.Sound.{eqUnmet, eqWaiting, unmetOk, waitingOk, aidsOk, tokensOk, blanksOk, entriesOk, bitsProvided, needsCalled, bitsGranted, listsOk, rowsOk, methodsOk, soundTables, sound}
-use Rattle.policy.proofs.Sets.{false-T, and-l, and-r, and-i, or-l, or-r, or-e, implies-i, implies-e, not-i, not-e, none-to, none-back, nil-is, is-nil, every-in, in-every, keep-in, in-keep}
+use Rattle.policy.specs.Lookup.{numbers, places, usedNumbers, serviceOf, serverOf, spotOf, wanted, grantAt}
+use Rattle.policy.specs.Sound.{eqUnmet, eqWaiting, unmetOk, waitingOk, aidsOk, tokensOk, blanksOk, entriesOk, bitsProvided, needsCalled, bitsGranted, listsOk, rowsOk, methodsOk, grantsOk, soundTables, sound}
+use Rattle.policy.proofs.Sets.{false-T, and-l, and-r, and-i, or-l, or-r, or-e, implies-i, implies-e, test, not-i, not-e, none-to, none-back, nil-is, is-nil, every-in, in-every, keep-in, in-keep}
 use Rattle.policy.proofs.Sets.{once-keep, once-map, map-inj, distinct→once, once→distinct, in-upto, once-upto, below-in, in-below, eqBytes→, eqBytes-refl}
 use Rattle.policy.proofs.Equal.{eqAid→, eqAid-refl, eqAid-of, eqb-of, eqTok→, eqTok-refl, eqTok-of, eqUnmet→, eqUnmet-refl, eqWaiting→, eqWaiting-refl}
 use Rattle.policy.proofs.EveryBit.{BitIn, among-to, among-back}
 use Rattle.policy.proofs.Pieces.{length-pieces}
 use Rattle.policy.proofs.Bits.{bit-none}
 use Rattle.policy.proofs.Formed.{Names, Bits, UnmetRows, WaitingRows, grantBit, Formed, Lawful, Fitting, Ruled}
-use Rattle.policy.proofs.Found.{NumberIs, ServerIs, number-is, server-is}
+use Rattle.policy.proofs.Found.{ServiceIs, ServerIs, SpotIs, service-is, server-is, spot-is}
 use Rattle.policy.proofs.Facts.{need-bits, lawful-of, of-lawful}
 
 -- ---- what tables hold stands in range
@@ -318,11 +319,11 @@ module _ (L : Layout) (t : Tables) where
   abbrev unserved : Unmet → Bool
   unserved u = not (isSome (serverOf L t (wanted u)))
 
-  abbrev absent : Waiting → Bool
-  absent w = not (isSome (numberOf L t (w .caller)))
+  abbrev toOther : Waiting → Bool
+  toOther w = not (eqAid (w .caller) (t .aid (w .callee)))
 
-  abbrev granting : Waiting → Bool
-  granting w = t .provides (w .callee) (w .service)
+  abbrev offCard : Waiting → Bool
+  offCard w = not (isSome (spotOf L t (w .callee) (grantAt w)))
 
   module _ (names : Names L (t .used) (t .aid) (t .tok) (t .provides)) where
     unmet-to : T (rowsOk L t) → NoRepeat (t .unmet) → UnmetRows (t .used) (t .aid) (t .tok) (t .provides) (t .unmet)
@@ -341,29 +342,30 @@ module _ (L : Layout) (t : Tables) where
         row u m = four (validAid (u .callee)) (other u) (t .used (u .caller)) (unserved u)
             (every-in (unmetOk L t) (t .unmet) (and-l (every (unmetOk L t) (t .unmet)) (every (waitingOk L t) (t .waiting)) h) m)
 
-    waiting-to : T (rowsOk L t) → NoRepeat (t .waiting) → WaitingRows (t .used) (t .aid) (t .provides) (t .waiting)
+    waiting-to : T (rowsOk L t) → NoRepeat (t .waiting) → WaitingRows (t .used) (t .aid) (t .tok) (t .provides) (t .waiting)
     unfolding rowsOk
     waiting-to h once = record {
       wait-valid = λ w m. row w m .0;
-      wait-off = λ w m. none-to (NumberIs t (w .caller)) (numberOf L t (w .caller)) (number-is L t names (w .caller)) (row w m .1);
-      wait-prov = λ w m. row w m .3;
+      wait-used = λ w m. row w m .2;
+      wait-other = λ w m e. not-e (eqAid (w .caller) (t .aid (w .callee))) (row w m .1) (eqAid-of e);
+      wait-off = λ w m. none-to (SpotIs t (w .callee) (grantAt w)) (spotOf L t (w .callee) (grantAt w)) (spot-is L t names (w .callee) (grantAt w)) (row w m .3);
       wait-once = once;
     }
       where
-        row : (w : Waiting) → In w (t .waiting) → T (validAid (w .caller)) × T (absent w) × T (t .used (w .callee)) × T (granting w)
-        row w m = four (validAid (w .caller)) (absent w) (t .used (w .callee)) (granting w)
+        row : (w : Waiting) → In w (t .waiting) → T (validAid (w .caller)) × T (toOther w) × T (t .used (w .callee)) × T (offCard w)
+        row w m = four (validAid (w .caller)) (toOther w) (t .used (w .callee)) (offCard w)
             (every-in (waitingOk L t) (t .waiting) (and-r (every (unmetOk L t) (t .unmet)) (every (waitingOk L t) (t .waiting)) h) m)
 
-    rows-back : UnmetRows (t .used) (t .aid) (t .tok) (t .provides) (t .unmet) → WaitingRows (t .used) (t .aid) (t .provides) (t .waiting) → T (rowsOk L t)
+    rows-back : UnmetRows (t .used) (t .aid) (t .tok) (t .provides) (t .unmet) → WaitingRows (t .used) (t .aid) (t .tok) (t .provides) (t .waiting) → T (rowsOk L t)
     unfolding rowsOk
     rows-back r s = and-i (every (unmetOk L t) (t .unmet)) (every (waitingOk L t) (t .waiting))
         (in-every (unmetOk L t) (t .unmet) (λ u m. four-back (validAid (u .callee)) (other u) (t .used (u .caller)) (unserved u)
         (r .unmet-valid u m) (not-i (eqAid (u .callee) (t .aid (u .caller))) (λ e. r .unmet-other u m (eqAid→ (u .callee) (t .aid (u .caller)) e))) (r .off .off-used u m)
         (none-back (ServerIs t (wanted u)) (λ p h. r .off .off-card u m (p .callee) (p .service) (h .0) (h .1) (h .2)) (serverOf L t (wanted u)) (server-is L t names (wanted u)))))
-        (in-every (waitingOk L t) (t .waiting) (λ w m. four-back (validAid (w .caller)) (absent w) (t .used (w .callee)) (granting w)
-        (s .wait-valid w m)
-        (none-back (NumberIs t (w .caller)) (λ n h. s .wait-off w m n (h .0) (h .1)) (numberOf L t (w .caller)) (number-is L t names (w .caller)))
-        (names .prov-used (w .callee) (w .service) (s .wait-prov w m)) (s .wait-prov w m)))
+        (in-every (waitingOk L t) (t .waiting) (λ w m. four-back (validAid (w .caller)) (toOther w) (t .used (w .callee)) (offCard w)
+        (s .wait-valid w m) (not-i (eqAid (w .caller) (t .aid (w .callee))) (λ e. s .wait-other w m (eqAid→ (w .caller) (t .aid (w .callee)) e))) (s .wait-used w m)
+        (none-back (SpotIs t (w .callee) (grantAt w)) (λ p h. s .wait-off w m (p .caller) (p .service) (h .0) (h .1) (h .2) (h .3))
+        (spotOf L t (w .callee) (grantAt w)) (spot-is L t names (w .callee) (grantAt w)))))
 
   -- ---- the rules
   abbrev placeValid : ℕ → ℕ → Bool
@@ -372,19 +374,51 @@ module _ (L : Layout) (t : Tables) where
   abbrev rowValid : Unmet → Bool
   rowValid u = validTok L (u .tok)
 
-  ruled-to : InRange L t → T (methodsOk L t) → Ruled L t
-  unfolding methodsOk
-  ruled-to r h =
-      let p = both (everyPlace placeValid) (every rowValid (t .unmet)) h in
-      record {
-        provided = λ j k s. let c = r .prov-in j k s in implies-e (t .provides j k) (validTok L (t .tok j k)) (place-to placeValid (p .0) j k (c .0) (c .1)) s;
-        unmet = λ u m. every-in rowValid (t .unmet) (p .1) m;
-      }
+  abbrev waitingValid : Waiting → Bool
+  waitingValid w = validTok L (w .tok)
 
-  ruled-back : Ruled L t → T (methodsOk L t)
-  unfolding methodsOk
-  ruled-back r = and-i (everyPlace placeValid) (every rowValid (t .unmet))
-      (place-back placeValid (λ j k. implies-i (t .provides j k) (validTok L (t .tok j k)) (r .provided j k))) (in-every rowValid (t .unmet) (r .unmet))
+  abbrev served : Waiting → Bool
+  served w = isSome (serviceOf L t (w .callee) (w .tok))
+
+  module _ (names : Names L (t .used) (t .aid) (t .tok) (t .provides)) where
+    service-to : (j : ℕ) (s : Tok) (o : Option ℕ) → ServiceIs t j s o → T (isSome o) → (k : ℕ) × T (t .provides j k) × (t .tok j k ≡ s)
+    service-to j s none h x = absurd x
+    service-to j s (some k) h x = (k, h .0, h .1)
+
+    service-back : (j : ℕ) (s : Tok) (k : ℕ) → T (t .provides j k) → t .tok j k ≡ s → (o : Option ℕ) → ServiceIs t j s o → T (isSome o)
+    service-back j s k p e none h = h k p e
+    service-back j s k p e (some k′) h = tt
+
+    ruled-to : InRange L t → T (methodsOk L t) → T (grantsOk L t) → Ruled L t
+    unfolding methodsOk grantsOk
+    ruled-to r h own =
+        let q = both (everyPlace placeValid && every rowValid (t .unmet)) (every waitingValid (t .waiting)) h in
+        let p = both (everyPlace placeValid) (every rowValid (t .unmet)) (q .0) in
+        record {
+          provided = λ j k s. let c = r .prov-in j k s in implies-e (t .provides j k) (validTok L (t .tok j k)) (place-to placeValid (p .0) j k (c .0) (c .1)) s;
+          unmet = λ u m. every-in rowValid (t .unmet) (p .1) m;
+          waiting = λ w m. every-in waitingValid (t .waiting) (q .1) m;
+          own = λ late w m. own-to w m late (or-e (L .early) (every served (t .waiting)) own);
+        }
+      where
+        own-to : (w : Waiting) → In w (t .waiting) → (T (L .early) → ⊥) → T (L .early) ⊎ T (every served (t .waiting)) → (k : ℕ) × T (t .provides (w .callee) k) × (t .tok (w .callee) k ≡ w .tok)
+        own-to w m late (inl e) = absurd (late e)
+        own-to w m late (inr x) = service-to (w .callee) (w .tok) (serviceOf L t (w .callee) (w .tok)) (service-is L t names (w .callee) (w .tok)) (every-in served (t .waiting) x m)
+
+    ruled-back : Ruled L t → T (methodsOk L t && grantsOk L t)
+    unfolding methodsOk grantsOk
+    ruled-back r = and-i (methodsOk L t) (grantsOk L t)
+        (and-i (everyPlace placeValid && every rowValid (t .unmet)) (every waitingValid (t .waiting))
+        (and-i (everyPlace placeValid) (every rowValid (t .unmet))
+        (place-back placeValid (λ j k. implies-i (t .provides j k) (validTok L (t .tok j k)) (r .provided j k))) (in-every rowValid (t .unmet) (r .unmet)))
+        (in-every waitingValid (t .waiting) (r .waiting)))
+        (early-or (test (L .early)))
+      where
+        early-or : T (L .early) ⊎ (T (L .early) → ⊥) → T (L .early || every served (t .waiting))
+        early-or (inl e) = or-l (L .early) (every served (t .waiting)) e
+        early-or (inr late) = or-r (L .early) (every served (t .waiting)) (in-every served (t .waiting) (λ w m.
+            let p = r .own late w m in
+            service-back (w .callee) (w .tok) (p .0) (p .1) (p .2) (serviceOf L t (w .callee) (w .tok)) (service-is L t names (w .callee) (w .tok))))
 
   -- ---- all items together
   abbrev nineItems : Bool
@@ -393,11 +427,13 @@ module _ (L : Layout) (t : Tables) where
   module _ (r : InRange L t) (ok : T (soundTables L t)) where
     items : T (aidsOk L t) × T (tokensOk L t) × T (blanksOk L t) × T (entriesOk L t) × T (bitsProvided L t) × T (needsCalled L t) × T (bitsGranted L t) × T (listsOk L t) × T (rowsOk L t)
     unfolding soundTables
-    items = nine-to (aidsOk L t) (tokensOk L t) (blanksOk L t) (entriesOk L t) (bitsProvided L t) (needsCalled L t) (bitsGranted L t) (listsOk L t) (rowsOk L t) (and-l nineItems (methodsOk L t) ok)
+    items = nine-to (aidsOk L t) (tokensOk L t) (blanksOk L t) (entriesOk L t) (bitsProvided L t) (needsCalled L t) (bitsGranted L t) (listsOk L t) (rowsOk L t) (and-l nineItems (methodsOk L t && grantsOk L t) ok)
 
     tables-ruled : Ruled L t
     unfolding soundTables
-    tables-ruled = ruled-to r (and-r nineItems (methodsOk L t) ok)
+    tables-ruled =
+        let h = both (methodsOk L t) (grantsOk L t) (and-r nineItems (methodsOk L t && grantsOk L t) ok) in
+        ruled-to (names-to r (items .0) (items .1) (items .2)) r (h .0) (h .1)
 
     tables-formed : Formed L t
     tables-formed =
@@ -420,7 +456,7 @@ module _ (L : Layout) (t : Tables) where
 
   pub sound-tables : Formed L t → Ruled L t → Lawful t → Fitting L t → T (soundTables L t)
   unfolding soundTables
-  sound-tables f r l w = and-i nineItems (methodsOk L t) nine-hold (ruled-back r)
+  sound-tables f r l w = and-i nineItems (methodsOk L t && grantsOk L t) nine-hold (ruled-back (f .names) r)
     where
       nine-hold : T nineItems
       nine-hold = nine-back (aidsOk L t) (tokensOk L t) (blanksOk L t) (entriesOk L t) (bitsProvided L t) (needsCalled L t) (bitsGranted L t) (listsOk L t) (rowsOk L t)
@@ -442,6 +478,10 @@ module _ (L : Layout) where
     sound-decoded : T (soundTables L (decode L img))
     unfolding sound
     sound-decoded = four (sized img) (headed img) (written img (decode L img)) (soundTables L (decode L img)) ok .3
+
+    pub sound-sized : length img ≡ size L
+    unfolding sound
+    sound-sized = eqb→eq (length img) (size L) (four (sized img) (headed img) (written img (decode L img)) (soundTables L (decode L img)) ok .0)
 
     -- no byte but those that the tables give
     pub sound-written : encode L (decode L img) ≡ img

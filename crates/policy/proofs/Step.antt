@@ -44,10 +44,11 @@ stands-of L img cs f = record {
 
 pub image-stands : (L : Layout) → LayoutOk L → (t : Tables) (cs : List Contract) → Formed L t → Lawful t → Fitting L t → Stands t [] cs → AllAllowed L cs → StandsFor L (encode L t) cs
 image-stands L lo t cs g w fit st al =
-    let room = formed-room L t g fit in
+    let ru = allowed-ruled L L t cs g st al in
+    let room = formed-room L t g ru fit in
     let e = round-trip L lo t room in
     record {
-      is-sound = sound-image L t (length-encode L lo t room) (header-encode L lo t) e g (allowed-ruled L L t cs g st al) w fit;
+      is-sound = sound-image L t (length-encode L lo t room) (header-encode L lo t) e g ru w fit;
       these = λ c m. let p = st .these c m in
           (p .0, subst (λ (z : Tables). T (z .used (p .0))) (sym e) (p .1), subst (λ (z : Tables). SameContract c (contractAt L z (p .0))) (sym e) (same-contract L t g (p .0) c (p .2)));
       no-others = λ n u. let p = st .no-others n (subst (λ (z : Tables). T (z .used n)) e u) in (p .0, p .1, p .2 ∙ ap (λ (z : Tables). z .aid n) (sym e));
@@ -104,26 +105,28 @@ module _ (L : Layout) (lo : LayoutOk L) (t : Tables) (cs : List Contract) (g : F
   d = draft L t a c
 
   abbrev ds : List Contract
-  ds = effect cs a c
+  ds = effect L cs a c
 
   -- the causes of the record and of its lookups, on tables and by the contracts
   abbrev early : List Cause
-  early = 3 when not (proper a c) ∷ tableCauses L t a c
+  early = 3 when not (proper L a c) ∷ tableCauses L t a c
 
   turns : answer early ≡ 0 → Turns L d ds
-  turns e = let p = answer-zero 2 (not (proper a c)) (tableCauses L t a c) e in kinds c .0 L t cs a g st va vc (not-false (proper a c) (p .0)) (p .1)
+  turns e = let p = answer-zero 2 (not (proper L a c)) (tableCauses L t a c) e in kinds c .0 L t cs a g st va vc (not-false (proper L a c) (p .0)) (p .1)
 
   pub answers-agree : answer (judgeCauses L t q) ≡ answer (causes3to11 L cs q)
   answers-agree =
       answer-append early (lookCauses (look L d)) (causes8to11 L ds) (λ e. let h = turns e in ap answer (looks-agree L d ds (h .formed) (h .lost-off) (h .stands)))
-      ∙ ap (λ (l : List Cause). answer (3 when not (proper a c) ∷ l ++ causes8to11 L ds)) (tests-agree L t cs g st a c)
+      ∙ ap (λ (l : List Cause). answer (3 when not (proper L a c) ∷ l ++ causes8to11 L ds)) (tests-agree L t cs g st a c)
 
   pub accepted-stands : answer (judgeCauses L t q) ≡ 0 → StandsFor L (encode L (d .tables)) ds
   accepted-stands e =
-      let p = answer-append-zero 2 early (lookCauses (look L d)) (judge-ascends L t a (not (proper a c)) c) e in
+      let p = answer-append-zero 2 early (lookCauses (look L d)) (judge-ascends L t a (not (proper L a c)) c) e in
       let h = turns (p .0) in
       let w = accepted L d (h .formed) (p .1) in
-      image-stands L lo (d .tables) ds (h .formed) (w .0) (w .1) (subst (λ (l : List Unmet). Stands (d .tables) l ds) (w .2) (h .stands)) (effect-allowed L cs a al c vc)
+      let pr = answer-zero 2 (not (proper L a c)) (tableCauses L t a c) (p .0) in
+      image-stands L lo (d .tables) ds (h .formed) (w .0) (w .1) (subst (λ (l : List Unmet). Stands (d .tables) l ds) (w .2) (h .stands))
+      (effect-allowed L cs a al (st .one-each) c vc (not-false (proper L a c) (pr .0)) (sym (ap answer (tests-agree L t cs g st a c)) ∙ pr .1))
 
 -- an image that is not sound is refused
 pub unsound-refused : (L : Layout) (img s : List ℕ) → (T (sound L img) → ⊥) → judge L img s ≡ refusal 1 255 img
@@ -140,7 +143,7 @@ module _ (L : Layout) (lo : LayoutOk L) (img s : List ℕ) (cs : List Contract) 
   settle m t ds zero h = (refl, h refl)
   settle m t ds (suc n) h = (refl, f)
 
-  read : (o : Option Request) → parse L s ≡ o → Steps (judgeTables L img (decode L img) o) (elim o [ none ↦ held L cs cs 2 | some q ↦ held L cs (effect cs (q .aid) (q .change)) (answer (causes3to11 L cs q)) ])
+  read : (o : Option Request) → parse L s ≡ o → Steps (judgeTables L img (decode L img) o) (elim o [ none ↦ held L cs cs 2 | some q ↦ held L cs (effect L cs (q .aid) (q .change)) (answer (causes3to11 L cs q)) ])
   read none e = (refl, f)
   read (some q) e =
       let v = parsed-within L s q e in
@@ -149,8 +152,8 @@ module _ (L : Layout) (lo : LayoutOk L) (img s : List ℕ) (cs : List Contract) 
       let d = draft L (decode L img) (q .aid) (q .change) in
       let al = standing-allowed L img cs f in
       let same = answers-agree L lo (decode L img) cs g st q (v .0) (v .1) al in
-      subst (λ (n : ℕ). Steps (judged L img (numberFor L (decode L img) (q .aid)) (d .tables) (answer (judgeCauses L (decode L img) q))) (held L cs (effect cs (q .aid) (q .change)) n)) same
-      (settle (numberFor L (decode L img) (q .aid)) (d .tables) (effect cs (q .aid) (q .change)) (answer (judgeCauses L (decode L img) q)) (accepted-stands L lo (decode L img) cs g st q (v .0) (v .1) al))
+      subst (λ (n : ℕ). Steps (judged L img (numberFor L (decode L img) (q .aid)) (d .tables) (answer (judgeCauses L (decode L img) q))) (held L cs (effect L cs (q .aid) (q .change)) n)) same
+      (settle (numberFor L (decode L img) (q .aid)) (d .tables) (effect L cs (q .aid) (q .change)) (answer (judgeCauses L (decode L img) q)) (accepted-stands L lo (decode L img) cs g st q (v .0) (v .1) al))
 
   pub step : (judge L img s .answered ≡ machine L cs s .answered) × StandsFor L (judge L img s .bytes) (machine L cs s .contracts)
   unfolding judge machine

@@ -153,7 +153,7 @@ module _ (L : Layout) (t : Tables) (cs : List Contract) (formed : Formed L t) (s
   tests-agree a (removeService s) = λ i. 5 when absent-is a i ∷ 6 when not (provides-is a s i) ∷ []
   tests-agree a (addCall r) = λ i. 5 when absent-is a i ∷ 6 when calls-is a r i ∷ []
   tests-agree a (removeCall r) = λ i. 5 when absent-is a i ∷ 6 when not (calls-is a r i) ∷ []
-  tests-agree a (addGrant r) = λ i. 5 when absent-is a i ∷ 6 when (not (provides-is a (r .tok) i) || grants-is a r i) ∷ []
+  tests-agree a (addGrant r) = λ i. 5 when absent-is a i ∷ 6 when (not (L .early || provides-is a (r .tok) i) || grants-is a r i) ∷ []
   tests-agree a (removeGrant r) = λ i. 5 when absent-is a i ∷ 6 when not (grants-is a r i) ∷ []
   tests-agree a (addNeed r) = λ i. 5 when absent-is a i ∷ 6 when (not (calls-is a r i) || needs-is a r i) ∷ []
   tests-agree a (removeNeed r) = λ i. 5 when absent-is a i ∷ 6 when not (needs-is a r i) ∷ []

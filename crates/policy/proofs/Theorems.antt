@@ -1,4 +1,4 @@
--- The theorems of specs/Claims.antt, for every layout that is ok, and at the card of 1,094 bytes.
+-- The theorems of specs/Claims.antt, for every layout that is ok, and at the cards of eight packages.
 use Prim.Native.Nat.{ℕ, zero, suc, _<_}
 use native.Mathlib.Omega.{arith}
 use mathlib.Core.Path.{_≡_, refl, sym, ap, _∙_, subst}
@@ -9,33 +9,33 @@ use mathlib.Core.List.{List·Memᴰ as In, List·Memᴰ·head as here, List·Mem
 use mathlib.Core.List.{List·Memᴰ·append-cases as in-append, Memᴰ·cast as in-cast}
 use mathlib.Core.Option.{Option, none, some}
 use lib.Dec.{T, leb, leb→le, le→leb, ltb, ltb→lt, lit≤}
-use lib.ListN.{length, length-append}
+use lib.ListN.{length, take, drop, length-append}
 use Rattle.policy.specs.Lists.{every, orElse}
 use Rattle.policy.specs.Contract.{Aid, eqAid, Tok, Contract, under, lawful, callsGranted, needsMet, unmetCalls, waitingGrants}
-use Rattle.policy.specs.Layout.{Layout, LayoutOk, cardOf, base, narrow, small, aidsAt, tokensAt, providesAt, callsAt, grantsAt, needsAt, unmetAt, waitingAt, size}
-use Rattle.policy.specs.Record.{Request, Change, load, remove, addService, removeService, addCall, removeCall, addGrant, removeGrant, addNeed, removeNeed, parse, proper}
+use Rattle.policy.specs.Layout.{Layout, LayoutOk, cardOf, base, narrow, ahead, small, aidsAt, tokensAt, providesAt, callsAt, grantsAt, needsAt, unmetAt, waitingAt, size}
+use Rattle.policy.specs.Record.{Request, Change, load, remove, addService, removeService, addCall, removeCall, addGrant, removeGrant, addNeed, removeNeed, validTok, parse, proper}
 use Rattle.policy.specs.Causes.{Cause, _when_, answer}
 use Rattle.policy.specs.Machine.{Held, held, effect, altered, causes4to7, causes8to11, causes3to11, machine}
-use Rattle.policy.specs.Tables.{decode, emptyImage}
+use Rattle.policy.specs.Tables.{writeWaiting, writeList, decode, emptyImage}
 use Rattle.policy.specs.Lookup.{usedNumbers, contractAt}
 use Rattle.policy.specs.Sound.{sound}
 use Rattle.policy.specs.Judge.{Out, refusal, judgeTables, judge, loadRecord}
 use Rattle.policy.specs.Records.{loadOf, requestOf}
-use Rattle.policy.specs.History.{SameContract, AllAllowed, StandsFor, answers, imageAfter, machineAnswers, contractsAfter}
-use Rattle.policy.specs.Marked.{Line, lineOf, linesFrom, removalOf, loadH, loadB, cases, CaseOver, providing128, calling128, holding127}
-use Rattle.policy.specs.Eras.{answersOver, imageOver, machineAnswersOver, contractsOver, LeftOut, Stays, imageThen, contractsThen, SoFar}
+use Rattle.policy.specs.History.{SameContract, AllValid, AllAllowed, StandsFor, imageAfter, machineAnswers, contractsAfter}
+use Rattle.policy.specs.Marked.{Line, lineOf, linesFrom, removalOf, loadH, loadB, cases, CaseOver, providing128, calling128, holding127, casesConverted}
+use Rattle.policy.specs.Eras.{carried, Widens, Passes, answersOver, imageOver, machineAnswersOver, contractsOver, LeftOut, Stays, MarkedConverted, imageThen, contractsThen, SoFar}
 use Rattle.policy.specs.Claims.{MarkedCases, MarkedOver, Agreement, History, FitsLimits, AcceptedExactly, IsFirst, FirstCause, SoundStands, ShortIsFull, ReadOutAgain}
 use Rattle.policy.proofs.Sets.{and-l, and-r, and-i, test, not-e, cond-true, cond-false, every-in, exists-in, in-map, each-one}
 use Rattle.policy.proofs.Answers.{ascends, answer-append-zero, first-is, ascends-front, none-of-four, four-none}
 use Rattle.policy.proofs.ContractAt.{same-contract, stands-self}
 use Rattle.policy.proofs.ParseFacts.{parsed-within}
 use Rattle.policy.proofs.RoundTrip.{emptyTables, empty-formed, empty-fitting, empty-encode}
-use Rattle.policy.proofs.SoundFacts.{sound-formed, sound-ruled, sound-lawful, sound-fitting}
+use Rattle.policy.proofs.SoundFacts.{sound-sized, sound-formed, sound-ruled, sound-lawful, sound-fitting}
 use Rattle.policy.proofs.ReadOut.{read-out-parses, read-out-proper}
 use Rattle.policy.proofs.Tests.{packages-fit, services-fit}
 use Rattle.policy.proofs.AllKinds.{kinds}
-use Rattle.policy.proofs.Step.{stands-of, image-stands, unsound-refused, step}
-use Rattle.policy.proofs.Eras.{history-from, stays}
+use Rattle.policy.proofs.Step.{stands-of, image-stands, standing-allowed, unsound-refused, step}
+use Rattle.policy.proofs.Eras.{refused-all, passage, stays, carried-is, history-from}
 
 -- ---- 2. one record
 pub agreement : (L : Layout) → LayoutOk L → Agreement L
@@ -63,12 +63,12 @@ module _ (L : Layout) (lo : LayoutOk L) where
   machine-answer cs ds (suc n) = refl
 
   machine-read : (cs : List Contract) (s : List ℕ) (o : Option Request) → parse L s ≡ o
-      → machine L cs s ≡ elim o [ none ↦ held L cs cs 2 | some q ↦ held L cs (effect cs (q .aid) (q .change)) (answer (causes3to11 L cs q)) ]
+      → machine L cs s ≡ elim o [ none ↦ held L cs cs 2 | some q ↦ held L cs (effect L cs (q .aid) (q .change)) (answer (causes3to11 L cs q)) ]
   unfolding machine
-  machine-read cs s o e = ap (λ (o : Option Request). elim o [ none ↦ held L cs cs 2 | some q ↦ held L cs (effect cs (q .aid) (q .change)) (answer (causes3to11 L cs q)) ]) e
+  machine-read cs s o e = ap (λ (o : Option Request). elim o [ none ↦ held L cs cs 2 | some q ↦ held L cs (effect L cs (q .aid) (q .change)) (answer (causes3to11 L cs q)) ]) e
 
   read-answer : (img s : List ℕ) (cs : List Contract) (q : Request) → StandsFor L img cs → parse L s ≡ some q → judge L img s .answered ≡ answer (causes3to11 L cs q)
-  read-answer img s cs q f e = step L lo img s cs f .0 ∙ ap (λ (h : Held L). h .answered) (machine-read cs s (some q) e) ∙ machine-answer cs (effect cs (q .aid) (q .change)) (answer (causes3to11 L cs q))
+  read-answer img s cs q f e = step L lo img s cs f .0 ∙ ap (λ (h : Held L). h .answered) (machine-read cs s (some q) e) ∙ machine-answer cs (effect L cs (q .aid) (q .change)) (answer (causes3to11 L cs q))
 
   -- causes go up
   causes-ascend : (cs ds : List Contract) (a : Aid) (b : Bool) (c : Change) → T (ascends 1 (2 when false ∷ 3 when b ∷ causes4to7 L cs a c ++ causes8to11 L ds))
@@ -93,7 +93,7 @@ module _ (L : Layout) (lo : LayoutOk L) where
       go cs f none e = subst (λ (n : ℕ). IsFirst n (2 when true ∷ [])) (sym (step L lo img s cs f .0 ∙ ap (λ (h : Held L). h .answered) (machine-read cs s none e))) (first-is 1 (2 when true ∷ []) tt)
       go cs f (some q) e =
           subst (λ (n : ℕ). IsFirst n (2 when false ∷ causes3to11 L cs q)) (sym (read-answer img s cs q f e))
-          (first-is 1 (2 when false ∷ causes3to11 L cs q) (causes-ascend cs (effect cs (q .aid) (q .change)) (q .aid) (not (proper (q .aid) (q .change))) (q .change)))
+          (first-is 1 (2 when false ∷ causes3to11 L cs q) (causes-ascend cs (effect L cs (q .aid) (q .change)) (q .aid) (not (proper L (q .aid) (q .change))) (q .change)))
 
   pub sound-stands : SoundStands L
   sound-stands img ok =
@@ -133,18 +133,18 @@ module _ (L : Layout) (lo : LayoutOk L) where
         go (inr n) = absurd (h (subst (λ (z : Cause). T (z .applies)) (each-one (λ z. z ≡ c) c refl k n) w))
 
     -- a package that kind 3 makes fit has a service number free
-    full : (s : Tok) (l : List Aid) → FitsLimits L (effect cs a (addService s l)) → T (under cs a (λ k. leb (L .services) (length (k .provides)))) → ⊥
+    full : (s : Tok) (l : List Aid) → FitsLimits L (effect L cs a (addService s l)) → T (under cs a (λ k. leb (L .services) (length (k .provides)))) → ⊥
     full s l fit t =
-        let f : Contract → Contract = λ k. cond (eqAid (k .aid) a) (altered (addService s l) k) k in
+        let f : Contract → Contract = λ k. cond (eqAid (k .aid) a) (altered L (addService s l) k) k in
         let p = exists-in (λ k. eqAid (k .aid) a && leb (L .services) (length (k .provides))) cs t in
         let x = and-l (eqAid (p .0 .aid) a) (leb (L .services) (length (p .0 .provides))) (p .2) in
         let y = leb→le (L .services) (length (p .0 .provides)) (and-r (eqAid (p .0 .aid) a) (leb (L .services) (length (p .0 .provides))) (p .2)) in
-        let e : f (p .0) ≡ altered (addService s l) (p .0) = cond-true (eqAid (p .0 .aid) a) (altered (addService s l) (p .0)) (p .0) x in
-        let z = fit .services-fit (altered (addService s l) (p .0)) (in-cast {l = effect cs a (addService s l)} (sym e) (in-map (λ k. cond (eqAid (k .aid) a) (altered (addService s l) k) k) (p .1))) in
+        let e : f (p .0) ≡ altered L (addService s l) (p .0) = cond-true (eqAid (p .0 .aid) a) (altered L (addService s l) (p .0)) (p .0) x in
+        let z = fit .services-fit (altered L (addService s l) (p .0)) (in-cast {l = effect L cs a (addService s l)} (sym e) (in-map (λ k. cond (eqAid (k .aid) a) (altered L (addService s l) k) k) (p .1))) in
         let n = length-append (p .0 .provides) (s ∷ []) in
         omega arith
 
-    below : (c : Change) → FitsLimits L (effect cs a c) → (k : Cause) → In k (causes4to7 L cs a c) → T (k .applies) → k .number < 7
+    below : (c : Change) → FitsLimits L (effect L cs a c) → (k : Cause) → In k (causes4to7 L cs a c) → T (k .applies) → k .number < 7
     below (load p c g n) fit = below-or (4 when _ ∷ []) (7 when leb (L .packages) (length cs)) tt (λ t. let h = leb→le (L .packages) (length cs) t in let f = fit .packages-fit in omega arith)
     below remove fit = early-below (causes4to7 L cs a remove) tt
     below (addService s l) fit = below-or (5 when _ ∷ 6 when _ ∷ []) (7 when under cs a (λ k. leb (L .services) (length (k .provides)))) tt (full s l fit)
@@ -158,24 +158,24 @@ module _ (L : Layout) (lo : LayoutOk L) where
 
   -- what the machine leaves of an accepted record
   accepted-contracts : (img s : List ℕ) (cs : List Contract) (q : Request) → StandsFor L img cs → parse L s ≡ some q → answer (causes3to11 L cs q) ≡ 0
-      → StandsFor L (judge L img s .bytes) (effect cs (q .aid) (q .change))
+      → StandsFor L (judge L img s .bytes) (effect L cs (q .aid) (q .change))
   accepted-contracts img s cs q f e z =
       subst (λ (ds : List Contract). StandsFor L (judge L img s .bytes) ds)
-      (ap (λ (h : Held L). h .contracts) (machine-read cs s (some q) e) ∙ ap (λ (n : ℕ). held L cs (effect cs (q .aid) (q .change)) n .contracts) z)
+      (ap (λ (h : Held L). h .contracts) (machine-read cs s (some q) e) ∙ ap (λ (n : ℕ). held L cs (effect L cs (q .aid) (q .change)) n .contracts) z)
       (step L lo img s cs f .1)
 
-  module _ (img s : List ℕ) (cs : List Contract) (q : Request) (f : StandsFor L img cs) (e : parse L s ≡ some q) (pr : T (proper (q .aid) (q .change)))
+  module _ (img s : List ℕ) (cs : List Contract) (q : Request) (f : StandsFor L img cs) (e : parse L s ≡ some q) (pr : T (proper L (q .aid) (q .change)))
       (free : (k : Cause) → In k (causes4to7 L cs (q .aid) (q .change)) → k .number < 7 → T (k .applies) → ⊥) where
     abbrev ds : List Contract
-    ds = effect cs (q .aid) (q .change)
+    ds = effect L cs (q .aid) (q .change)
 
     abbrev early : List Cause
-    early = 3 when not (proper (q .aid) (q .change)) ∷ causes4to7 L cs (q .aid) (q .change)
+    early = 3 when not (proper L (q .aid) (q .change)) ∷ causes4to7 L cs (q .aid) (q .change)
 
     fits-if-accepted : judge L img s .answered ≡ 0 → T (lawful ds) × FitsLimits L ds
     fits-if-accepted z =
         let n : answer (causes3to11 L cs q) ≡ 0 = sym (read-answer img s cs q f e) ∙ z in
-        let p = answer-append-zero 1 (2 when false ∷ early) (causes8to11 L ds) (machine-ascends cs (q .aid) (not (proper (q .aid) (q .change))) (q .change)) n in
+        let p = answer-append-zero 1 (2 when false ∷ early) (causes8to11 L ds) (machine-ascends cs (q .aid) (not (proper L (q .aid) (q .change))) (q .change)) n in
         let v = none-of-four (callsGranted ds) (needsMet ds) (leb (length (unmetCalls ds)) (L .capacity)) (leb (length (waitingGrants ds)) (L .capacity)) (p .1) in
         let st = accepted-contracts img s cs q f e n in
         let after = stands-of L (judge L img s .bytes) ds st in
@@ -192,8 +192,8 @@ module _ (L : Layout) (lo : LayoutOk L) where
     silent : FitsLimits L ds → Silent early
     silent fit k m w = go (in-cons m)
       where
-        go : (k ≡ 3 when not (proper (q .aid) (q .change))) ⊎ In k (causes4to7 L cs (q .aid) (q .change)) → ⊥
-        go (inl x) = not-e (proper (q .aid) (q .change)) (subst (λ (z : Cause). T (z .applies)) x w) pr
+        go : (k ≡ 3 when not (proper L (q .aid) (q .change))) ⊎ In k (causes4to7 L cs (q .aid) (q .change)) → ⊥
+        go (inl x) = not-e (proper L (q .aid) (q .change)) (subst (λ (z : Cause). T (z .applies)) x w) pr
         go (inr n) = free k n (below cs (q .aid) (q .change) fit k n w) w
 
     accepted-if-fits : T (lawful ds) × FitsLimits L ds → judge L img s .answered ≡ 0
@@ -223,7 +223,7 @@ module _ (L : Layout) (lo : LayoutOk L) where
       λ c e. subst (λ (k : Contract). parse L (loadRecord L k) ≡ some (requestOf k)) (sym e) (read-out-parses L lo t g ru fit n un) in
       record {
         parses = parses;
-        is-proper = λ c e. subst (λ (k : Contract). T (proper (k .aid) (loadOf k))) (sym e) (read-out-proper L lo t g ru fit n un);
+        is-proper = λ c e. subst (λ (k : Contract). T (proper L (k .aid) (loadOf k))) (sym e) (read-out-proper L lo t g ru fit n un);
         loads-again = λ c e. again c (parses c e);
       }
     where
@@ -242,17 +242,26 @@ module _ (L : Layout) (lo : LayoutOk L) where
               one-not-zero : _≡_ {A = ℕ} 1 0 → ⊥
               one-not-zero e = omega arith
 
--- ---- the card of 1,094 bytes, by any rules on method tokens
-pub card-ok : {m : ℕ} → LayoutOk (cardOf m)
-card-ok = record { header-size = refl; packages-fit = lit≤ tt; services-fit = lit≤ tt; rows-fit = lit≤ tt; counts-fit = lit≤ tt; records-fit = lit≤ tt }
+-- ---- the cards of eight packages
+pub card-ok : {m : ℕ} {e : Bool} → LayoutOk (cardOf m e)
+card-ok {m} {e} = record { header-size = three e; packages-fit = lit≤ tt; services-fit = lit≤ tt; rows-fit = lit≤ tt; counts-fit = lit≤ tt; records-fit = lit≤ tt }
+  where
+    three : (e : Bool) → length (cardOf m e .header) ≡ 3
+    three true = refl
+    three false = refl
 
 pub small-ok : LayoutOk small
 small-ok = card-ok
 
--- where document 01 says that its parts stand, and its size
-pub small-parts : aidsAt small ∷ tokensAt small ∷ providesAt small ∷ callsAt small ∷ grantsAt small ∷ needsAt small ∷ unmetAt small ∷ waitingAt small ∷ size small ∷ []
-    ≡ 4 ∷ 140 ∷ 268 ∷ 276 ∷ 340 ∷ 404 ∷ 468 ∷ 789 ∷ 1094 ∷ []
-small-parts = refl
+-- where document 01 says that the parts stand, and its size; R-2: 'the image 1,110'
+abbrev partsOf : Layout → List ℕ
+partsOf L = aidsAt L ∷ tokensAt L ∷ providesAt L ∷ callsAt L ∷ grantsAt L ∷ needsAt L ∷ unmetAt L ∷ waitingAt L ∷ size L ∷ []
+
+pub base-parts : partsOf base ≡ 4 ∷ 140 ∷ 268 ∷ 276 ∷ 340 ∷ 404 ∷ 468 ∷ 789 ∷ 1094 ∷ []
+base-parts = refl
+
+pub ahead-parts : partsOf ahead ≡ 4 ∷ 140 ∷ 268 ∷ 276 ∷ 340 ∷ 404 ∷ 468 ∷ 789 ∷ 1110 ∷ []
+ahead-parts = refl
 
 -- ---- 1. the marked cases: computed, but for soundness, which every image of a history has
 unfoldable linesOn : Layout → List ℕ → List (List ℕ) → List Line
@@ -274,48 +283,114 @@ marked = (
   refl,
 )
 
--- ---- the change of R-7
+-- ---- the changes of the rules
+same-room : {m n : ℕ} {d e : Bool} → Widens (cardOf m d) (cardOf n e)
+same-room = record { packages = lit≤ tt; services = lit≤ tt; capacity = lit≤ tt }
+
+-- R-7's
 narrow-stays : Stays base narrow
-narrow-stays = stays base narrow (record { packages = refl; services = refl; width = refl; capacity = refl; header = refl }) card-ok
+narrow-stays = stays base narrow (record { packages = refl; services = refl; width = refl; capacity = refl; header = refl; early = refl }) card-ok
+
+narrow-allowed : (cs : List Contract) → AllValid narrow cs → AllAllowed base cs → AllAllowed narrow cs
+narrow-allowed cs v a c m = record { tokens = v c m; own = a c m .own }
 
 then-stands : (ss : List (List ℕ)) → StandsFor base (imageThen ss) (contractsThen ss)
 then-stands ss = history base card-ok ss .stands-for
 
-pub so-far : SoFar
-so-far = record {
-  history = λ ss ts al. history-from base card-ok (emptyImage base) [] (empty-stands base card-ok) ss _
-      (record { is-ok = card-ok; widens = record { packages = lit≤ tt; services = lit≤ tt; capacity = lit≤ tt }; allowed = λ _. al }, tt);
-  same-image = λ ss. narrow-stays .same-image (imageThen ss) (then-stands ss .is-sound);
-  told = λ ss. narrow-stays .told (imageThen ss) (contractsThen ss) (then-stands ss);
-  goes-on = λ ss. narrow-stays .goes-on (imageThen ss) (contractsThen ss) (then-stands ss);
-  left-out = λ ss. narrow-stays .left-out (imageThen ss) (contractsThen ss) (then-stands ss);
+-- R-2's: bytes 3 to 788 are copied, behind the new header, and the waiting grants are written by their tokens
+pub ahead-carried : (img : List ℕ) → T (sound narrow img)
+    → carried narrow ahead img ≡ (4 ∷ 86 ∷ 2 ∷ []) ++ (take 786 (drop 3 img) ++ writeList ahead (writeWaiting ahead (decode narrow img .provides) (decode narrow img .tok)) 20 (decode narrow img .waiting))
+ahead-carried = carried-is narrow ahead card-ok refl refl refl refl
+
+ahead-passes : (cs : List Contract) → Passes narrow ahead cs
+ahead-passes cs = record {
+  is-ok = card-ok;
+  widens = same-room;
+  allowed = λ a c m. let v = a c m .tokens in record { tokens = record { provides = v .provides; calls = v .calls; grants = v .grants }; own = λ late. absurd (late tt) };
 }
 
--- ---- the cases over it: computed but for the images that are not sound, which refuse all
+pub so-far : SoFar
+so-far = record {
+  history = λ ss ts us v. history-from base card-ok (emptyImage base) [] (empty-stands base card-ok) ss _
+      (record { is-ok = card-ok; widens = same-room; allowed = narrow-allowed (contractsThen ss) v }, (ahead-passes _, tt));
+  same-image = λ ss. narrow-stays .same-image (imageThen ss) (then-stands ss .is-sound);
+  told = λ ss ok c m. narrow-stays .told (imageThen ss) (contractsThen ss) (then-stands ss) ok c m .tokens;
+  goes-on = λ ss v.
+      let f = then-stands ss in
+      narrow-stays .goes-on (imageThen ss) (contractsThen ss) f (narrow-allowed (contractsThen ss) v (standing-allowed base (imageThen ss) (contractsThen ss) f));
+  left-out = λ ss held. narrow-stays .left-out (imageThen ss) (contractsThen ss) (then-stands ss) (λ a. held (λ c m. a c m .tokens));
+  converted = λ img cs f. passage narrow ahead img cs f (ahead-passes cs);
+  refused = λ img ok. refused-all ahead img (λ h. sizes (sym (sound-sized narrow img ok) ∙ sound-sized ahead img h));
+}
+  where
+    sizes : _≡_ {A = ℕ} 1094 1110 → ⊥
+    sizes e = omega arith
+
+-- ---- the cases over them: lines and images are computed but for soundness, and an image that is not sound refuses all
+unfoldable imageOn : Layout → List ℕ → List (List ℕ) → List ℕ
+unfolding judge
+imageOn L img [] = img
+imageOn L img (s ∷ ss) = imageOn L (judgeTables L img (decode L img) (parse L s) .bytes) ss
+
+sound-image : (L : Layout) → LayoutOk L → (ss : List (List ℕ)) (img : List ℕ) (cs : List Contract) → StandsFor L img cs → imageAfter L img ss ≡ imageOn L img ss
+unfolding imageAfter imageOn judge
+sound-image L lo [] img cs f = refl
+sound-image L lo (s ∷ ss) img cs f =
+    sound-image L lo ss (judge L img s .bytes) (machine L cs s .contracts) (step L lo img s cs f .1)
+    ∙ ap (λ (o : Out). imageOn L (o .bytes) ss) (cond-true (sound L img) (judgeTables L img (decode L img) (parse L s)) (refusal 1 255 img) (f .is-sound))
+
 refused-lines : (L : Layout) (img : List ℕ) → LeftOut L img → (ss : List (List ℕ)) → linesFrom L img ss ≡ map (λ s. lineOf s (refusal 1 255 img)) ss
 unfolding linesFrom imageAfter
 refused-lines L img h [] = refl
 refused-lines L img h (s ∷ ss) =
     ap (λ (o : Out). lineOf s o ∷ linesFrom L (o .bytes) ss) (h .refuses [] s) ∙ ap (λ (l : List Line). lineOf s (refusal 1 255 img) ∷ l) (refused-lines L img h ss)
 
-holds-provided : AllAllowed narrow (contractsThen providing128) → ⊥
+holds-provided : AllValid narrow (contractsThen providing128) → ⊥
 unfolding contractsAfter
 holds-provided h = h _ (here refl) .provides _ (here refl)
 
-holds-called : AllAllowed narrow (contractsThen calling128) → ⊥
+holds-called : AllValid narrow (contractsThen calling128) → ⊥
 unfolding contractsAfter
 holds-called h = h _ (here refl) .calls _ (here refl)
 
-abbrev Comes : CaseOver → Type 0
-Comes c = linesFrom small (imageThen (c .before)) (c .records) ≡ c .lines
+abbrev validContract : Contract → Bool
+validContract c = every (validTok narrow) (c .provides) && every (λ r. validTok narrow (r .tok)) (c .calls) && every (λ r. validTok narrow (r .tok)) (c .grants)
 
-goes-on : Comes holding127
-unfolding linesFrom imageAfter emptyImage sound
-goes-on = refl
+holds-none : AllValid narrow (contractsThen (holding127 .before))
+unfolding contractsAfter
+holds-none c m =
+    let p = every (validTok narrow) (c .provides) in
+    let q = every (λ r. validTok narrow (r .tok)) (c .calls) in
+    let g = every (λ r. validTok narrow (r .tok)) (c .grants) in
+    let h = every-in validContract (contractsThen (holding127 .before)) tt m in
+    record {
+      provides = λ s. every-in (validTok narrow) (c .provides) (and-l p q (and-l (p && q) g h));
+      calls = λ r. every-in (λ r. validTok narrow (r .tok)) (c .calls) (and-r p q (and-l (p && q) g h));
+      grants = λ r. every-in (λ r. validTok narrow (r .tok)) (c .grants) (and-r (p && q) g h);
+    }
+
+goes-on : linesFrom narrow (imageThen (holding127 .before)) (holding127 .records) ≡ holding127 .lines
+unfolding linesOn imageOn emptyImage
+goes-on =
+    let ss = holding127 .before in
+    sound-lines narrow card-ok (holding127 .records) (imageThen ss) (contractsThen ss) (so-far .goes-on ss holds-none)
+    ∙ ap (λ (img : List ℕ). linesOn narrow img (holding127 .records)) (sound-image base card-ok ss (emptyImage base) [] (empty-stands base card-ok))
 
 pub marked-over : MarkedOver
 marked-over i =
-    refused-lines small (imageThen providing128) (so-far .left-out providing128 holds-provided) (loadB ∷ removalOf 1 ∷ [] ∷ []) i
-    ∷ refused-lines small (imageThen calling128) (so-far .left-out calling128 holds-called) (removalOf 1 ∷ loadH ∷ []) i
+    refused-lines narrow (imageThen providing128) (so-far .left-out providing128 holds-provided) (loadB ∷ removalOf 1 ∷ [] ∷ []) i
+    ∷ refused-lines narrow (imageThen calling128) (so-far .left-out calling128 holds-called) (removalOf 1 ∷ loadH ∷ []) i
     ∷ goes-on i
     ∷ []
+
+pub marked-converted : MarkedConverted
+unfolding linesOn imageOn carried emptyImage
+marked-converted = ap (λ (f : CaseOver → List Line). map f casesConverted) (λ i c. computed c i)
+  where
+    computed : (c : CaseOver) → linesFrom ahead (carried narrow ahead (imageAfter narrow (emptyImage narrow) (c .before))) (c .records)
+        ≡ linesOn ahead (carried narrow ahead (imageOn narrow (emptyImage narrow) (c .before))) (c .records)
+    computed c =
+        let img = imageAfter narrow (emptyImage narrow) (c .before) in
+        let f = history narrow card-ok (c .before) .stands-for in
+        sound-lines ahead card-ok (c .records) (carried narrow ahead img) (contractsAfter narrow [] (c .before)) (so-far .converted img _ f .1)
+        ∙ ap (λ (z : List ℕ). linesOn ahead (carried narrow ahead z) (c .records)) (sound-image narrow card-ok (c .before) (emptyImage narrow) [] (empty-stands narrow card-ok))

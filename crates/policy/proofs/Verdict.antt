@@ -1,7 +1,7 @@
 -- Causes 8 to 11: the full look at a draft's tables finds what the contracts that they stand for say together.
 use Prim.Native.Nat.{ℕ}
 use mathlib.Core.Path.{_≡_, refl, sym, _∙_, subst}
-use mathlib.Core.Bool.{Bool, true, not}
+use mathlib.Core.Bool.{Bool, true, not, _&&_}
 use mathlib.Core.List.{List, [], _∷_, map}
 use mathlib.Core.List.{List·Memᴰ as In, List·Memᴰ·head as here, List·Memᴰ·not-nil as in-nil, Memᴰ·cast as in-cast}
 use lib.Dec.{T, leb}
@@ -13,15 +13,14 @@ use Rattle.policy.specs.Causes.{_when_}
 use Rattle.policy.specs.Machine.{causes8to11}
 use Rattle.policy.specs.Tables.{Tables, Unmet, Waiting}
 use Rattle.policy.specs.Lookup.{serviceAt, wanted, grantAt}
-use Rattle.policy.specs.Draft.{Draft, callRow, look}
+use Rattle.policy.specs.Draft.{Draft, callRow, grantRow, look}
 use Rattle.policy.specs.Judge.{lookCauses}
-use Rattle.policy.proofs.Sets.{T-eq, implies-i, implies-e, not-i, not-e, nil-is, same-length, every-in, in-every, keep-in, in-keep, once-keep, in-map, map-in, once-map, map-inj, once-of-map}
+use Rattle.policy.proofs.Sets.{T-eq, and-l, and-r, and-i, implies-i, implies-e, not-i, not-e, nil-is, same-length, every-in, in-every, keep-in, in-keep, once-keep, in-map, map-in, once-map, map-inj, once-of-map}
 use Rattle.policy.proofs.Sets.{in-flat, flat-in, once-flat}
 use Rattle.policy.proofs.Equal.{has-tok, tok-has, has-row, row-has}
 use Rattle.policy.proofs.EveryBit.{among}
 use Rattle.policy.proofs.Formed.{Off, grantBit, Formed, ProvidesAt, RowAt, GrantAt, HasContract, Stands}
-use Rattle.policy.proofs.Found.{same-place}
-use Rattle.policy.proofs.Facts.{contract-of, under-i, under-e, need-bits, lawful-of, of-lawful}
+use Rattle.policy.proofs.Facts.{contract-of, under-i, under-e, need-bits, granted-bit, lawful-of, of-lawful}
 
 module _ (L : Layout) (t : Tables) (lost : List Unmet) (ds : List Contract) (g : Formed L t) (st : Stands t lost ds) where
   -- a call is met where its service is on the card
@@ -48,13 +47,6 @@ module _ (L : Layout) (t : Tables) (lost : List Unmet) (ds : List Contract) (g :
   -- the grant that a call of contract c asks for
   abbrev asked : Contract → Row → Row
   asked c r = record { aid = c .aid; tok = r .tok }
-
-  granted-bit : (i j k : ℕ) → T (t .used i) → T (t .provides j k) → (r : Row) → r .aid ≡ t .aid i → r .tok ≡ t .tok j k → GrantAt t j r → T (t .grants j i k)
-  granted-bit i j k u p r e f (GrantAt.bit i′ k′ b e′ f′) =
-      let ei : i′ ≡ i = g .names .aid-inj i′ i (g .grants .by-used i′ j k′ b) u (sym e′ ∙ e) in
-      let ek : k′ ≡ k = g .names .tok-inj j k′ k (g .grants .of-prov i′ j k′ b) p (sym f′ ∙ f) in
-      subst (λ (z : ℕ). T (t .grants j i z)) ek (subst (λ (z : ℕ). T (t .grants j z k′)) ei b)
-  granted-bit i j k u p r e f (GrantAt.row k′ m f′) = absurd (g .waiting .wait-off _ m i u (sym e))
 
   granted : among L (t .calls) (grantBit t) ≡ callsGranted ds
   unfolding callsGranted
@@ -88,7 +80,7 @@ module _ (L : Layout) (t : Tables) (lost : List Unmet) (ds : List Contract) (g :
           (every-in (allowed (c .0)) (c .0 .calls) a (c .2 .calls r .1 (RowAt.bit j k b refl))) (met-i r j k p refl) in
           let d = under-e L t (g .names) st (t .aid j) (λ d. hasRow (asked (c .0) r) (d .grants)) q in
           let ej : d .0 ≡ j = g .names .aid-inj (d .0) j (d .1) (g .names .prov-used j k p) (d .2) in
-          granted-bit i j k ui p (asked (c .0) r) (c .2 .aid) refl
+          granted-bit L t g i j k ui p (asked (c .0) r) (c .2 .aid) refl
           (subst (λ (z : ℕ). GrantAt t z (asked (c .0) r)) ej
           (d .5 .grants (asked (c .0) r) .0 (has-row (asked (c .0) r) (d .3 .grants) (d .6)))))
 
@@ -118,27 +110,27 @@ module _ (L : Layout) (t : Tables) (lost : List Unmet) (ds : List Contract) (g :
   linkOf c r = record { owner = c .aid; row = r }
 
   -- a row of a used package that passes f
-  abbrev OwnRow : (Contract → List Row) → (Row → Bool) → Link → Type 0
-  OwnRow rows f x = (n : ℕ) × T (t .used n) × (x .owner ≡ t .aid n) × ((c : Contract) → HasContract t lost n c → In (x .row) (rows c)) × T (f (x .row))
+  abbrev OwnRow : (Contract → List Row) → (Contract → Row → Bool) → Link → Type 0
+  OwnRow rows f x = (n : ℕ) × T (t .used n) × (x .owner ≡ t .aid n) × ((c : Contract) → HasContract t lost n c → In (x .row) (rows c) × T (f c (x .row)))
 
   -- a list of the tables has as many rows as the contracts have rows of one sort that pass f, where it has a link for each of these and for no other
-  same-count : {A : Type 0} (l : List A) (link : A → Link) (rows : Contract → List Row) (f : Row → Bool)
+  same-count : {A : Type 0} (l : List A) (link : A → Link) (rows : Contract → List Row) (f : Contract → Row → Bool)
       → NoRepeat l → ((x y : A) → In x l → In y l → link x ≡ link y → x ≡ y) → ((c : Contract) → In c ds → NoRepeat (rows c))
       → ((x : A) → In x l → OwnRow rows f (link x))
-      → ((n : ℕ) (c : Contract) → HasContract t lost n c → (r : Row) → In r (rows c) → T (f r) → (x : A) × In x l × (link x ≡ record { owner = t .aid n; row = r }))
-      → length l ≡ length (flat (λ c. map (linkOf c) (keep f (rows c))) ds)
+      → ((n : ℕ) (c : Contract) → HasContract t lost n c → (r : Row) → In r (rows c) → T (f c r) → (x : A) × In x l × (link x ≡ record { owner = t .aid n; row = r }))
+      → length l ≡ length (flat (λ c. map (linkOf c) (keep (f c) (rows c))) ds)
   same-count {A} l link rows f once inj sets to fro =
       sym (length-map l link) ∙ same-length (map link l) (flat links ds) (once-map link l inj once) once-links forth back
     where
       links : Contract → List Link
-      links c = map (linkOf c) (keep f (rows c))
+      links c = map (linkOf c) (keep (f c) (rows c))
 
       owner-is : (c : Contract) (z : Link) → In z (links c) → z .owner ≡ c .aid
-      owner-is c z m = let p = map-in (linkOf c) (keep f (rows c)) m in λ i. p .2 i .owner
+      owner-is c z m = let p = map-in (linkOf c) (keep (f c) (rows c)) m in λ i. p .2 i .owner
 
       once-links : NoRepeat (flat links ds)
       once-links = once-flat links ds (once-of-map (λ c. c .aid) ds (st .one-each))
-          (λ c m. once-map (linkOf c) (keep f (rows c)) (λ r s _ _ e. λ i. e i .row) (once-keep f (rows c) (sets c m)))
+          (λ c m. once-map (linkOf c) (keep (f c) (rows c)) (λ r s _ _ e. λ i. e i .row) (once-keep (f c) (rows c) (sets c m)))
           (λ c d z m n p q. map-inj (λ c. c .aid) ds (st .one-each) m n (sym (owner-is c z p) ∙ owner-is d z q))
 
       forth : (z : Link) → In z (map link l) → In z (flat links ds)
@@ -147,20 +139,20 @@ module _ (L : Layout) (t : Tables) (lost : List Unmet) (ds : List Contract) (g :
           let h = to (x .0) (x .1) in
           let c = contract-of L t (g .names) st (h .0) (h .1) in
           let e : z ≡ linkOf (c .0) (link (x .0) .row) = x .2 ∙ (λ i. record { owner = (h .2 ∙ sym (c .2 .aid)) i; row = link (x .0) .row }) in
-          in-flat links (c .1) (in-cast e (in-map (linkOf (c .0)) (in-keep f (h .3 (c .0) (c .2)) (h .4))))
+          in-flat links (c .1) (in-cast e (in-map (linkOf (c .0)) (in-keep (f (c .0)) (h .3 (c .0) (c .2) .0) (h .3 (c .0) (c .2) .1))))
 
       back : (z : Link) → In z (flat links ds) → In z (map link l)
       back z m =
           let c = flat-in links ds m in
           let h = st .these (c .0) (c .1) in
-          let r = map-in (linkOf (c .0)) (keep f (rows (c .0))) (c .2) in
-          let k = keep-in f (rows (c .0)) (r .1) in
+          let r = map-in (linkOf (c .0)) (keep (f (c .0)) (rows (c .0))) (c .2) in
+          let k = keep-in (f (c .0)) (rows (c .0)) (r .1) in
           let x = fro (h .0) (c .0) (h .2) (r .0) (k .0) (k .1) in
           in-cast (r .2 ∙ (λ i. record { owner = h .2 .aid i; row = r .0 }) ∙ sym (x .2)) (in-map link (x .1))
 
   unmet-count : length (t .unmet) ≡ length (unmetCalls ds)
   unfolding unmetCalls
-  unmet-count = same-count (t .unmet) link (λ c. c .calls) (λ r. not (met ds r)) (g .unmet .unmet-once) inj (λ c m. st .four-sets c m .calls) to
+  unmet-count = same-count (t .unmet) link (λ c. c .calls) (λ _ r. not (met ds r)) (g .unmet .unmet-once) inj (λ c m. st .four-sets c m .calls) to
       (λ n c h r m f. fro n r f (h .calls r .0 m))
     where
       link : Unmet → Link
@@ -171,38 +163,52 @@ module _ (L : Layout) (t : Tables) (lost : List Unmet) (ds : List Contract) (g :
           let ei = g .names .aid-inj (u .caller) (v .caller) (g .unmet .off .off-used u m) (g .unmet .off .off-used v n) (λ i. e i .owner) in
           λ i. record { callee = e i .row .aid; tok = e i .row .tok; caller = ei i }
 
-      to : (u : Unmet) → In u (t .unmet) → OwnRow (λ c. c .calls) (λ r. not (met ds r)) (link u)
-      to u m = (u .caller, g .unmet .off .off-used u m, refl, (λ c h. h .calls (wanted u) .1 (RowAt.row m)), not-i (met ds (wanted u)) (off-met (t .unmet) (g .unmet .off) u m))
+      to : (u : Unmet) → In u (t .unmet) → OwnRow (λ c. c .calls) (λ _ r. not (met ds r)) (link u)
+      to u m = (u .caller, g .unmet .off .off-used u m, refl, (λ c h. (h .calls (wanted u) .1 (RowAt.row m), not-i (met ds (wanted u)) (off-met (t .unmet) (g .unmet .off) u m))))
 
       fro : (n : ℕ) (r : Row) → T (not (met ds r)) → RowAt t (t .calls) (t .unmet) n r → (u : Unmet) × In u (t .unmet) × (link u ≡ record { owner = t .aid n; row = r })
       fro n r f (RowAt.bit j k b e) = absurd (not-e (met ds r) f (met-i r j k (g .calls .of-prov n j k b) e))
       fro n r f (RowAt.row m) = (callRow n r, m, refl)
 
+  -- a grant whose caller and service are on the card does not wait
+  stands-i : (n : ℕ) (c : Contract) → HasContract t lost n c → (r : Row) (i k : ℕ) → T (t .used i) → t .aid i ≡ r .aid → T (t .provides n k) → t .tok n k ≡ r .tok
+      → T (installed ds (r .aid) && hasTok (r .tok) (c .provides))
+  stands-i n c h r i k u e p f = and-i (installed ds (r .aid)) (hasTok (r .tok) (c .provides))
+      (under-i L t (g .names) st (r .aid) (λ c. true) i u e (λ c _ h. tt)) (tok-has (h .provides (r .tok) .1 (ProvidesAt.at k p (sym f))))
+
   waiting-count : length (t .waiting) ≡ length (waitingGrants ds)
   unfolding waitingGrants
   waiting-count = same-count (t .waiting) link (λ c. c .grants) (waits ds) (g .waiting .wait-once) inj (λ c m. st .four-sets c m .grants) to
-      (λ n c h r m f. fro n r f (h .grants r .0 m))
+      (λ n c h r m f. fro n c h r f (h .grants r .0 m))
     where
       link : Waiting → Link
-      link w = record { owner = t .aid (w .callee); row = grantAt t w }
+      link w = record { owner = t .aid (w .callee); row = grantAt w }
 
       inj : (v w : Waiting) → In v (t .waiting) → In w (t .waiting) → link v ≡ link w → v ≡ w
       inj v w m n e =
-          let q = same-place L t (g .names) (v .callee) (v .service) (w .callee) (w .service) (g .waiting .wait-prov v m) (g .waiting .wait-prov w n) (λ i. e i .owner) (λ i. e i .row .tok) in
-          λ i. record { caller = e i .row .aid; callee = q .0 i; service = q .1 i }
+          let ej = g .names .aid-inj (v .callee) (w .callee) (g .waiting .wait-used v m) (g .waiting .wait-used w n) (λ i. e i .owner) in
+          λ i. record { caller = e i .row .aid; callee = ej i; tok = e i .row .tok }
 
       to : (w : Waiting) → In w (t .waiting) → OwnRow (λ c. c .grants) (waits ds) (link w)
       to w m = (
         w .callee,
-        g .names .prov-used (w .callee) (w .service) (g .waiting .wait-prov w m),
+        g .waiting .wait-used w m,
         refl,
-        (λ c h. h .grants (grantAt t w) .1 (GrantAt.row (w .service) m refl)),
-        not-i (installed ds (w .caller)) (λ h. let p = under-e L t (g .names) st (w .caller) (λ c. true) h in g .waiting .wait-off w m (p .0) (p .1) (p .2)),
+        (λ c h. (h .grants (grantAt w) .1 (GrantAt.row m), not-i (installed ds (w .caller) && hasTok (w .tok) (c .provides)) (λ x. off c h x))),
       )
+        where
+          off : (c : Contract) → HasContract t lost (w .callee) c → T (installed ds (w .caller) && hasTok (w .tok) (c .provides)) → ⊥
+          off c h x = go (h .provides (w .tok) .0 (has-tok (w .tok) (c .provides) (and-r (installed ds (w .caller)) (hasTok (w .tok) (c .provides)) x)))
+            where
+              go : ProvidesAt t (w .callee) (w .tok) → ⊥
+              go (ProvidesAt.at k p e) =
+                  let q = under-e L t (g .names) st (w .caller) (λ c. true) (and-l (installed ds (w .caller)) (hasTok (w .tok) (c .provides)) x) in
+                  g .waiting .wait-off w m (q .0) k (q .1) (q .2) p (sym e)
 
-      fro : (n : ℕ) (r : Row) → T (waits ds r) → GrantAt t n r → (w : Waiting) × In w (t .waiting) × (link w ≡ record { owner = t .aid n; row = r })
-      fro n r f (GrantAt.bit i k b e _) = absurd (not-e (installed ds (r .aid)) f (under-i L t (g .names) st (r .aid) (λ c. true) i (g .grants .by-used i n k b) (sym e) (λ c _ h. tt)))
-      fro n r f (GrantAt.row k m e) = (record { caller = r .aid; callee = n; service = k }, m, λ i. record { owner = t .aid n; row = record { aid = r .aid; tok = sym e i } })
+      fro : (n : ℕ) (c : Contract) → HasContract t lost n c → (r : Row) → T (waits ds c r) → GrantAt t n r → (w : Waiting) × In w (t .waiting) × (link w ≡ record { owner = t .aid n; row = r })
+      fro n c h r f (GrantAt.bit i k b e q) = absurd (not-e (installed ds (r .aid) && hasTok (r .tok) (c .provides)) f
+          (stands-i n c h r i k (g .grants .by-used i n k b) (sym e) (g .grants .of-prov i n k b) (sym q)))
+      fro n c h r f (GrantAt.row m) = (grantRow n r, m, refl)
 
 pub looks-agree : (L : Layout) (d : Draft) (ds : List Contract) → Formed L (d .tables)
     → Off (d .tables .used) (d .tables .aid) (d .tables .tok) (d .tables .provides) (d .lost) → Stands (d .tables) (d .lost) ds

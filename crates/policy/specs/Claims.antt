@@ -8,9 +8,9 @@ use mathlib.Core.List.{List·Memᴰ as In}
 use mathlib.Core.Option.{none, some}
 use lib.Dec.{T}
 use lib.ListN.{length, take, drop}
-use Rattle.policy.specs.Lists.{orElse}
-use Rattle.policy.specs.Contract.{Row, Contract, validAid, lawful, unmetCalls, waitingGrants}
-use Rattle.policy.specs.Layout.{Layout, base, small, size}
+use Rattle.policy.specs.Lists.{NoRepeat, orElse}
+use Rattle.policy.specs.Contract.{Row, Contract, ownGrants, validAid, lawful, unmetCalls, waitingGrants}
+use Rattle.policy.specs.Layout.{Layout, base, narrow, small, size}
 use Rattle.policy.specs.Record.{Request, load, parse, proper, firstAid}
 use Rattle.policy.specs.Causes.{Cause, _when_, answer}
 use Rattle.policy.specs.Machine.{machine, effect, causes4to7, causes3to11}
@@ -31,7 +31,7 @@ MarkedCases =
 
 -- those over R-7's change
 abbrev pub MarkedOver : Type 0
-MarkedOver = map (λ c. linesFrom small (imageAfter base (emptyImage base) (c .before)) (c .records)) casesOver ≡ map (λ c. c .lines) casesOver
+MarkedOver = map (λ c. linesFrom narrow (imageAfter base (emptyImage base) (c .before)) (c .records)) casesOver ≡ map (λ c. c .lines) casesOver
 
 -- ---- 2. one record: equal answers, and the image after it stands for the machine's contracts after it
 abbrev pub Agreement : Layout → Type 0
@@ -57,6 +57,10 @@ pub record HistoryOf (L : Layout) (ss : List (List ℕ)) : Type 0 where
 abbrev pub History : Layout → Type 0
 History L = (ss : List (List ℕ)) → HistoryOf L ss
 
+-- R-2: 'Lawful cards are what they were': a grant of a service that its package does not provide makes no odds
+abbrev pub LawfulAsBefore : Type 0
+LawfulAsBefore = (cs : List Contract) → NoRepeat (map (λ c. c .aid) cs) → lawful cs ≡ lawful (map ownGrants cs)
+
 -- ---- 4. demand 2
 -- 'fit the stated limits'
 pub record FitsLimits (L : Layout) (ds : List Contract) : Type 0 where
@@ -67,9 +71,9 @@ pub record FitsLimits (L : Layout) (ds : List Contract) : Type 0 where
 
 -- 'a well-formed record free of causes 3 to 6 is accepted exactly when the contracts it would leave installed' are lawful and fit
 abbrev pub AcceptedExactly : Layout → Type 0
-AcceptedExactly L = (img s : List ℕ) (cs : List Contract) (q : Request) → StandsFor L img cs → parse L s ≡ some q → T (proper (q .aid) (q .change))
+AcceptedExactly L = (img s : List ℕ) (cs : List Contract) (q : Request) → StandsFor L img cs → parse L s ≡ some q → T (proper L (q .aid) (q .change))
     → ((k : Cause) → In k (causes4to7 L cs (q .aid) (q .change)) → k .number < 7 → T (k .applies) → ⊥)
-    → (judge L img s .answered ≡ 0) ↔ (T (lawful (effect cs (q .aid) (q .change))) × FitsLimits L (effect cs (q .aid) (q .change)))
+    → (judge L img s .answered ≡ 0) ↔ (T (lawful (effect L cs (q .aid) (q .change))) × FitsLimits L (effect L cs (q .aid) (q .change)))
 
 -- the causes 2 to 11 of a record's bytes, in order, by the contracts held
 abbrev pub allCauses : Layout → List Contract → List ℕ → List Cause
@@ -93,7 +97,7 @@ SoundStands L = (img : List ℕ) → T (sound L img) → (cs : List Contract) ×
 
 -- ---- 5. short check = full look
 abbrev pub ShortIsFull : Layout → Type 0
-ShortIsFull L = (img s : List ℕ) (q : Request) → T (sound L img) → parse L s ≡ some q → T (proper (q .aid) (q .change))
+ShortIsFull L = (img s : List ℕ) (q : Request) → T (sound L img) → parse L s ≡ some q → T (proper L (q .aid) (q .change))
     → answer (tableCauses L (decode L img) (q .aid) (q .change)) ≡ 0
     → look L (draft L (decode L img) (q .aid) (q .change)) ≡ shortLook L (decode L img) (q .aid) (q .change)
 
@@ -102,7 +106,7 @@ ShortIsFull L = (img s : List ℕ) (q : Request) → T (sound L img) → parse L
 pub record ReadsOut (L : Layout) (img : List ℕ) (n : ℕ) : Type 0 where
   pub parses : (c : Contract) → c ≡ contractAt L (decode L img) n
       → parse L (loadRecord L c) ≡ some (record { aid = c .aid; change = load (c .provides) (c .calls) (c .grants) (c .needs) })
-  pub is-proper : (c : Contract) → c ≡ contractAt L (decode L img) n → T (proper (c .aid) (load (c .provides) (c .calls) (c .grants) (c .needs)))
+  pub is-proper : (c : Contract) → c ≡ contractAt L (decode L img) n → T (proper L (c .aid) (load (c .provides) (c .calls) (c .grants) (c .needs)))
   pub loads-again : (c : Contract) → c ≡ contractAt L (decode L img) n
       → (img₂ : List ℕ) → judge L img₂ (loadRecord L c) .answered ≡ 0
       → (m : ℕ) × T (decode L (judge L img₂ (loadRecord L c) .bytes) .used m) × SameContract c (contractAt L (decode L (judge L img₂ (loadRecord L c) .bytes)) m)

@@ -47,6 +47,10 @@ hasTok s l = exists (eqTok s) l
 abbrev pub hasRow : Row → List Row → Bool
 hasRow r l = exists (eqRow r) l
 
+-- the contract with grants of provided services alone, as all were before R-2
+abbrev pub ownGrants : Contract → Contract
+ownGrants c = record { aid = c .aid; provides = c .provides; calls = c .calls; grants = keep (λ r. hasTok (r .tok) (c .provides)) (c .grants); needs = c .needs }
+
 -- a row of a package: the package's AID, and the row
 pub record Link : Type 0 where
   pub owner : Aid
@@ -65,9 +69,9 @@ module _ (cs : List Contract) where
   abbrev pub met : Row → Bool
   met r = under (r .aid) (λ c. hasTok (r .tok) (c .provides))
 
-  -- 'A grant waits while its caller is not installed.'
-  abbrev pub waits : Row → Bool
-  waits g = not (installed (g .aid))
+  -- 'A grant waits while its caller is not installed'; R-2: 'it waits until caller and service are both on the card'
+  abbrev pub waits : Contract → Row → Bool
+  waits c g = not (installed (g .aid) && hasTok (g .tok) (c .provides))
 
   -- the provider of r grants it to a
   abbrev pub grantedTo : Aid → Row → Bool
@@ -88,4 +92,4 @@ module _ (cs : List Contract) where
   unmetCalls = flat (λ c. map (λ r. record { owner = c .aid; row = r }) (keep (λ r. not (met r)) (c .calls))) cs
 
   unfoldable pub waitingGrants : List Link
-  waitingGrants = flat (λ c. map (λ r. record { owner = c .aid; row = r }) (keep waits (c .grants))) cs
+  waitingGrants = flat (λ c. map (λ r. record { owner = c .aid; row = r }) (keep (waits c) (c .grants))) cs

@@ -10,7 +10,7 @@ use Rattle.policy.specs.Contract.{Aid, eqAid, Tok, eqTok, Row, Contract,
 use Rattle.policy.specs.Layout.{Layout}
 use Rattle.policy.specs.Record.{Change, load, remove, addService, removeService, addCall, removeCall, addGrant, removeGrant, addNeed, removeNeed}
 use Rattle.policy.specs.Tables.{Tables, Unmet, Waiting, noTok}
-use Rattle.policy.specs.Lookup.{Place, serviceAt, numbers, places, numberOf, serviceOf, serverOf, freeNumber, freeService}
+use Rattle.policy.specs.Lookup.{Place, Spot, serviceAt, numbers, places, numberOf, serviceOf, serverOf, spotOf, freeNumber, freeService}
 use Rattle.policy.specs.Sound.{eqUnmet, eqWaiting, everyBit}
 
 -- the tables after the change, and the needs that it leaves unmet
@@ -25,6 +25,10 @@ kept t = record { tables = t; lost = [] }
 -- the row of a call by package number i
 abbrev pub callRow : ℕ → Row → Unmet
 callRow i r = record { callee = r .aid; tok = r .tok; caller = i }
+
+-- the row of a grant by package number j
+abbrev pub grantRow : ℕ → Row → Waiting
+grantRow j r = record { caller = r .aid; callee = j; tok = r .tok }
 
 abbrev pub hasUnmet : Unmet → List Unmet → Bool
 hasUnmet u l = exists (eqUnmet u) l
@@ -102,18 +106,25 @@ module _ (L : Layout) (t : Tables) where
   removeNeedAt i r none = kept t
   removeNeedAt i r (some p) = kept (withNeeds (put3 i (p .callee) (p .service) false (t .needs)) t)
 
-  -- ---- kinds 7, 8: a grant of service k of package j to the AID a; it is a bit where a is installed
-  abbrev pub addGrantAt : ℕ → Aid → ℕ → Option ℕ → Draft
-  addGrantAt j a k none = kept (withGrants (t .grants) (t .waiting ++ (record { caller = a; callee = j; service = k } ∷ [])) t)
-  addGrantAt j a k (some i) = kept (withGrants (put3 j i k true (t .grants)) (t .waiting) t)
+  -- ---- kinds 7, 8: a grant of package j; it is a bit where caller and service are on the card
+  abbrev pub addGrantAt : ℕ → Row → Option Spot → Draft
+  addGrantAt j r none = kept (withGrants (t .grants) (t .waiting ++ (grantRow j r ∷ [])) t)
+  addGrantAt j r (some p) = kept (withGrants (put3 j (p .caller) (p .service) true (t .grants)) (t .waiting) t)
 
-  abbrev pub removeGrantAt : ℕ → Aid → ℕ → Option ℕ → Draft
-  removeGrantAt j a k none = kept (withGrants (t .grants) (keep (λ w. not (eqWaiting (record { caller = a; callee = j; service = k }) w)) (t .waiting)) t)
-  removeGrantAt j a k (some i) = kept (withGrants (put3 j i k false (t .grants)) (t .waiting) t)
+  abbrev pub removeGrantAt : ℕ → Row → Option Spot → Draft
+  removeGrantAt j r none = kept (withGrants (t .grants) (keep (λ w. not (eqWaiting (grantRow j r) w)) (t .waiting)) t)
+  removeGrantAt j r (some p) = kept (withGrants (put3 j (p .caller) (p .service) false (t .grants)) (t .waiting) t)
 
-  -- ---- kind 3: service k of package j, with tokens s and grants to the AIDs of l; unmet calls on it become bits
+  -- ---- kind 3: service k of package j, with tokens s and grants to the AIDs of l; unmet calls on it and waiting grants of it become bits
   abbrev pub asksFor : Aid → Tok → Unmet → Bool
   asksFor a s u = eqAid (u .callee) a && eqTok (u .tok) s
+
+  abbrev pub installedAid : Aid → Bool
+  installedAid a = isSome (numberOf L t a)
+
+  -- a grant of that service by package j waits and its caller is on the card
+  abbrev pub nowGranted : ℕ → Tok → Waiting → Bool
+  nowGranted j s w = (eqb (w .callee) j && eqTok (w .tok) s) && installedAid (w .caller)
 
   abbrev pub addServiceAt : ℕ → ℕ → Tok → List Aid → Draft
   addServiceAt j k s l = kept (record {
@@ -122,10 +133,13 @@ module _ (L : Layout) (t : Tables) where
     tok = put2 j k s (t .tok);
     provides = put2 j k true (t .provides);
     calls = λ x y z. t .calls x y z || (eqb y j && eqb z k && hasUnmet (record { callee = t .aid j; tok = s; caller = x }) (t .unmet));
-    grants = λ x y z. t .grants x y z || (eqb x j && eqb z k && (t .used y && exists (eqAid (t .aid y)) l));
+    grants = λ x y z. t .grants x y z
+        || (eqb x j && eqb z k && (t .used y && (exists (eqAid (t .aid y)) l || hasWaiting (record { caller = t .aid y; callee = j; tok = s }) (t .waiting))));
     needs = t .needs;
     unmet = keep (λ u. not (asksFor (t .aid j) s u)) (t .unmet);
-    waiting = t .waiting ++ map (λ a. record { caller = a; callee = j; service = k }) (keep (λ a. not (isSome (numberOf L t a))) l);
+    waiting = keep (λ w. not (nowGranted j s w)) (t .waiting)
+        ++ map (λ a. record { caller = a; callee = j; tok = s })
+        (keep (λ a. not (installedAid a || hasWaiting (record { caller = a; callee = j; tok = s }) (t .waiting))) l);
   })
 
   -- ---- kinds 2 and 4: what calls or needs of others on the services d of package j leave behind, 'by caller number then
@@ -134,7 +148,13 @@ module _ (L : Layout) (t : Tables) where
   leftBy b j d =
       flat (λ i. map (λ k. callRow i (serviceAt t j k)) (keep (λ k. b i j k && d k) (places L))) (numbers L)
 
-  -- kind 4: service k of package j goes; 'its grants go too'
+  -- kind 4: service k of package j goes; 'its grants go too'. R-2: 'kind 4 keeps the grants, which wait behind the rows already there,
+  -- by caller number'
+  abbrev pub waitingWithout : ℕ → ℕ → List Waiting
+  waitingWithout j k = cond (L .early)
+      (t .waiting ++ map (λ i. record { caller = t .aid i; callee = j; tok = t .tok j k }) (keep (λ i. t .grants j i k) (numbers L)))
+      (keep (λ w. not (eqb (w .callee) j && eqTok (w .tok) (t .tok j k))) (t .waiting))
+
   abbrev pub removeServiceAt : ℕ → ℕ → Draft
   removeServiceAt j k = record {
     tables = record {
@@ -146,7 +166,7 @@ module _ (L : Layout) (t : Tables) where
       grants = λ x y z. t .grants x y z && not (eqb x j && eqb z k);
       needs = λ x y z. t .needs x y z && not (eqb y j && eqb z k);
       unmet = t .unmet ++ leftBy (t .calls) j (λ z. eqb z k);
-      waiting = keep (λ w. not (eqb (w .callee) j && eqb (w .service) k)) (t .waiting);
+      waiting = waitingWithout j k;
     };
     lost = leftBy (t .needs) j (λ z. eqb z k);
   }
@@ -164,7 +184,7 @@ module _ (L : Layout) (t : Tables) where
       needs = λ x y z. t .needs x y z && not (eqb x n || eqb y n);
       unmet = keep (λ u. not (eqb (u .caller) n)) (t .unmet) ++ leftBy (t .calls) n (λ z. true);
       waiting = keep (λ w. not (eqb (w .callee) n)) (t .waiting)
-          ++ flat (λ j. map (λ k. record { caller = t .aid n; callee = j; service = k }) (keep (λ k. t .grants j n k) (places L))) (numbers L);
+          ++ flat (λ j. map (λ k. record { caller = t .aid n; callee = j; tok = t .tok j k }) (keep (λ k. t .grants j n k) (places L))) (numbers L);
     };
     lost = leftBy (t .needs) n (λ z. true);
   }
@@ -198,10 +218,6 @@ module _ (L : Layout) (t : Tables) where
     abbrev pub notServed : Row → Bool
     notServed r = not (isSome (serverOf L loadedNames r))
 
-    -- the number of the service with tokens s in record order
-    abbrev pub loadedService : Tok → ℕ
-    loadedService s = orElse (serviceOf L loadedNames n s) 0 (λ k. k)
-
     abbrev pub loadAt : Draft
     loadAt = record {
       tables = record {
@@ -212,12 +228,12 @@ module _ (L : Layout) (t : Tables) where
         calls = λ x y z. cond (eqb x n) (namedIn (c .calls) y z)
             (cond (eqb y n) (loadedProvides n z && hasUnmet (callRow x (serviceAt loadedNames n z)) (t .unmet)) (t .calls x y z));
         grants = λ x y z. cond (eqb x n) (loadedProvides n z && (t .used y && hasRow (record { aid = t .aid y; tok = loadedTok n z }) (c .grants)))
-            (cond (eqb y n) (hasWaiting (record { caller = c .aid; callee = x; service = z }) (t .waiting)) (t .grants x y z));
+            (cond (eqb y n) (t .provides x z && hasWaiting (record { caller = c .aid; callee = x; tok = t .tok x z }) (t .waiting)) (t .grants x y z));
         needs = λ x y z. cond (eqb x n) (namedIn (c .needs) y z) (t .needs x y z);
         unmet = keep (λ u. not (eqAid (u .callee) (c .aid) && hasTok (u .tok) (c .provides))) (t .unmet)
             ++ map (callRow n) (keep notServed (c .calls));
-        waiting = keep (λ w. not (eqAid (w .caller) (c .aid))) (t .waiting)
-            ++ map (λ r. record { caller = r .aid; callee = n; service = loadedService (r .tok) }) (keep (λ r. not (isSome (numberOf L t (r .aid)))) (c .grants));
+        waiting = keep (λ w. not (eqAid (w .caller) (c .aid) && isSome (serviceOf L t (w .callee) (w .tok)))) (t .waiting)
+            ++ map (grantRow n) (keep (λ r. not (isSome (numberOf L t (r .aid)) && hasTok (r .tok) (c .provides))) (c .grants));
       };
       lost = map (callRow n) (keep notServed (c .needs));
     }
@@ -230,15 +246,15 @@ module _ (L : Layout) (t : Tables) where
   atService j s f = orElse (serviceOf L t j s) (kept t) f
 
   unfoldable pub draft : Aid → Change → Draft
-  unfolding numberOf serviceOf serverOf freeNumber freeService
+  unfolding numberOf serviceOf serverOf spotOf freeNumber freeService
   draft a (load p c g n) = orElse (freeNumber L t) (kept t) (λ m. loadAt m (record { aid = a; provides = p; calls = c; grants = g; needs = n }))
   draft a remove = atPackage a removeAt
   draft a (addService s l) = atPackage a (λ j. orElse (freeService L t j) (kept t) (λ k. addServiceAt j k s l))
   draft a (removeService s) = atPackage a (λ j. atService j s (removeServiceAt j))
   draft a (addCall r) = atPackage a (λ i. addCallAt i r (serverOf L t r))
   draft a (removeCall r) = atPackage a (λ i. removeCallAt i r (serverOf L t r))
-  draft a (addGrant r) = atPackage a (λ j. atService j (r .tok) (λ k. addGrantAt j (r .aid) k (numberOf L t (r .aid))))
-  draft a (removeGrant r) = atPackage a (λ j. atService j (r .tok) (λ k. removeGrantAt j (r .aid) k (numberOf L t (r .aid))))
+  draft a (addGrant r) = atPackage a (λ j. addGrantAt j r (spotOf L t j r))
+  draft a (removeGrant r) = atPackage a (λ j. removeGrantAt j r (spotOf L t j r))
   draft a (addNeed r) = atPackage a (λ i. addNeedAt i r (serverOf L t r))
   draft a (removeNeed r) = atPackage a (λ i. removeNeedAt i r (serverOf L t r))
 

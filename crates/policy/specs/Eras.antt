@@ -2,14 +2,17 @@
 -- change; what a history had before was judged by the rules of then, and the machine goes on with the contracts it holds.'
 use Prim.Native.Nat.{ℕ, _≤_}
 use mathlib.Core.Path.{_≡_}
-use mathlib.Core.List.{List, [], _∷_, _++_}
-use lib.Dec.{T}
+use mathlib.Core.Bool.{_&&_, cond}
+use mathlib.Core.List.{List, [], _∷_, _++_, map}
+use lib.Dec.{T, eqb}
+use lib.ListN.{length}
 use Rattle.policy.specs.Contract.{Contract}
-use Rattle.policy.specs.Layout.{Layout, LayoutOk, base, narrow}
+use Rattle.policy.specs.Layout.{Layout, LayoutOk, base, narrow, ahead, size}
 use Rattle.policy.specs.Tables.{decode, encode, emptyImage}
 use Rattle.policy.specs.Sound.{sound}
-use Rattle.policy.specs.Judge.{refusal, judge}
-use Rattle.policy.specs.History.{AllAllowed, StandsFor, answers, imageAfter, machineAnswers, contractsAfter}
+use Rattle.policy.specs.Judge.{Out, refusal, judge, check, readOut}
+use Rattle.policy.specs.History.{AllValid, AllAllowed, StandsFor, answers, imageAfter, machineAnswers, contractsAfter}
+use Rattle.policy.specs.Marked.{linesFrom, casesConverted}
 use Rattle.policy.specs.Claims.{CallsGranted, NeedsPresent}
 
 -- ---- the passage from the rules L to the rules M
@@ -17,6 +20,11 @@ use Rattle.policy.specs.Claims.{CallsGranted, NeedsPresent}
 unfoldable pub carried : Layout → Layout → List ℕ → List ℕ
 unfolding decode encode
 carried L M img = encode M (decode L img)
+
+-- a converter: a sound image of L into a buffer of M's size, 'else 1'
+unfoldable pub convert : Layout → Layout → List ℕ → List ℕ → Out
+unfolding sound carried
+convert L M img b = cond (sound L img && eqb (length b) (size M)) (record { answered = 0; second = 0; bytes = carried L M img }) (refusal 1 255 b)
 
 -- M has room for what stands under L
 pub record Widens (L M : Layout) : Type 0 where
@@ -38,6 +46,7 @@ pub record SameBytes (L M : Layout) : Type 0 where
   pub width : L .width ≡ M .width
   pub capacity : L .capacity ≡ M .capacity
   pub header : L .header ≡ M .header
+  pub early : L .early ≡ M .early
 
 -- ---- histories over changes of the rules: records under the first rules, then the later eras, each on the image that the last one left
 pub record Era : Type 0 where
@@ -95,6 +104,12 @@ pub record LeftOut (L : Layout) (img : List ℕ) : Type 0 where
   pub unsound : T (sound L img) → ⊥
   pub refuses : (ss : List (List ℕ)) (s : List ℕ) → judge L (imageAfter L img ss) s ≡ refusal 1 255 img
 
+-- every entry that takes an image gives 1, and nothing changes
+pub record RefusedAll (L : Layout) (img : List ℕ) : Type 0 where
+  pub judging : (s : List ℕ) → judge L img s ≡ refusal 1 255 img
+  pub checking : check L img ≡ refusal 1 255 img
+  pub reading : (n : ℕ) (out : List ℕ) → readOut L img n out ≡ refusal 1 0 out
+
 -- where the two write the same bytes the image stays as it is: where the rules of M allow the contracts that it stands for it stands
 -- for them, else the card is left out; the check tells which
 pub record Stays (L M : Layout) : Type 0 where
@@ -103,8 +118,20 @@ pub record Stays (L M : Layout) : Type 0 where
   pub goes-on : (img : List ℕ) (cs : List Contract) → StandsFor L img cs → AllAllowed M cs → StandsFor M img cs
   pub left-out : (img : List ℕ) (cs : List Contract) → StandsFor L img cs → (AllAllowed M cs → ⊥) → LeftOut M img
 
--- ---- the card of 1,094 bytes so far: records by document 01's rules, R-7's change, records by its rules
--- the image and the contracts at the change
+-- a converter answers 0 with 0 and writes the carried image, or 1 with 255 and writes nothing
+pub record Converts (L M : Layout) (img b : List ℕ) : Type 0 where
+  pub taken : T (sound L img) → length b ≡ size M → convert L M img b ≡ record { answered = 0; second = 0; bytes = carried L M img }
+  pub not-sound : (T (sound L img) → ⊥) → convert L M img b ≡ refusal 1 255 b
+  pub not-sized : (length b ≡ size M → ⊥) → convert L M img b ≡ refusal 1 255 b
+
+-- the marked cases over R-2's conversion
+abbrev pub MarkedConverted : Type 0
+MarkedConverted =
+    map (λ c. linesFrom ahead (carried narrow ahead (imageAfter narrow (emptyImage narrow) (c .before))) (c .records)) casesConverted
+    ≡ map (λ c. c .lines) casesConverted
+
+-- ---- the card of eight packages so far: records by document 01's rules, R-7's change, records by its rules, R-2's conversion, records by its rules
+-- the image and the contracts at R-7's change
 abbrev pub imageThen : List (List ℕ) → List ℕ
 imageThen ss = imageAfter base (emptyImage base) ss
 
@@ -112,11 +139,17 @@ abbrev pub contractsThen : List (List ℕ) → List Contract
 contractsThen ss = contractsAfter base [] ss
 
 pub record SoFar : Type 0 where
-  -- demand 3, where the card then holds no method token of 128 or more
-  pub history : (ss ts : List (List ℕ)) → AllAllowed narrow (contractsThen ss) → HistoryOver base (emptyImage base) [] ss (record { rules = narrow; records = ts } ∷ [])
-  -- nothing is converted, and the check tells whether it does
+  -- demand 3, where the card at R-7's change holds no method token of 128 or more
+  pub history : (ss ts us : List (List ℕ)) → AllValid narrow (contractsThen ss)
+      → HistoryOver base (emptyImage base) [] ss (record { rules = narrow; records = ts } ∷ record { rules = ahead; records = us } ∷ [])
+  -- R-7: nothing is converted, and the check tells whether it does
   pub same-image : (ss : List (List ℕ)) → carried base narrow (imageThen ss) ≡ imageThen ss
-  pub told : (ss : List (List ℕ)) → T (sound narrow (imageThen ss)) → AllAllowed narrow (contractsThen ss)
-  pub goes-on : (ss : List (List ℕ)) → AllAllowed narrow (contractsThen ss) → StandsFor narrow (imageThen ss) (contractsThen ss)
+  pub told : (ss : List (List ℕ)) → T (sound narrow (imageThen ss)) → AllValid narrow (contractsThen ss)
+  pub goes-on : (ss : List (List ℕ)) → AllValid narrow (contractsThen ss) → StandsFor narrow (imageThen ss) (contractsThen ss)
   -- where it holds one
-  pub left-out : (ss : List (List ℕ)) → (AllAllowed narrow (contractsThen ss) → ⊥) → LeftOut narrow (imageThen ss)
+  pub left-out : (ss : List (List ℕ)) → (AllValid narrow (contractsThen ss) → ⊥) → LeftOut narrow (imageThen ss)
+  -- R-2: 'sound version 01 images, numbers and list order kept': the tables stay, and so do the contracts;
+  pub converted : (img : List ℕ) (cs : List Contract) → StandsFor narrow img cs
+      → (decode ahead (carried narrow ahead img) ≡ decode narrow img) × StandsFor ahead (carried narrow ahead img) cs
+  -- 'the engine gives 1 for them'
+  pub refused : (img : List ℕ) → T (sound narrow img) → RefusedAll ahead img

@@ -29,11 +29,19 @@ pub record FourSets (c : Contract) : Type 0 where
   pub grants : NoRepeat (c .grants)
   pub needs : NoRepeat (c .needs)
 
--- the rules of L allow the contract: its method tokens are L's. Needs are among the calls
-pub record Allowed (L : Layout) (c : Contract) : Type 0 where
+-- R-7: the method tokens of the contract are L's. Needs are among the calls
+pub record ValidTokens (L : Layout) (c : Contract) : Type 0 where
   pub provides : (s : Tok) → In s (c .provides) → ValidTok L s
   pub calls : (r : Row) → In r (c .calls) → ValidTok L (r .tok)
   pub grants : (r : Row) → In r (c .grants) → ValidTok L (r .tok)
+
+-- the rules of L allow the contract: its method tokens are L's, and before R-2 'granted services are among those provided'
+pub record Allowed (L : Layout) (c : Contract) : Type 0 where
+  pub tokens : ValidTokens L c
+  pub own : (T (L .early) → ⊥) → (r : Row) → In r (c .grants) → In (r .tok) (c .provides)
+
+abbrev pub AllValid : Layout → List Contract → Type 0
+AllValid L cs = (c : Contract) → In c cs → ValidTokens L c
 
 abbrev pub AllAllowed : Layout → List Contract → Type 0
 AllAllowed L cs = (c : Contract) → In c cs → Allowed L c

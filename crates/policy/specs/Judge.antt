@@ -59,7 +59,7 @@ module _ (L : Layout) where
     tableCauses a (removeCall r) = 5 when absent a ∷ 6 when not (holds a (λ k. hasRow r (k .calls))) ∷ []
     tableCauses a (addGrant r) =
         5 when absent a
-        ∷ 6 when (not (holds a (λ k. hasTok (r .tok) (k .provides))) || holds a (λ k. hasRow r (k .grants)))
+        ∷ 6 when (not (L .early || holds a (λ k. hasTok (r .tok) (k .provides))) || holds a (λ k. hasRow r (k .grants)))
         ∷ []
     tableCauses a (removeGrant r) = 5 when absent a ∷ 6 when not (holds a (λ k. hasRow r (k .grants))) ∷ []
     tableCauses a (addNeed r) =
@@ -71,7 +71,7 @@ module _ (L : Layout) where
   -- every cause of a record that was read, in order
   abbrev pub judgeCauses : Tables → Request → List Cause
   judgeCauses t q =
-      3 when not (proper (q .aid) (q .change)) ∷ tableCauses t (q .aid) (q .change) ++ lookCauses (look L (draft L t (q .aid) (q .change)))
+      3 when not (proper L (q .aid) (q .change)) ∷ tableCauses t (q .aid) (q .change) ++ lookCauses (look L (draft L t (q .aid) (q .change)))
 
   -- ---- judging a record on an image
   abbrev pub judged : List ℕ → ℕ → Tables → ℕ → Out

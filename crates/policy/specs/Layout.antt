@@ -1,6 +1,7 @@
 -- A card's sizes and rules, as a value: where the parts of its image stand, and what its records and contracts may hold.
 use Prim.Native.Nat.{ℕ, _+_, _*_, _-_, _^_, _≤_, _<_}
 use mathlib.Core.Path.{_≡_}
+use mathlib.Core.Bool.{Bool, true, false, cond}
 use mathlib.Core.List.{List, [], _∷_}
 use lib.ListN.{length}
 
@@ -22,46 +23,54 @@ pub record Layout : Type 0 where
   pub mostCallers : ℕ
   -- method tokens are below this
   pub methods : ℕ
+  -- grants may be given before the service exists; the rows of waiting grants hold tokens, else service numbers
+  pub early : Bool
 
--- the card of 1,094 bytes, with method tokens below m
-abbrev pub cardOf : ℕ → Layout
-cardOf m = record {
+-- the card of eight packages, with method tokens below m
+abbrev pub cardOf : ℕ → Bool → Layout
+cardOf m e = record {
   packages = 8;
   services = 8;
   width = 1;
   capacity = 16;
-  header = 4 ∷ 70 ∷ 1 ∷ [];
+  header = cond e (4 ∷ 86 ∷ 2 ∷ []) (4 ∷ 70 ∷ 1 ∷ []);
   version = 1;
   countWidth = 1;
   mostRows = 72;
   mostCallers = 32;
   methods = m;
+  early = e;
 }
 
--- its rules by time: document 01's, 'Each token may be 0 to 255';
+-- its rules by time: document 01's, 'Each token may be 0 to 255', in an image of 1,094 bytes;
 abbrev pub base : Layout
-base = cardOf 256
+base = cardOf 256 false
 
 -- R-7's, 'Method tokens stop at 127';
 abbrev pub narrow : Layout
-narrow = cardOf 128
+narrow = cardOf 128 false
+
+-- R-2's, 'Grants given before the service exists', in an image of 1,110 bytes;
+abbrev pub ahead : Layout
+ahead = cardOf 128 true
 
 -- and those in force
 abbrev pub small : Layout
-small = narrow
+small = ahead
 
--- bytes of an AID's place, of a row of unmet calls and of a row of waiting grants
+-- bytes of an AID's place and of a row of unmet calls
 abbrev pub aidSize : ℕ
 aidSize = 17
 
 abbrev pub unmetSize : ℕ
 unmetSize = 20
 
-abbrev pub waitingSize : ℕ
-waitingSize = 19
-
 -- ---- where the parts stand
 module _ (L : Layout) where
+  -- bytes of a row of waiting grants
+  abbrev pub waitingSize : ℕ
+  waitingSize = cond (L .early) 20 19
+
   abbrev pub usedAt : ℕ
   usedAt = 3
 

@@ -18,12 +18,17 @@ abbrev pub wanted : Unmet → Row
 wanted u = record { aid = u .callee; tok = u .tok }
 
 -- a grant that waits, in full
-abbrev pub grantAt : Tables → Waiting → Row
-grantAt t w = record { aid = w .caller; tok = t .tok (w .callee) (w .service) }
+abbrev pub grantAt : Waiting → Row
+grantAt w = record { aid = w .caller; tok = w .tok }
 
 -- package and service number
 pub record Place : Type 0 where
   pub callee : ℕ
+  pub service : ℕ
+
+-- a caller's number, and the number of a service that is granted to it
+pub record Spot : Type 0 where
+  pub caller : ℕ
   pub service : ℕ
 
 -- the package numbers of a card, and the service numbers of a package
@@ -50,6 +55,11 @@ module _ (L : Layout) (t : Tables) where
   unfolding numberOf serviceOf
   serverOf r = orElse (numberOf (r .aid)) none (λ j. orElse (serviceOf j (r .tok)) none (λ k. some (record { callee = j; service = k })))
 
+  -- where a grant of package j stands as a bit: caller and service are both on the card
+  unfoldable pub spotOf : ℕ → Row → Option Spot
+  unfolding numberOf serviceOf
+  spotOf j r = orElse (numberOf (r .aid)) none (λ i. orElse (serviceOf j (r .tok)) none (λ k. some (record { caller = i; service = k })))
+
   -- 'the lowest unused package number', and 'service number'
   unfoldable pub freeNumber : Option ℕ
   freeNumber = first (λ n. not (t .used n)) (numbers L)
@@ -67,6 +77,6 @@ module _ (L : Layout) (t : Tables) where
     calls = flat (λ j. map (serviceAt t j) (keep (t .calls n j) (places L))) (numbers L)
         ++ map wanted (keep (λ u. eqb (u .caller) n) (t .unmet));
     grants = flat (λ i. map (λ k. record { aid = t .aid i; tok = t .tok n k }) (keep (t .grants n i) (places L))) (numbers L)
-        ++ map (grantAt t) (keep (λ w. eqb (w .callee) n) (t .waiting));
+        ++ map grantAt (keep (λ w. eqb (w .callee) n) (t .waiting));
     needs = flat (λ j. map (serviceAt t j) (keep (t .needs n j) (places L))) (numbers L);
   }

@@ -11,50 +11,50 @@ use Rattle.policy.specs.Layout.{Layout}
 use Rattle.policy.specs.Record.{Request, Change, load, remove, addService, removeService, addCall, removeCall, addGrant, removeGrant, addNeed, removeNeed, parse, proper}
 use Rattle.policy.specs.Causes.{Cause, _when_, answer}
 
--- ---- what a change makes of one contract
+-- ---- what a change makes of one contract; R-2: 'kind 4 keeps the grants', 'kind 3 takes once a grant that is in both places'
 abbrev pub withoutRow : Row → List Row → List Row
 withoutRow r l = keep (λ x. not (eqRow r x)) l
 
-abbrev pub altered : Change → Contract → Contract
-altered (load p c g n) k = record { aid = k .aid; provides = p; calls = c; grants = g; needs = n }
-altered remove k = k
-altered (addService s l) k = record {
+abbrev pub altered : Layout → Change → Contract → Contract
+altered L (load p c g n) k = record { aid = k .aid; provides = p; calls = c; grants = g; needs = n }
+altered L remove k = k
+altered L (addService s l) k = record {
   aid = k .aid;
   provides = k .provides ++ (s ∷ []);
   calls = k .calls;
-  grants = k .grants ++ map (λ a. record { aid = a; tok = s }) l;
+  grants = k .grants ++ keep (λ r. not (hasRow r (k .grants))) (map (λ a. record { aid = a; tok = s }) l);
   needs = k .needs;
 }
-altered (removeService s) k = record {
+altered L (removeService s) k = record {
   aid = k .aid;
   provides = keep (λ x. not (eqTok s x)) (k .provides);
   calls = k .calls;
-  grants = keep (λ x. not (eqTok s (x .tok))) (k .grants);
+  grants = cond (L .early) (k .grants) (keep (λ x. not (eqTok s (x .tok))) (k .grants));
   needs = k .needs;
 }
-altered (addCall r) k = record { aid = k .aid; provides = k .provides; calls = k .calls ++ (r ∷ []); grants = k .grants; needs = k .needs }
-altered (removeCall r) k = record { aid = k .aid; provides = k .provides; calls = withoutRow r (k .calls); grants = k .grants; needs = withoutRow r (k .needs) }
-altered (addGrant r) k = record { aid = k .aid; provides = k .provides; calls = k .calls; grants = k .grants ++ (r ∷ []); needs = k .needs }
-altered (removeGrant r) k = record { aid = k .aid; provides = k .provides; calls = k .calls; grants = withoutRow r (k .grants); needs = k .needs }
-altered (addNeed r) k = record { aid = k .aid; provides = k .provides; calls = k .calls; grants = k .grants; needs = k .needs ++ (r ∷ []) }
-altered (removeNeed r) k = record { aid = k .aid; provides = k .provides; calls = k .calls; grants = k .grants; needs = withoutRow r (k .needs) }
+altered L (addCall r) k = record { aid = k .aid; provides = k .provides; calls = k .calls ++ (r ∷ []); grants = k .grants; needs = k .needs }
+altered L (removeCall r) k = record { aid = k .aid; provides = k .provides; calls = withoutRow r (k .calls); grants = k .grants; needs = withoutRow r (k .needs) }
+altered L (addGrant r) k = record { aid = k .aid; provides = k .provides; calls = k .calls; grants = k .grants ++ (r ∷ []); needs = k .needs }
+altered L (removeGrant r) k = record { aid = k .aid; provides = k .provides; calls = k .calls; grants = withoutRow r (k .grants); needs = k .needs }
+altered L (addNeed r) k = record { aid = k .aid; provides = k .provides; calls = k .calls; grants = k .grants; needs = k .needs ++ (r ∷ []) }
+altered L (removeNeed r) k = record { aid = k .aid; provides = k .provides; calls = k .calls; grants = k .grants; needs = withoutRow r (k .needs) }
 
 -- the contract under a altered, and no other
 abbrev pub alter : Aid → (Contract → Contract) → List Contract → List Contract
 alter a f cs = map (λ k. cond (eqAid (k .aid) a) (f k) k) cs
 
 -- ---- the contracts that a record would leave
-abbrev pub effect : List Contract → Aid → Change → List Contract
-effect cs a (load p c g n) = record { aid = a; provides = p; calls = c; grants = g; needs = n } ∷ cs
-effect cs a remove = keep (λ k. not (eqAid (k .aid) a)) cs
-effect cs a (addService s l) = alter a (altered (addService s l)) cs
-effect cs a (removeService s) = alter a (altered (removeService s)) cs
-effect cs a (addCall r) = alter a (altered (addCall r)) cs
-effect cs a (removeCall r) = alter a (altered (removeCall r)) cs
-effect cs a (addGrant r) = alter a (altered (addGrant r)) cs
-effect cs a (removeGrant r) = alter a (altered (removeGrant r)) cs
-effect cs a (addNeed r) = alter a (altered (addNeed r)) cs
-effect cs a (removeNeed r) = alter a (altered (removeNeed r)) cs
+abbrev pub effect : Layout → List Contract → Aid → Change → List Contract
+effect L cs a (load p c g n) = record { aid = a; provides = p; calls = c; grants = g; needs = n } ∷ cs
+effect L cs a remove = keep (λ k. not (eqAid (k .aid) a)) cs
+effect L cs a (addService s l) = alter a (altered L (addService s l)) cs
+effect L cs a (removeService s) = alter a (altered L (removeService s)) cs
+effect L cs a (addCall r) = alter a (altered L (addCall r)) cs
+effect L cs a (removeCall r) = alter a (altered L (removeCall r)) cs
+effect L cs a (addGrant r) = alter a (altered L (addGrant r)) cs
+effect L cs a (removeGrant r) = alter a (altered L (removeGrant r)) cs
+effect L cs a (addNeed r) = alter a (altered L (addNeed r)) cs
+effect L cs a (removeNeed r) = alter a (altered L (removeNeed r)) cs
 
 module _ (L : Layout) where
   -- ---- causes 4 to 7: 'by the contracts held too, 7 when a load finds eight contracts or kind 3 eight services in the package'
@@ -71,7 +71,7 @@ module _ (L : Layout) where
   causes4to7 cs a (removeCall r) = 5 when not (installed cs a) ∷ 6 when not (under cs a (λ k. hasRow r (k .calls))) ∷ []
   causes4to7 cs a (addGrant r) =
       5 when not (installed cs a)
-      ∷ 6 when (not (under cs a (λ k. hasTok (r .tok) (k .provides))) || under cs a (λ k. hasRow r (k .grants)))
+      ∷ 6 when (not (L .early || under cs a (λ k. hasTok (r .tok) (k .provides))) || under cs a (λ k. hasRow r (k .grants)))
       ∷ []
   causes4to7 cs a (removeGrant r) = 5 when not (installed cs a) ∷ 6 when not (under cs a (λ k. hasRow r (k .grants))) ∷ []
   causes4to7 cs a (addNeed r) =
@@ -92,7 +92,7 @@ module _ (L : Layout) where
   -- every cause of a record that was read, in order
   abbrev pub causes3to11 : List Contract → Request → List Cause
   causes3to11 cs q =
-      3 when not (proper (q .aid) (q .change)) ∷ causes4to7 cs (q .aid) (q .change) ++ causes8to11 (effect cs (q .aid) (q .change))
+      3 when not (proper L (q .aid) (q .change)) ∷ causes4to7 cs (q .aid) (q .change) ++ causes8to11 (effect L cs (q .aid) (q .change))
 
   pub record Held : Type 0 where
     pub answered : ℕ
@@ -107,5 +107,5 @@ module _ (L : Layout) where
   unfolding parse proper callsGranted needsMet unmetCalls waitingGrants
   machine cs s = elim (parse L s) [
     | none ↦ held cs cs 2
-    | some q ↦ held cs (effect cs (q .aid) (q .change)) (answer (causes3to11 cs q))
+    | some q ↦ held cs (effect L cs (q .aid) (q .change)) (answer (causes3to11 cs q))
   ]

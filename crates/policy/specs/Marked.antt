@@ -170,3 +170,42 @@ casesOver =
     ∷ record { before = calling128; records = removalOf 1 ∷ loadH ∷ []; lines = refused 2 1 ∷ refused 1 1 ∷ [] }
     ∷ holding127
     ∷ []
+
+-- R-2: kind 3 with callers
+abbrev pub addServiceTo : ℕ → ℕ → List ℕ → List ℕ
+addServiceTo n m cs = recordOf 3 (aidOf n ++ (0 ∷ m ∷ listOf (map aidOf cs)))
+
+-- by R-7's rules, converted, and by R-2's
+abbrev pub casesConverted : List CaseOver
+casesConverted =
+    -- 'Kinds 1 and 11 no longer give 3 for it, nor kind 7 a 6': of package 1, loaded before; a grant that waits already is 6
+    record {
+      before = loadOf 2 [] [] (rowOf 1 0 ∷ []) [] ∷ loadOf 1 [] [] [] [] ∷ rowChange 7 1 2 0 ∷ [];
+      records = loadOf 3 [] [] (rowOf 2 0 ∷ []) [] ∷ rowChange 7 1 2 0 ∷ rowChange 7 1 2 0 ∷ rowChange 8 1 2 0 ∷ rowChange 8 1 2 0 ∷ [];
+      lines = taken 1 1 ∷ taken 7 0 ∷ refused 7 6 ∷ taken 8 0 ∷ refused 8 6 ∷ [];
+    }
+    -- 'it waits until caller and service are both on the card': a call on a service added without callers is granted where its grant waited
+    ∷ record {
+      before = loadOf 1 [] [] [] [] ∷ loadOf 2 [] (rowOf 1 0 ∷ rowOf 1 1 ∷ []) [] [] ∷ [];
+      records = rowChange 7 1 2 0 ∷ addServiceTo 1 1 [] ∷ addServiceTo 1 0 [] ∷ [];
+      lines = taken 7 0 ∷ refused 3 8 ∷ taken 3 0 ∷ [];
+    }
+    -- 'Kind 4 keeps the grants': the service comes back with them
+    ∷ record {
+      before = loadOf 1 (0 ∷ []) [] (rowOf 2 0 ∷ []) [] ∷ loadOf 2 [] (rowOf 1 0 ∷ []) [] [] ∷ [];
+      records = removeService 1 0 ∷ rowChange 7 1 2 0 ∷ addServiceTo 1 0 [] ∷ [];
+      lines = taken 4 0 ∷ refused 7 6 ∷ taken 3 0 ∷ [];
+    }
+    -- 'Kind 3 takes once a grant that is in both places': 16 wait before it and after it; a 17th does not fit
+    ∷ record {
+      before = loadOf 1 [] [] [] [] ∷ [];
+      records = loadOf 2 [] [] (map (λ c. rowOf c 0) (from 20 15)) [] ∷ rowChange 7 1 9 0 ∷ addServiceTo 1 0 (9 ∷ []) ∷ rowChange 7 1 10 0 ∷ [];
+      lines = taken 1 1 ∷ taken 7 0 ∷ taken 3 0 ∷ refused 7 11 ∷ [];
+    }
+    -- a load turns those that wait for it into bits whose service is there; of the other, the call comes back unmet
+    ∷ record {
+      before = loadOf 1 (0 ∷ []) [] (rowOf 2 0 ∷ []) [] ∷ [];
+      records = rowChange 7 1 2 1 ∷ loadOf 2 [] (rowOf 1 0 ∷ rowOf 1 1 ∷ []) [] [] ∷ addServiceTo 1 1 [] ∷ [];
+      lines = taken 7 0 ∷ taken 1 1 ∷ taken 3 0 ∷ [];
+    }
+    ∷ []

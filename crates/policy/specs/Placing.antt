@@ -58,8 +58,8 @@ ByNumber bits row new = (ps : List (ℕ × ℕ)) × GoesUp ps × ((p : ℕ × �
 abbrev pub callsOf : ℕ → List Row → List Unmet → Type 0
 callsOf m rows = AsRecorded wanted (λ u. u .caller) m rows
 
-abbrev pub grantsOf : Tables → ℕ → List Row → List Waiting → Type 0
-grantsOf after m rows = AsRecorded (grantAt after) (λ w. w .callee) m rows
+abbrev pub grantsOf : ℕ → List Row → List Waiting → Type 0
+grantsOf m rows = AsRecorded grantAt (λ w. w .callee) m rows
 
 -- 'after kind 2 or 4, unmet calls by caller number then the service number it had'
 abbrev pub callsOn : Tables → ℕ → List Unmet → Type 0
@@ -67,7 +67,11 @@ callsOn before m = ByNumber (λ i k. before .calls i m k) (λ i k. record { call
 
 -- 'after kind 2, waiting grants by callee number then service number'
 abbrev pub grantsTo : Tables → ℕ → List Waiting → Type 0
-grantsTo before m = ByNumber (λ j k. before .grants j m k) (λ j k. record { caller = before .aid m; callee = j; service = k })
+grantsTo before m = ByNumber (λ j k. before .grants j m k) (λ j k. record { caller = before .aid m; callee = j; tok = before .tok j k })
+
+-- R-2: 'Kind 4 keeps the grants, which wait behind the rows already there, by caller number'
+abbrev pub grantsBy : Tables → ℕ → List Waiting → Type 0
+grantsBy before m = ByNumber (λ i k. before .grants m i k) (λ i k. record { caller = before .aid i; callee = m; tok = before .tok m k })
 
 -- ---- the rules, by kind: of the numbers taken, and of the new rows of each list
 pub record Rule : Type 1 where
@@ -78,26 +82,26 @@ pub record Rule : Type 1 where
 module _ (before after : Tables) (m : ℕ) where
   -- no number is taken, and no grant waits anew
   abbrev pub onlyCalls : (List Unmet → Type 0) → Rule
-  onlyCalls u = record { numbers = Unit {0}; unmet = u; waiting = grantsOf after m [] }
+  onlyCalls u = record { numbers = Unit {0}; unmet = u; waiting = grantsOf m [] }
 
   abbrev pub rule : Change → Rule
   -- 'A load takes the lowest unused package number. Its services take 0, 1, 2 in record order.'
   rule (load p c g n) = record {
     numbers = Lowest (before .used) m × ((k : ℕ) → T (after .provides m k) ↔ (k < length p)) × ((k : ℕ) → k < length p → after .tok m k ≡ getD p k noTok);
     unmet = callsOf m c;
-    waiting = grantsOf after m g;
+    waiting = grantsOf m g;
   }
   rule remove = record { numbers = Unit {0}; unmet = callsOn before m; waiting = grantsTo before m }
   -- 'Kind 3 takes the lowest unused service number.'
   rule (addService s l) = record {
     numbers = (k : ℕ) × Lowest (before .provides m) k × T (after .provides m k) × (after .tok m k ≡ s);
     unmet = callsOf m [];
-    waiting = grantsOf after m (map (λ a. record { aid = a; tok = s }) l);
+    waiting = grantsOf m (map (λ a. record { aid = a; tok = s }) l);
   }
-  rule (removeService s) = onlyCalls (callsOn before m)
+  rule (removeService s) = record { numbers = Unit {0}; unmet = callsOn before m; waiting = grantsBy before m }
   rule (addCall r) = onlyCalls (callsOf m (r ∷ []))
   rule (removeCall r) = onlyCalls (callsOf m [])
-  rule (addGrant r) = record { numbers = Unit {0}; unmet = callsOf m []; waiting = grantsOf after m (r ∷ []) }
+  rule (addGrant r) = record { numbers = Unit {0}; unmet = callsOf m []; waiting = grantsOf m (r ∷ []) }
   rule (removeGrant r) = onlyCalls (callsOf m [])
   rule (addNeed r) = onlyCalls (callsOf m [])
   rule (removeNeed r) = onlyCalls (callsOf m [])

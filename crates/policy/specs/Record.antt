@@ -1,6 +1,6 @@
 -- Records: document 01, 'Records'. What a list of bytes reads as; nothing here speaks of positions.
 use Prim.Native.Nat.{ℕ, zero, suc, _+_, _*_}
-use mathlib.Core.Bool.{Bool, true, false, not, _&&_}
+use mathlib.Core.Bool.{Bool, true, false, not, _&&_, _||_}
 use mathlib.Core.List.{List, [], _∷_}
 use mathlib.Core.Option.{Option, none, some}
 use lib.ListN.{length, take, drop, getD}
@@ -185,24 +185,24 @@ module _ (L : Layout) where
   parse s = whole (fields (length s) s)
 
 -- ---- cause 3: 'repeated row, own AID as the other end, need not called, grant of a service not provided (kind 1);
--- own AID or a repeated AID (kind 3); own AID as the other end (5 to 10)'
+-- own AID or a repeated AID (kind 3); own AID as the other end (5 to 10)'; R-2: no longer for a grant of a service not provided
 abbrev pub notOwn : Aid → List Row → Bool
 notOwn a l = every (λ r. not (eqAid (r .aid) a)) l
 
-unfoldable pub proper : Aid → Change → Bool
-proper a (load p c g n) =
+unfoldable pub proper : Layout → Aid → Change → Bool
+proper L a (load p c g n) =
     (distinct eqTok p && distinct eqRow c && distinct eqRow g && distinct eqRow n)
     && (notOwn a c && notOwn a g && notOwn a n)
-    && (every (λ r. hasRow r c) n && every (λ r. hasTok (r .tok) p) g)
-proper a remove = true
-proper a (addService s l) = every (λ b. not (eqAid b a)) l && distinct eqAid l
-proper a (removeService s) = true
-proper a (addCall r) = not (eqAid (r .aid) a)
-proper a (removeCall r) = not (eqAid (r .aid) a)
-proper a (addGrant r) = not (eqAid (r .aid) a)
-proper a (removeGrant r) = not (eqAid (r .aid) a)
-proper a (addNeed r) = not (eqAid (r .aid) a)
-proper a (removeNeed r) = not (eqAid (r .aid) a)
+    && (every (λ r. hasRow r c) n && (L .early || every (λ r. hasTok (r .tok) p) g))
+proper L a remove = true
+proper L a (addService s l) = every (λ b. not (eqAid b a)) l && distinct eqAid l
+proper L a (removeService s) = true
+proper L a (addCall r) = not (eqAid (r .aid) a)
+proper L a (removeCall r) = not (eqAid (r .aid) a)
+proper L a (addGrant r) = not (eqAid (r .aid) a)
+proper L a (removeGrant r) = not (eqAid (r .aid) a)
+proper L a (addNeed r) = not (eqAid (r .aid) a)
+proper L a (removeNeed r) = not (eqAid (r .aid) a)
 
 -- the first AID of a record, which stands from its byte 5 on; an empty part for cause 2
 unfoldable pub firstAid : Layout → List ℕ → Aid

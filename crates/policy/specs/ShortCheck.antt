@@ -1,6 +1,6 @@
 -- The short check: causes 8 to 11 of a record by the rows with its package at one end, and counts; no draft is built.
 use Prim.Native.Nat.{ℕ, suc, _+_}
-use mathlib.Core.Bool.{Bool, true, not, _&&_}
+use mathlib.Core.Bool.{Bool, true, not, _&&_, _||_}
 use mathlib.Core.List.{List, [], _∷_}
 use mathlib.Core.Option.{Option, none, some}
 use lib.Dec.{eqb, leb}
@@ -10,8 +10,8 @@ use Rattle.policy.specs.Contract.{Aid, eqAid, Tok, Contract, hasTok, has
 use Rattle.policy.specs.Layout.{Layout}
 use Rattle.policy.specs.Record.{Change, load, remove, addService, removeService, addCall, removeCall, addGrant, removeGrant, addNeed, removeNeed}
 use Rattle.policy.specs.Tables.{Tables, Unmet}
-use Rattle.policy.specs.Lookup.{Place, numbers, places, numberOf, serviceOf, serverOf}
-use Rattle.policy.specs.Draft.{Look, asksFor, hasWaiting}
+use Rattle.policy.specs.Lookup.{Place, Spot, numbers, places, numberOf, serviceOf, serverOf, spotOf}
+use Rattle.policy.specs.Draft.{Look, asksFor, hasWaiting, installedAid, nowGranted}
 
 -- how many pass
 abbrev pub count : {A : Type 0} → (A → Bool) → List A → ℕ
@@ -41,36 +41,37 @@ module _ (L : Layout) (t : Tables) where
   shortAddCall i none = record { granted = true; needed = true; unmetFits = fits (suc (length (t .unmet))); waitingFits = true }
   shortAddCall i (some p) = record { granted = t .grants (p .callee) i (p .service); needed = true; unmetFits = true; waitingFits = true }
 
-  -- kind 7: a grant to a caller
-  abbrev pub shortAddGrant : Option ℕ → Look
+  -- kind 7: a grant that is a bit, or waits
+  abbrev pub shortAddGrant : Option Spot → Look
   shortAddGrant none = record { granted = true; needed = true; unmetFits = true; waitingFits = fits (suc (length (t .waiting))) }
-  shortAddGrant (some i) = fine
+  shortAddGrant (some p) = fine
 
-  -- kind 8: a grant of service k of package j is not called by its caller
-  abbrev pub shortRemoveGrant : ℕ → ℕ → Option ℕ → Look
-  shortRemoveGrant j k none = fine
-  shortRemoveGrant j k (some i) = record { granted = not (t .calls i j k); needed = true; unmetFits = true; waitingFits = true }
+  -- kind 8: a grant of package j is not called by its caller
+  abbrev pub shortRemoveGrant : ℕ → Option Spot → Look
+  shortRemoveGrant j none = fine
+  shortRemoveGrant j (some p) = record { granted = not (t .calls (p .caller) j (p .service)); needed = true; unmetFits = true; waitingFits = true }
 
   -- kind 9
   abbrev pub shortAddNeed : Option Place → Look
   shortAddNeed o = record { granted = true; needed = isSome o; unmetFits = true; waitingFits = true }
 
-  -- kind 3: each unmet call on the new service is by one of the callers; callers not installed wait
+  -- kind 3: each unmet call on the new service is by one of the callers, or its grant waits; callers not installed wait, once
   abbrev pub shortAddService : ℕ → Tok → List Aid → Look
   shortAddService j s l = record {
-    granted = every (λ u. implies (asksFor L t (t .aid j) s u) (exists (eqAid (t .aid (u .caller))) l)) (t .unmet);
+    granted = every (λ u. implies (asksFor L t (t .aid j) s u) (exists (eqAid (t .aid (u .caller))) l || hasWaiting (record { caller = t .aid (u .caller); callee = j; tok = s }) (t .waiting))) (t .unmet);
     needed = true;
     unmetFits = true;
-    waitingFits = fits (length (t .waiting) + count notInstalled l);
+    waitingFits = fits (count (λ w. not (nowGranted L t j s w)) (t .waiting)
+        + count (λ a. not (installedAid L t a || hasWaiting (record { caller = a; callee = j; tok = s }) (t .waiting))) l);
   }
 
-  -- kind 4: no package needs the service; its callers' calls are unmet
+  -- kind 4: no package needs the service; its callers' calls are unmet; R-2: its grants wait
   abbrev pub shortRemoveService : ℕ → ℕ → Look
   shortRemoveService j k = record {
     granted = true;
     needed = every (λ i. not (t .needs i j k)) (numbers L);
     unmetFits = fits (length (t .unmet) + count (λ i. t .calls i j k) (numbers L));
-    waitingFits = true;
+    waitingFits = not (L .early) || fits (length (t .waiting) + count (λ i. t .grants j i k) (numbers L));
   }
 
   -- kind 2: no package needs a service of n; calls on it are unmet, grants to it wait, its own rows go
@@ -86,7 +87,7 @@ module _ (L : Layout) (t : Tables) where
   module _ (c : Contract) where
     -- the newcomer's calls are granted: a grant to it waits at each server that it calls
     abbrev pub newcomerRights : Bool
-    newcomerRights = every (λ r. orElse (serverOf L t r) true (λ p. hasWaiting (record { caller = c .aid; callee = p .callee; service = p .service }) (t .waiting))) (c .calls)
+    newcomerRights = every (λ r. orElse (serverOf L t r) true (λ p. hasWaiting (record { caller = c .aid; callee = p .callee; tok = r .tok }) (t .waiting))) (c .calls)
 
     -- its needs are on the card
     abbrev pub newcomerNeeds : Bool
@@ -105,7 +106,8 @@ module _ (L : Layout) (t : Tables) where
       granted = newcomerRights && othersRights;
       needed = newcomerNeeds;
       unmetFits = fits (count (λ u. not (nowMet u)) (t .unmet) + count (λ r. not (isSome (serverOf L t r))) (c .calls));
-      waitingFits = fits (count (λ w. not (eqAid (w .caller) (c .aid))) (t .waiting) + count (λ r. notInstalled (r .aid)) (c .grants));
+      waitingFits = fits (count (λ w. not (eqAid (w .caller) (c .aid) && isSome (serviceOf L t (w .callee) (w .tok)))) (t .waiting)
+          + count (λ r. not (isSome (numberOf L t (r .aid)) && hasTok (r .tok) (c .provides))) (c .grants));
     }
 
   -- ---- by kind, with first AID a
@@ -116,14 +118,14 @@ module _ (L : Layout) (t : Tables) where
   shortService j s f = orElse (serviceOf L t j s) fine f
 
   unfoldable pub shortLook : Aid → Change → Look
-  unfolding numberOf serviceOf serverOf
+  unfolding numberOf serviceOf serverOf spotOf
   shortLook a (load p c g n) = shortLoad (record { aid = a; provides = p; calls = c; grants = g; needs = n })
   shortLook a remove = shortAt a shortRemove
   shortLook a (addService s l) = shortAt a (λ j. shortAddService j s l)
   shortLook a (removeService s) = shortAt a (λ j. shortService j s (shortRemoveService j))
   shortLook a (addCall r) = shortAt a (λ i. shortAddCall i (serverOf L t r))
   shortLook a (removeCall r) = fine
-  shortLook a (addGrant r) = shortAddGrant (numberOf L t (r .aid))
-  shortLook a (removeGrant r) = shortAt a (λ j. shortService j (r .tok) (λ k. shortRemoveGrant j k (numberOf L t (r .aid))))
+  shortLook a (addGrant r) = shortAt a (λ j. shortAddGrant (spotOf L t j r))
+  shortLook a (removeGrant r) = shortAt a (λ j. shortRemoveGrant j (spotOf L t j r))
   shortLook a (addNeed r) = shortAddNeed (serverOf L t r)
   shortLook a (removeNeed r) = fine

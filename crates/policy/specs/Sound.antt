@@ -9,13 +9,13 @@ use Rattle.policy.specs.Contract.{eqAid, validAid, eqTok}
 use Rattle.policy.specs.Layout.{Layout, size}
 use Rattle.policy.specs.Record.{validTok}
 use Rattle.policy.specs.Tables.{Tables, Unmet, Waiting, noTok, decode, encode}
-use Rattle.policy.specs.Lookup.{numbers, places, usedNumbers, numberOf, serverOf, wanted}
+use Rattle.policy.specs.Lookup.{numbers, places, usedNumbers, serviceOf, serverOf, spotOf, wanted, grantAt}
 
 abbrev pub eqUnmet : Unmet → Unmet → Bool
 eqUnmet u v = eqAid (u .callee) (v .callee) && eqTok (u .tok) (v .tok) && eqb (u .caller) (v .caller)
 
 abbrev pub eqWaiting : Waiting → Waiting → Bool
-eqWaiting v w = eqAid (v .caller) (w .caller) && eqb (v .callee) (w .callee) && eqb (v .service) (w .service)
+eqWaiting v w = eqAid (v .caller) (w .caller) && eqb (v .callee) (w .callee) && eqTok (v .tok) (w .tok)
 
 module _ (L : Layout) where
   -- for every caller i, callee j and service k of the callee
@@ -64,24 +64,30 @@ module _ (L : Layout) where
     abbrev pub unmetOk : Unmet → Bool
     unmetOk u = (validAid (u .callee) && not (eqAid (u .callee) (t .aid (u .caller)))) && (t .used (u .caller) && not (isSome (serverOf L t (wanted u))))
 
-    -- 'every waiting grant has a valid AID that is not installed, a used callee and a provided service'
+    -- R-2: 'a grant that waits, of a used callee to another valid AID'
     abbrev pub waitingOk : Waiting → Bool
-    waitingOk w = (validAid (w .caller) && not (isSome (numberOf L t (w .caller)))) && (t .used (w .callee) && t .provides (w .callee) (w .service))
+    waitingOk w = (validAid (w .caller) && not (eqAid (w .caller) (t .aid (w .callee)))) && (t .used (w .callee) && not (isSome (spotOf L t (w .callee) (grantAt w))))
 
     unfoldable pub rowsOk : Bool
-    unfolding numberOf serverOf
+    unfolding spotOf serverOf
     rowsOk = every unmetOk (t .unmet) && every waitingOk (t .waiting)
 
-    -- R-7: 'A method token of 128 or more .. in an image makes it unsound': of a provided service, and so of a grant, or of an unmet call
+    -- R-7: 'A method token of 128 or more .. in an image makes it unsound': of a provided service, of an unmet call or of a waiting grant
     unfoldable pub methodsOk : Bool
     methodsOk =
         every (λ j. every (λ k. implies (t .provides j k) (validTok L (t .tok j k))) (places L)) (numbers L)
         && every (λ u. validTok L (u .tok)) (t .unmet)
+        && every (λ w. validTok L (w .tok)) (t .waiting)
+
+    -- before R-2 every waiting grant has 'a provided service', so that its AID 'is not installed'
+    unfoldable pub grantsOk : Bool
+    unfolding serviceOf
+    grantsOk = L .early || every (λ w. isSome (serviceOf L t (w .callee) (w .tok))) (t .waiting)
 
     unfoldable pub soundTables : Bool
-    unfolding aidsOk tokensOk blanksOk entriesOk bitsProvided needsCalled bitsGranted listsOk rowsOk methodsOk
+    unfolding aidsOk tokensOk blanksOk entriesOk bitsProvided needsCalled bitsGranted listsOk rowsOk methodsOk grantsOk
     soundTables =
-        (aidsOk && tokensOk) && (blanksOk && entriesOk) && (bitsProvided && needsCalled) && (bitsGranted && (listsOk && rowsOk)) && methodsOk
+        (aidsOk && tokensOk) && (blanksOk && entriesOk) && (bitsProvided && needsCalled) && (bitsGranted && (listsOk && rowsOk)) && (methodsOk && grantsOk)
 
   -- 'the first three bytes are as above'; and no byte but those that the tables give: fill bytes, and list places past the count, are zero
   unfoldable pub sound : List ℕ → Bool

@@ -4,8 +4,8 @@ use mathlib.Core.Bool.{Bool, _&&_, cond}
 use mathlib.Core.List.{List, [], _∷_, _++_, map}
 use lib.Dec.{eqb, ltb}
 use lib.ListN.{length, getD, take, drop, replicate}
-use Rattle.policy.specs.Lists.{flat, upto}
-use Rattle.policy.specs.Contract.{Aid, Tok}
+use Rattle.policy.specs.Lists.{flat, upto, first, orElse}
+use Rattle.policy.specs.Contract.{Aid, Tok, eqTok}
 use Rattle.policy.specs.Layout.{Layout, aidSize, unmetSize, waitingSize, usedAt, aidsAt, tokensAt, providesAt, callsAt, grantsAt, needsAt, unmetAt, waitingAt, size}
 
 -- a row of the list of unmet calls
@@ -18,7 +18,7 @@ pub record Unmet : Type 0 where
 pub record Waiting : Type 0 where
   pub caller : Aid
   pub callee : ℕ
-  pub service : ℕ
+  pub tok : Tok
 
 pub record Tables : Type 0 where
   -- package number n is used
@@ -82,13 +82,6 @@ readUnmet bs = record { callee = readAid (take aidSize bs); tok = readTok (drop 
 abbrev pub writeUnmet : Unmet → List ℕ
 writeUnmet u = writeAid (u .callee) ++ (writeTok (u .tok) ++ (u .caller ∷ []))
 
--- 'caller AID in 17, callee number, service number'
-abbrev pub readWaiting : List ℕ → Waiting
-readWaiting bs = record { caller = readAid (take aidSize bs); callee = getD (drop aidSize bs) 0 0; service = getD (drop aidSize bs) 1 0 }
-
-abbrev pub writeWaiting : Waiting → List ℕ
-writeWaiting w = writeAid (w .caller) ++ (w .callee ∷ w .service ∷ [])
-
 -- n pieces of w bytes each, from the front of a list
 abbrev pub pieces : ℕ → ℕ → List ℕ → List (List ℕ)
 pieces w zero bs = []
@@ -119,6 +112,21 @@ module _ (L : Layout) where
   abbrev pub writeTable : (ℕ → ℕ → ℕ → Bool) → List ℕ
   writeTable b = flat (λ i. flat (λ j. writeBits (L .services) (b i j)) (upto (L .packages))) (upto (L .packages))
 
+  -- ---- a row of waiting grants: 'caller AID in 17, callee number, service number', the number read by the tokens that stand there;
+  -- R-2: 'tokens in place of the service number'
+  abbrev pub readWaiting : (ℕ → ℕ → Tok) → List ℕ → Waiting
+  readWaiting toks bs =
+      let j = getD (drop aidSize bs) 0 0 in
+      record { caller = readAid (take aidSize bs); callee = j; tok = cond (L .early) (readTok (drop 1 (drop aidSize bs))) (toks j (getD (drop aidSize bs) 1 0)) }
+
+  -- the number of the service with tokens s that a package provides
+  abbrev pub numberWith : (ℕ → Bool) → (ℕ → Tok) → Tok → ℕ
+  numberWith provides toks s = orElse (first (λ k. provides k && eqTok (toks k) s) (upto (L .services))) 0 (λ k. k)
+
+  abbrev pub writeWaiting : (ℕ → ℕ → Bool) → (ℕ → ℕ → Tok) → Waiting → List ℕ
+  writeWaiting provides toks w =
+      writeAid (w .caller) ++ (w .callee ∷ cond (L .early) (writeTok (w .tok)) (numberWith (provides (w .callee)) (toks (w .callee)) (w .tok) ∷ []))
+
   -- ---- the whole image
   unfoldable pub decode : List ℕ → Tables
   unfolding bit
@@ -135,7 +143,7 @@ module _ (L : Layout) where
         grants = readTable (drop (grantsAt L) img);
         needs = readTable (drop (needsAt L) img);
         unmet = readList readUnmet unmetSize (drop (unmetAt L) img);
-        waiting = readList readWaiting waitingSize (drop (waitingAt L) img);
+        waiting = readList (readWaiting (λ j k. getD (getD toks j []) k noTok)) (waitingSize L) (drop (waitingAt L) img);
       }
 
   unfoldable pub encode : Tables → List ℕ
@@ -150,7 +158,7 @@ module _ (L : Layout) where
       ++ (writeTable (t .grants)
       ++ (writeTable (t .needs)
       ++ (writeList writeUnmet unmetSize (t .unmet)
-      ++ writeList writeWaiting waitingSize (t .waiting)))))))))
+      ++ writeList (writeWaiting (t .provides) (t .tok)) (waitingSize L) (t .waiting)))))))))
 
   -- 'The empty image is 04 46 01 and zeros.'
   unfoldable pub emptyImage : List ℕ
