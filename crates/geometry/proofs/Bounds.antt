@@ -2,19 +2,26 @@
 use Prim.Native.Nat.{ℕ, _+_, _*_, _^_, _≤_, _<_}
 use native.Mathlib.Omega.{arith}
 use native.Mathlib.Nat.{lt-of-lt-of-le}
-use mathlib.Core.Path.{_≡_}
+use mathlib.Core.Path.{_≡_, refl}
+use mathlib.Core.Bool.{true}
 use borrow.Author.Needs.{needs}
-use Rattle.policy.specs.Layout.{LayoutOk, usedAt, unmetAt, waitingAt, size}
+use Rattle.policy.specs.Layout.{LayoutOk, usedAt, waitingAt, size}
 use Rattle.policy.proofs.Theorems.{small-ok}
 use Rattle.geometry.specs.declared.Card.{Card}
 use Rattle.geometry.specs.declared.Card.the-variants.{Small}
 use Rattle.geometry.specs.declared.Table.{Table}
 use Rattle.geometry.specs.declared.Table.the-variants.{Calls, Grants, Needs}
-use Rattle.geometry.specs.Geometry.{layoutOf, aidAt, tokAt, provAt, entryAt}
+use Rattle.geometry.specs.declared.Kept.{Kept}
+use Rattle.geometry.specs.declared.Kept.the-variants.{UnmetCalls, WaitingGrants}
+use Rattle.geometry.specs.Geometry.{layoutOf, aidAt, tokAt, provAt, entryAt, listAt, listEnd, rowSize, placeAt, numberIn, tokensIn}
 
 -- its .packages-fit is 2 ^ packages ≤ 256 ^ width
 pub layout-ok : (c : Card) → LayoutOk (layoutOf c)
 layout-ok Small = small-ok
+
+-- the rules in force are R-2's or later, so a waiting grant's row holds tokens
+pub early : (c : Card) → layoutOf c .early ≡ true
+early Small = refl
 
 pub record Limits (c : Card) : Type 0 where
   pub packages-low : layoutOf c .packages ≤ 16
@@ -26,28 +33,66 @@ pub record Limits (c : Card) : Type 0 where
 pub limits : (c : Card) → Limits c
 limits Small = omega arith
 
+-- ---- the places before the waiting grants, which stand alike in all versions: n is the length of an image that has them, and a the place
+pub head-front : (c : Card) (k n : ℕ) → waitingAt (layoutOf c) ≤ n → k < 3 → k < n
+head-front Small k n e h = omega arith
+
+pub used-front : (c : Card) (n : ℕ) → waitingAt (layoutOf c) ≤ n → 3 + layoutOf c .width ≤ n
+used-front Small n e = omega arith
+
+pub aid-front : (c : Card) (i n a : ℕ) → waitingAt (layoutOf c) ≤ n → a ≡ aidAt (layoutOf c) i → i < layoutOf c .packages → a + 17 ≤ n
+aid-front Small i n a e p h = omega arith
+
+pub tok-front : (c : Card) (j k n a : ℕ) → waitingAt (layoutOf c) ≤ n → a ≡ tokAt (layoutOf c) j k → j < layoutOf c .packages → k < layoutOf c .services → a + 2 ≤ n
+tok-front Small j k n a e p h l = omega arith
+
+pub prov-front : (c : Card) (j n a : ℕ) → waitingAt (layoutOf c) ≤ n → a ≡ provAt (layoutOf c) j → j < layoutOf c .packages → a + layoutOf c .width ≤ n
+prov-front Small j n a e p h = omega arith
+
+pub entry-front : (c : Card) (t : Table) (i j n a : ℕ) → waitingAt (layoutOf c) ≤ n → a ≡ entryAt (layoutOf c) t i j → i < layoutOf c .packages → j < layoutOf c .packages
+    → a + layoutOf c .width ≤ n
+entry-front Small Calls i j n a e p h l = omega arith
+entry-front Small Grants i j n a e p h l = omega arith
+entry-front Small Needs i j n a e p h l = omega arith
+
 -- ---- the places of an image
+pub front-in : (c : Card) → waitingAt (layoutOf c) ≤ size (layoutOf c)
+front-in Small = omega arith
+
 pub aid-in : (c : Card) (n : ℕ) → n < layoutOf c .packages → aidAt (layoutOf c) n + 17 ≤ size (layoutOf c)
-aid-in Small n h = omega arith
+aid-in c n h = aid-front c n (size (layoutOf c)) (aidAt (layoutOf c) n) (front-in c) refl h
 
 pub tok-in : (c : Card) (j k : ℕ) → j < layoutOf c .packages → k < layoutOf c .services → tokAt (layoutOf c) j k + 2 ≤ size (layoutOf c)
-tok-in Small j k h l = omega arith
+tok-in c j k h l = tok-front c j k (size (layoutOf c)) (tokAt (layoutOf c) j k) (front-in c) refl h l
 
 pub prov-in : (c : Card) (j : ℕ) → j < layoutOf c .packages → provAt (layoutOf c) j + layoutOf c .width ≤ size (layoutOf c)
-prov-in Small j h = omega arith
+prov-in c j h = prov-front c j (size (layoutOf c)) (provAt (layoutOf c) j) (front-in c) refl h
 
 pub entry-in : (c : Card) (t : Table) (i j : ℕ) → i < layoutOf c .packages → j < layoutOf c .packages
     → entryAt (layoutOf c) t i j + layoutOf c .width ≤ size (layoutOf c)
-entry-in Small Calls i j h l = omega arith
-entry-in Small Grants i j h l = omega arith
-entry-in Small Needs i j h l = omega arith
+entry-in c t i j h l = entry-front c t i j (size (layoutOf c)) (entryAt (layoutOf c) t i j) (front-in c) refl h l
 
--- row r of a list
-pub unmet-in : (c : Card) (r : ℕ) → r < layoutOf c .capacity → unmetAt (layoutOf c) + (1 + r * 20) + 20 ≤ size (layoutOf c)
-unmet-in Small r h = omega arith
+-- rows of a list, of 20 bytes
+pub row-wide : (c : Card) (l : Kept) → rowSize (layoutOf c) l ≡ 20
+row-wide Small UnmetCalls = refl
+row-wide Small WaitingGrants = refl
 
-pub waiting-in : (c : Card) (r : ℕ) → r < layoutOf c .capacity → waitingAt (layoutOf c) + (1 + r * 19) + 19 ≤ size (layoutOf c)
-waiting-in Small r h = omega arith
+pub list-in : (c : Card) (l : Kept) → listEnd (layoutOf c) l ≤ size (layoutOf c)
+list-in Small UnmetCalls = omega arith
+list-in Small WaitingGrants = omega arith
+
+pub row-in : (c : Card) (l : Kept) (r : ℕ) → r < layoutOf c .capacity → placeAt (layoutOf c) l r + 20 ≤ size (layoutOf c)
+row-in Small UnmetCalls r h = omega arith
+row-in Small WaitingGrants r h = omega arith
+
+-- what a row has after its AID
+pub number-in-row : (l : Kept) → (17 ≤ numberIn l) × (numberIn l < 20)
+number-in-row UnmetCalls = (omega arith, omega arith)
+number-in-row WaitingGrants = (omega arith, omega arith)
+
+pub tokens-in-row : (l : Kept) → (17 ≤ tokensIn l) × (tokensIn l + 1 < 20)
+tokens-in-row UnmetCalls = (omega arith, omega arith)
+tokens-in-row WaitingGrants = (omega arith, omega arith)
 
 -- ---- the same in the form in which the needs ask them, for `search geo`: n is the image's length and a the place
 pub package-lt : (c : Card) (i : ℕ) → i < layoutOf c .packages → i < 16
@@ -82,10 +127,10 @@ pub entry-len : (c : Card) (t : Table) (i j n a : ℕ) → n ≡ size (layoutOf 
     → a + layoutOf c .width ≤ n
 entry-len c t i j n a e p h l = omega (arith, entry-in c t i j h l)
 
-pub unmet-len : (c : Card) (n a : ℕ) → n ≡ size (layoutOf c) → a ≡ unmetAt (layoutOf c) → a + (1 + layoutOf c .capacity * 20) ≤ n
-unmet-len c n a e p = omega arith
+pub list-len : (c : Card) (l : Kept) (n a : ℕ) → n ≡ size (layoutOf c) → a ≡ listAt (layoutOf c) l → a + (1 + layoutOf c .capacity * rowSize (layoutOf c) l) ≤ n
+list-len c l n a e p = omega (arith, list-in c l)
 
-pub waiting-len : (c : Card) (n a : ℕ) → n ≡ size (layoutOf c) → a ≡ waitingAt (layoutOf c) → a + (1 + layoutOf c .capacity * 19) ≤ n
-waiting-len c n a e p = omega arith
+pub ruleset geo = (package-lt, service-lt, packages-row, services-row, head-len, used-len, aid-len, tok-len, prov-len, entry-len, list-len, needs)
 
-pub ruleset geo = (package-lt, service-lt, packages-row, services-row, head-len, used-len, aid-len, tok-len, prov-len, entry-len, unmet-len, waiting-len, needs)
+-- and for those before the waiting grants alone
+pub ruleset front = (package-lt, service-lt, packages-row, services-row, head-front, used-front, aid-front, tok-front, prov-front, entry-front, needs)

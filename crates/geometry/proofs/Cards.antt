@@ -11,7 +11,9 @@ use Rattle.geometry.specs.declared.Card.{Card}
 use Rattle.geometry.specs.declared.Card.the-variants.{Small}
 use Rattle.geometry.specs.declared.Table.{Table}
 use Rattle.geometry.specs.declared.Table.the-variants.{Calls, Grants, Needs}
-use Rattle.geometry.specs.Geometry.{layoutOf, tableAt}
+use Rattle.geometry.specs.declared.Kept.{Kept}
+use Rattle.geometry.specs.declared.Kept.the-variants.{UnmetCalls, WaitingGrants}
+use Rattle.geometry.specs.Geometry.{layoutOf, tableAt, listAt}
 
 pub only : (c : Card) → c ≡ Small
 only Small = refl
@@ -20,6 +22,10 @@ pub table-low : (c : Card) (t : Table) → tableAt (layoutOf c) t ≤ 404
 table-low Small Calls = omega arith
 table-low Small Grants = omega arith
 table-low Small Needs = omega arith
+
+pub list-low : (c : Card) (l : Kept) → listAt (layoutOf c) l ≤ 789
+list-low Small UnmetCalls = omega arith
+list-low Small WaitingGrants = omega arith
 
 pub row-read : (c : Card) (l : List ℕ) (at : ℕ) → at + layoutOf c .width ≤ length l → getD l at 0 ≡ readNumber 0 (take (layoutOf c .width) (drop at l))
 row-read Small l at h = let p : at < length l = omega arith in rw (drop-cons l at 0) (omega arith)

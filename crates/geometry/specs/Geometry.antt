@@ -1,10 +1,12 @@
 -- The layout of each card, and where the places of its image stand.
 use Prim.Native.Nat.{ℕ, _+_, _*_}
-use Rattle.policy.specs.Layout.{Layout, small, aidSize, aidsAt, tokensAt, providesAt, callsAt, grantsAt, needsAt}
+use Rattle.policy.specs.Layout.{Layout, small, aidSize, unmetSize, waitingSize, aidsAt, tokensAt, providesAt, callsAt, grantsAt, needsAt, unmetAt, waitingAt}
 use Rattle.geometry.specs.declared.Card.{Card}
 use Rattle.geometry.specs.declared.Card.the-variants.{Small}
 use Rattle.geometry.specs.declared.Table.{Table}
 use Rattle.geometry.specs.declared.Table.the-variants.{Calls, Grants, Needs}
+use Rattle.geometry.specs.declared.Kept.{Kept}
+use Rattle.geometry.specs.declared.Kept.the-variants.{UnmetCalls, WaitingGrants}
 
 abbrev pub layoutOf : Card → Layout
 layoutOf Small = small
@@ -30,3 +32,29 @@ module _ (L : Layout) where
   -- the entry of a table in row i, column j
   abbrev pub entryAt : Table → ℕ → ℕ → ℕ
   entryAt t i j = tableAt t + (i * (L .packages * L .width) + j * L .width)
+
+  -- a list, and the bytes of its rows
+  abbrev pub listAt : Kept → ℕ
+  listAt UnmetCalls = unmetAt L
+  listAt WaitingGrants = waitingAt L
+
+  abbrev pub rowSize : Kept → ℕ
+  rowSize UnmetCalls = unmetSize
+  rowSize WaitingGrants = waitingSize L
+
+  abbrev pub listEnd : Kept → ℕ
+  listEnd l = listAt l + (1 + L .capacity * rowSize l)
+
+  -- row r of a list
+  abbrev pub placeAt : Kept → ℕ → ℕ
+  placeAt l r = listAt l + (1 + r * rowSize l)
+
+-- where a row has its package number, and its tokens: 'callee AID in 17, tokens, caller number', and of a waiting grant
+-- 'caller AID in 17, callee number', tokens
+abbrev pub numberIn : Kept → ℕ
+numberIn UnmetCalls = 19
+numberIn WaitingGrants = 17
+
+abbrev pub tokensIn : Kept → ℕ
+tokensIn UnmetCalls = 17
+tokensIn WaitingGrants = 18

@@ -3,20 +3,29 @@ ghost use mathlib.Core.Path.{_≡_};
 ghost use mathlib.Core.List.{_++_};
 ghost use Prim.Native.Nat.{_+_, _^_, _≤_, _<_};
 ghost use lib.ListN.{length, take, drop};
-ghost use Rattle.policy.specs.Layout.{unmetAt, waitingAt, size as sizeOf};
+ghost use Rattle.policy.specs.Layout.{narrow, size as sizeOf};
 ghost use Rattle.policy.specs.Tables.{readNumber, writeNumber};
-ghost use Rattle.geometry.specs.Geometry.{layoutOf, aidAt, tokAt, provAt, tableAt, entryAt};
+ghost use Rattle.geometry.specs.Geometry.{layoutOf, aidAt, tokAt, provAt, tableAt, entryAt, listAt, listEnd, rowSize, placeAt, numberIn, tokensIn};
 
-// The card of 1,094 bytes.
+// The card of 1,110 bytes.
 pub enum Card {
     Small,
 }
+
+// Bytes of its image.
+pub const SMALL: usize = 1110;
 
 // The three tables of bits.
 pub enum Table {
     Calls,
     Grants,
     Needs,
+}
+
+// The two lists.
+pub enum Kept {
+    UnmetCalls,
+    WaitingGrants,
 }
 
 // Package numbers.
@@ -51,7 +60,7 @@ pub fn size(c: Card) -> usize
     ensures { λ r. ⌜ r ≡ sizeOf (layoutOf c) ⌝ }
 {
     match c {
-        Card::Small => 1094,
+        Card::Small => SMALL,
     }
 }
 
@@ -143,21 +152,63 @@ pub fn entry_at(c: Card, t: Table, i: usize, j: usize) -> usize
     }
 }
 
-// Where the list of unmet calls stands.
-pub fn unmet_at(c: Card) -> usize
-    ensures { λ r. ⌜ r ≡ unmetAt (layoutOf c) ⌝ }
+// Where a list stands: its count, then its rows.
+pub fn list_at(c: Card, l: Kept) -> usize
+    ensures { λ r. ⌜ r ≡ listAt (layoutOf c) l ⌝ }
 {
-    match c {
-        Card::Small => 468,
+    match l {
+        Kept::UnmetCalls => 468,
+        Kept::WaitingGrants => 789,
     }
 }
 
-// Where the list of waiting grants stands.
-pub fn waiting_at(c: Card) -> usize
-    ensures { λ r. ⌜ r ≡ waitingAt (layoutOf c) ⌝ }
+// Where a list ends.
+pub fn list_end(c: Card, l: Kept) -> usize
+    ensures { λ r. ⌜ r ≡ listEnd (layoutOf c) l ⌝ }
 {
-    match c {
-        Card::Small => 789,
+    match l {
+        Kept::UnmetCalls => 789,
+        Kept::WaitingGrants => 1110,
+    }
+}
+
+// Bytes of a row of a list.
+pub fn row_size(c: Card, l: Kept) -> usize
+    ensures { λ r. ⌜ r ≡ rowSize (layoutOf c) l ⌝ }
+{
+    match l {
+        Kept::UnmetCalls => 20,
+        Kept::WaitingGrants => 20,
+    }
+}
+
+// Where row r of a list stands, and where the list ends after r rows.
+pub fn place_at(c: Card, l: Kept, r: usize) -> usize
+    requires { ⌜ r ≤ layoutOf c .capacity ⌝ }
+    ensures { λ a. ⌜ a ≡ placeAt (layoutOf c) l r ⌝ }
+{
+    let at = list_at(c, l);
+    let size = row_size(c, l);
+    at + (1 + r * size)
+}
+
+// Where a row of a list has its package number: the caller's or the callee's.
+pub fn number_in(l: Kept) -> usize
+    ensures { λ r. ⌜ r ≡ numberIn l ⌝ }
+{
+    match l {
+        Kept::UnmetCalls => 19,
+        Kept::WaitingGrants => 17,
+    }
+}
+
+// Where it has its tokens.
+pub fn tokens_in(l: Kept) -> usize
+    ensures { λ r. ⌜ r ≡ tokensIn l ⌝ }
+{
+    match l {
+        Kept::UnmetCalls => 17,
+        Kept::WaitingGrants => 18,
     }
 }
 
@@ -166,7 +217,31 @@ pub fn header(c: Card) -> [u8; 3]
     ensures { λ r. ⌜ r ≡ layoutOf c .header ⌝ }
 {
     match c {
-        Card::Small => *b"\x04\x46\x01",
+        Card::Small => *b"\x04\x56\x02",
+    }
+}
+
+// What differs in an image of version 01: its bytes,
+pub fn old_size() -> usize
+    ensures { λ r. ⌜ r ≡ sizeOf narrow ⌝ }
+{
+    1094
+}
+
+// the first three of them,
+pub fn old_header() -> [u8; 3]
+    ensures { λ r. ⌜ r ≡ narrow .header ⌝ }
+{
+    *b"\x04\x46\x01"
+}
+
+// and the bytes of a row of a list: a waiting grant has its service number where tokens stand since.
+pub fn old_row_size(l: Kept) -> usize
+    ensures { λ r. ⌜ r ≡ rowSize narrow l ⌝ }
+{
+    match l {
+        Kept::UnmetCalls => 20,
+        Kept::WaitingGrants => 19,
     }
 }
 
