@@ -3,24 +3,26 @@ use Prim.Native.Nat.{ℕ, suc, _+_, _*_, _-_, _^_, _≤_, _<_}
 use native.Mathlib.Omega.{arith}
 use native.Mathlib.Nat.{add-assoc, le-trans, le-of-lt}
 use mathlib.Core.Path.{_≡_, refl, sym, ap, _∙_, subst}
-use mathlib.Core.Bool.{Bool}
+use mathlib.Core.Bool.{Bool, true}
 use mathlib.Core.List.{List, [], _∷_, _++_}
 use mathlib.Core.List.{List·Memᴰ as In, Memᴰ·append-left as in-left}
 use lib.ListN.{length, getD, take, drop, replicate}
 use lib.Seq.{split-at, length-take-le}
 use Rattle.policy.specs.Lists.{flat}
 use Rattle.policy.specs.Contract.{Aid}
-use Rattle.policy.specs.Layout.{Layout, LayoutOk, unmetSize, waitingSize, usedAt, unmetAt, waitingAt}
-use Rattle.policy.specs.Tables.{Tables, Unmet, Waiting, rowOf, readNumber, writeAid, writeUnmet, writeWaiting, writeList, writeBits, decode, encode}
+use Rattle.policy.specs.Layout.{Layout, LayoutOk, usedAt}
+use Rattle.policy.specs.Tables.{Tables, noTok, rowOf, readNumber, writeAid, writeList, writeBits, decode, encode}
 use Rattle.policy.proofs.Sets.{in-row}
 use Rattle.policy.proofs.Bits.{length-bits, read-number, rowOf-lt}
-use Rattle.policy.proofs.RoundTrip.{length-unmets, length-waitings}
-use Rattle.policy.proofs.Pieces.{length-aid, length-unmet, length-waiting}
+use Rattle.policy.proofs.Pieces.{length-aid}
 use Rattle.geometry.specs.declared.Table.{Table}
-use Rattle.geometry.specs.Geometry.{aidAt, tokAt, provAt, entryAt}
-use Rattle.image.specs.Laid.{tableOf, Laid, withUnmet, withWaiting}
+use Rattle.geometry.specs.declared.Kept.{Kept}
+use Rattle.geometry.specs.declared.Kept.the-variants.{UnmetCalls, WaitingGrants}
+use Rattle.geometry.specs.Geometry.{aidAt, tokAt, provAt, entryAt, listAt, rowSize, placeAt, numberIn, tokensIn}
+use Rattle.image.specs.Read.{Item, itemsOf, item, itemAid, itemTok, itemNumber, tailOf, writeItem, itemAt}
+use Rattle.image.specs.Laid.{tableOf, Laid, withItems}
 use Rattle.image.proofs.Swap.{Swap, swap-read, swap-byte, segment-byte, swap-cast, swap-skip, swap-head, swap-among}
-use Rattle.image.proofs.Places.{swap-used, swap-aid, swap-tok, swap-row, swap-entry, swap-unmet, swap-waiting}
+use Rattle.image.proofs.Places.{list-fits, list-short, item-length, items-length, swap-used, swap-aid, swap-tok, swap-row, swap-entry, swap-list}
 
 -- ---- row r of a list
 module _ (L : Layout) {A : Type 0} (g : A → List ℕ) (w : ℕ) (l : List A) (wide : (x : A) → In x l → length (g x) ≡ w) {a b : List ℕ} {off : ℕ} where
@@ -35,7 +37,7 @@ module _ (L : Layout) {A : Type 0} (g : A → List ℕ) (w : ℕ) (l : List A) (
       (ap (λ (z : ℕ). off + 1 + z * w) (length-take-le r l (le-of-lt lt)) ∙ add-assoc off 1 (r * w)) refl refl
 
 -- ---- the places
-module _ (L : Layout) (lo : LayoutOk L) {img : List ℕ} (h : Laid L img) where
+module _ (L : Layout) (lo : LayoutOk L) (ey : L .early ≡ true) {img : List ℕ} (h : Laid L img) where
   abbrev t : Tables
   t = decode L img
 
@@ -65,95 +67,75 @@ module _ (L : Layout) (lo : LayoutOk L) {img : List ℕ} (h : Laid L img) where
 
   -- ---- the used package numbers
   pub used-number : readNumber 0 (take (L .width) (drop (usedAt L) img)) ≡ rowOf (L .packages) (t .used)
-  used-number = number (L .packages) (t .used) (lo .packages-fit) (swap-used L lo t (h .room) (t .used))
+  used-number = number (L .packages) (t .used) (lo .packages-fit) (swap-used L lo ey t (h .room) (t .used))
 
   -- ---- an AID: its length, and its bytes
   module _ (k : ℕ) (p : k < L .packages) where
     pub aid-length : getD img (aidAt L k) 0 ≡ length (t .aid k)
-    aid-length = byte (swap-aid L lo t (h .room) k (t .aid k) p)
+    aid-length = byte (swap-aid L lo ey t (h .room) k (t .aid k) p)
 
     pub aid-bytes : take (length (t .aid k)) (drop (aidAt L k + 1) img) ≡ t .aid k
-    aid-bytes = bytes (t .aid k) (swap-aid L lo t (h .room) k (t .aid k) p)
+    aid-bytes = bytes (t .aid k) (swap-aid L lo ey t (h .room) k (t .aid k) p)
+
+    pub aid-slot : take 17 (drop (aidAt L k) img) ≡ writeAid (t .aid k)
+    aid-slot = read (swap-aid L lo ey t (h .room) k (t .aid k) p) 17 (length-aid (t .aid k) (h .room .aid-short k))
 
   -- ---- the tokens of a service
   module _ (j k : ℕ) (p : j < L .packages) (q : k < L .services) where
     pub tok-itf : getD img (tokAt L j k) 0 ≡ t .tok j k .itf
-    tok-itf = byte (swap-tok L lo t (h .room) j k (t .tok j k) p q)
+    tok-itf = byte (swap-tok L lo ey t (h .room) j k (t .tok j k) p q)
 
     pub tok-mth : getD img (tokAt L j k + 1) 0 ≡ t .tok j k .mth
-    tok-mth = let s = t .tok j k in byte (swap-skip (s .itf ∷ []) (s .mth ∷ []) (s .mth ∷ []) refl (swap-tok L lo t (h .room) j k s p q))
+    tok-mth = let s = t .tok j k in byte (swap-skip (s .itf ∷ []) (s .mth ∷ []) (s .mth ∷ []) refl (swap-tok L lo ey t (h .room) j k s p q))
 
   -- ---- the provided services of a package
   pub provides-number : (j : ℕ) → j < L .packages → readNumber 0 (take (L .width) (drop (provAt L j) img)) ≡ rowOf (L .services) (t .provides j)
-  provides-number j p = number (L .services) (t .provides j) (lo .services-fit) (swap-row L lo t (h .room) j (t .provides j) p)
+  provides-number j p = number (L .services) (t .provides j) (lo .services-fit) (swap-row L lo ey t (h .room) j (t .provides j) p)
 
   -- ---- an entry of a table of bits
   pub entry-number : (tb : Table) (i j : ℕ) → i < L .packages → j < L .packages → readNumber 0 (take (L .width) (drop (entryAt L tb i j) img)) ≡ rowOf (L .services) (tableOf tb t i j)
-  entry-number tb i j p q = number (L .services) (tableOf tb t i j) (lo .services-fit) (swap-entry L lo t (h .room) tb i j (tableOf tb t i j) p q)
+  entry-number tb i j p q = number (L .services) (tableOf tb t i j) (lo .services-fit) (swap-entry L lo ey t (h .room) tb i j (tableOf tb t i j) p q)
 
-  -- ---- the list of unmet calls: the whole, its count, and its rows
-  pub unmet-is : take (1 + L .capacity * unmetSize) (drop (unmetAt L) img) ≡ writeList L writeUnmet unmetSize (t .unmet)
-  unmet-is = read (swap-unmet L lo t (h .room) (t .unmet)) (1 + L .capacity * unmetSize) (length-unmets L lo t (h .room))
+  -- ---- a list: the whole, its count, and its rows
+  module _ (l : Kept) where
+    pub list-is : take (1 + L .capacity * rowSize L l) (drop (listAt L l) img) ≡ writeList L (writeItem l) (rowSize L l) (itemsOf l t)
+    list-is = read (swap-list L lo ey t (h .room) l (itemsOf l t)) (1 + L .capacity * rowSize L l) (items-length L ey l (itemsOf l t) (list-fits L t (h .room) l) (list-short L t (h .room) l))
 
-  pub unmet-count : getD img (unmetAt L) 0 ≡ length (t .unmet)
-  unmet-count = byte (swap-unmet L lo t (h .room) (t .unmet))
+    pub list-count : getD img (listAt L l) 0 ≡ length (itemsOf l t)
+    list-count = byte (swap-list L lo ey t (h .room) l (itemsOf l t))
 
-  module _ (r : ℕ) (d : Unmet) (p : r < length (t .unmet)) where
-    abbrev u : Unmet
-    u = getD (t .unmet) r d
+    module _ (r : ℕ) (p : r < length (itemsOf l t)) where
+      abbrev x : Item l
+      x = itemAt l t r
 
-    abbrev unmet-tail : List ℕ
-    unmet-tail = u .tok .itf ∷ u .tok .mth ∷ u .caller ∷ []
+      abbrev tail : List ℕ
+      tail = tailOf l (itemTok l x) (itemNumber l x)
 
-    pub callee-short : length (getD (t .unmet) r d .callee) ≤ 16
-    callee-short = h .room .unmet-short u (in-row (t .unmet) r d p)
+      pub row-short : length (itemAid l (itemAt l t r)) ≤ 16
+      row-short = list-short L t (h .room) l x (in-row (itemsOf l t) r (item l [] noTok 0) p)
 
-    at-unmet : Swap (encode L t) (encode L (withUnmet (t .unmet) t)) (unmetAt L + (1 + r * unmetSize)) (writeUnmet u) (writeUnmet u)
-    at-unmet = list-row L writeUnmet unmetSize (t .unmet) (λ v i. length-unmet v (h .room .unmet-short v i)) r d p (swap-unmet L lo t (h .room) (t .unmet))
+      at-row : Swap (encode L t) (encode L (withItems l (itemsOf l t) t)) (placeAt L l r) (writeItem l x) (writeItem l x)
+      at-row = list-row L (writeItem l) (rowSize L l) (itemsOf l t) (λ y i. item-length L ey l y (list-short L t (h .room) l y i)) r (item l [] noTok 0) p
+          (swap-list L lo ey t (h .room) l (itemsOf l t))
 
-    pub unmet-length : getD img (unmetAt L + (1 + r * unmetSize)) 0 ≡ length (getD (t .unmet) r d .callee)
-    unmet-length = byte at-unmet
+      pub row-length : getD img (placeAt L l r) 0 ≡ length (itemAid l (itemAt l t r))
+      row-length = byte at-row
 
-    pub unmet-bytes : take (length (getD (t .unmet) r d .callee)) (drop (unmetAt L + (1 + r * unmetSize) + 1) img) ≡ getD (t .unmet) r d .callee
-    unmet-bytes = bytes (u .callee) (swap-head (writeAid (u .callee)) (writeAid (u .callee)) unmet-tail at-unmet)
+      pub row-bytes : take (length (itemAid l (itemAt l t r))) (drop (placeAt L l r + 1) img) ≡ itemAid l (itemAt l t r)
+      row-bytes = bytes (itemAid l x) (swap-head (writeAid (itemAid l x)) (writeAid (itemAid l x)) tail at-row)
 
-    pub unmet-itf : getD img (unmetAt L + (1 + r * unmetSize) + 17) 0 ≡ getD (t .unmet) r d .tok .itf
-    unmet-itf = rest (u .callee) callee-short unmet-tail at-unmet 0 (omega arith)
+      row-rest : (i : ℕ) → i < length tail → getD img (placeAt L l r + (17 + i)) 0 ≡ getD tail i 0
+      row-rest i = rest (itemAid l x) row-short tail at-row i
 
-    pub unmet-mth : getD img (unmetAt L + (1 + r * unmetSize) + 18) 0 ≡ getD (t .unmet) r d .tok .mth
-    unmet-mth = rest (u .callee) callee-short unmet-tail at-unmet 1 (omega arith)
+  module _ (r : ℕ) where
+    pub row-itf : (l : Kept) → r < length (itemsOf l t) → getD img (placeAt L l r + tokensIn l) 0 ≡ itemTok l (itemAt l t r) .itf
+    row-itf UnmetCalls p = row-rest UnmetCalls r p 0 (omega arith)
+    row-itf WaitingGrants p = row-rest WaitingGrants r p 1 (omega arith)
 
-    pub unmet-caller : getD img (unmetAt L + (1 + r * unmetSize) + 19) 0 ≡ getD (t .unmet) r d .caller
-    unmet-caller = rest (u .callee) callee-short unmet-tail at-unmet 2 (omega arith)
+    pub row-mth : (l : Kept) → r < length (itemsOf l t) → getD img (placeAt L l r + (tokensIn l + 1)) 0 ≡ itemTok l (itemAt l t r) .mth
+    row-mth UnmetCalls p = row-rest UnmetCalls r p 1 (omega arith)
+    row-mth WaitingGrants p = row-rest WaitingGrants r p 2 (omega arith)
 
-  -- ---- the list of waiting grants, alike
-  pub waiting-is : take (1 + L .capacity * waitingSize) (drop (waitingAt L) img) ≡ writeList L writeWaiting waitingSize (t .waiting)
-  waiting-is = read (swap-waiting L lo t (h .room) (t .waiting)) (1 + L .capacity * waitingSize) (length-waitings L lo t (h .room))
-
-  pub waiting-count : getD img (waitingAt L) 0 ≡ length (t .waiting)
-  waiting-count = byte (swap-waiting L lo t (h .room) (t .waiting))
-
-  module _ (r : ℕ) (d : Waiting) (p : r < length (t .waiting)) where
-    abbrev v : Waiting
-    v = getD (t .waiting) r d
-
-    abbrev waiting-tail : List ℕ
-    waiting-tail = v .callee ∷ v .service ∷ []
-
-    pub caller-short : length (getD (t .waiting) r d .caller) ≤ 16
-    caller-short = h .room .waiting-short v (in-row (t .waiting) r d p)
-
-    at-waiting : Swap (encode L t) (encode L (withWaiting (t .waiting) t)) (waitingAt L + (1 + r * waitingSize)) (writeWaiting v) (writeWaiting v)
-    at-waiting = list-row L writeWaiting waitingSize (t .waiting) (λ x i. length-waiting x (h .room .waiting-short x i)) r d p (swap-waiting L lo t (h .room) (t .waiting))
-
-    pub waiting-length : getD img (waitingAt L + (1 + r * waitingSize)) 0 ≡ length (getD (t .waiting) r d .caller)
-    waiting-length = byte at-waiting
-
-    pub waiting-bytes : take (length (getD (t .waiting) r d .caller)) (drop (waitingAt L + (1 + r * waitingSize) + 1) img) ≡ getD (t .waiting) r d .caller
-    waiting-bytes = bytes (v .caller) (swap-head (writeAid (v .caller)) (writeAid (v .caller)) waiting-tail at-waiting)
-
-    pub waiting-callee : getD img (waitingAt L + (1 + r * waitingSize) + 17) 0 ≡ getD (t .waiting) r d .callee
-    waiting-callee = rest (v .caller) caller-short waiting-tail at-waiting 0 (omega arith)
-
-    pub waiting-service : getD img (waitingAt L + (1 + r * waitingSize) + 18) 0 ≡ getD (t .waiting) r d .service
-    waiting-service = rest (v .caller) caller-short waiting-tail at-waiting 1 (omega arith)
+    pub row-number : (l : Kept) → r < length (itemsOf l t) → getD img (placeAt L l r + numberIn l) 0 ≡ itemNumber l (itemAt l t r)
+    row-number UnmetCalls p = row-rest UnmetCalls r p 2 (omega arith)
+    row-number WaitingGrants p = row-rest WaitingGrants r p 0 (omega arith)

@@ -3,7 +3,7 @@ use Prim.Native.Nat.{ℕ, _≤_, _<_}
 use native.Mathlib.Nat.{not-le-of-lt}
 use mathlib.Core.Path.{_≡_, sym, ap, _∙_, subst}
 use mathlib.Core.Logic.{_⊎_, inl, inr}
-use mathlib.Core.Bool.{Bool, _&&_, cond}
+use mathlib.Core.Bool.{Bool, true, _&&_, cond}
 use mathlib.Core.List.{List, []}
 use mathlib.Core.List.{List·Memᴰ as In}
 use lib.Dec.{T, eqb, eqb→eq}
@@ -11,16 +11,19 @@ use lib.ListN.{length, take}
 use Rattle.policy.specs.Lists.{eqBytes}
 use Rattle.policy.specs.Contract.{Aid, Tok}
 use Rattle.policy.specs.Layout.{Layout, LayoutOk, size}
-use Rattle.policy.specs.Tables.{Tables, Unmet, Waiting, noTok, decode, encode}
+use Rattle.policy.specs.Tables.{Tables, Waiting, noTok, decode, encode}
 use Rattle.policy.specs.Sound.{soundTables, sound}
-use Rattle.policy.proofs.Sets.{and-l, and-r, by-test, eqBytes→}
+use Rattle.policy.proofs.Sets.{true-T, and-l, and-r, by-test, eqBytes→}
 use Rattle.policy.proofs.EveryBit.{BitIn}
 use Rattle.policy.specs.Room.{BitsIn, Room}
 use Rattle.policy.proofs.RoundTrip.{formed-room, length-encode, round-trip}
-use Rattle.policy.proofs.SoundFacts.{sound-formed, sound-fitting}
+use Rattle.policy.proofs.SoundFacts.{sound-formed, sound-ruled, sound-fitting}
 use Rattle.geometry.specs.declared.Table.{Table}
 use Rattle.geometry.specs.declared.Table.the-variants.{Calls, Grants, Needs}
-use Rattle.image.specs.Laid.{tableOf, Laid, withUsed, withAid, withTok, withProvides, withTable, withEntry, withUnmet, withWaiting}
+use Rattle.geometry.specs.declared.Kept.{Kept}
+use Rattle.geometry.specs.declared.Kept.the-variants.{UnmetCalls, WaitingGrants}
+use Rattle.image.specs.Read.{Item, itemAid}
+use Rattle.image.specs.Laid.{tableOf, Laid, withUsed, withAid, withTok, withProvides, withTable, withEntry, withItems}
 use Rattle.image.proofs.Places.{both}
 
 pub entry-in : (L : Layout) (t : Tables) → Room L t → (tb : Table) → BitsIn L (tableOf tb t)
@@ -53,11 +56,15 @@ sound-laid L {img} ok =
     let written = eqBytes (encode L t) img in
     record {
       laid = eqBytes→ (encode L t) img (and-l written (soundTables L t) (and-r first (written && soundTables L t) ok));
-      room = formed-room L t (sound-formed L img ok) (sound-fitting L img ok);
+      room = formed-room L t (sound-formed L img ok) (sound-ruled L img ok) (sound-fitting L img ok);
     }
 
 -- ---- room is kept by each change: `search` takes the other parts from `room`
-module _ (L : Layout) (t : Tables) (room : Room L t) where
+module _ (L : Layout) (ey : L .early ≡ true) (t : Tables) (room : Room L t) where
+  -- R-2: a row of waiting grants holds tokens, and nothing is asked of its service
+  own : (u : Tables) → (T (L .early) → ⊥) → (v : Waiting) → In v (u .waiting) → (k : ℕ) × T (u .provides (v .callee) k) × (u .tok (v .callee) k ≡ v .tok)
+  own u late v i = absurd (late (true-T ey))
+
   pub room-used : (f : ℕ → Bool) → ((x : ℕ) → T (f x) → x < L .packages) → Room L (withUsed f t)
   room-used f h = search
 
@@ -71,7 +78,7 @@ module _ (L : Layout) (t : Tables) (room : Room L t) where
       off x q = by-test (λ z. z ≡ []) a (t .aid x) (eqb x n) (λ e. absurd (not-le-of-lt p (subst (λ (y : ℕ). L .packages ≤ y) (eqb→eq x n e) q))) (λ _. room .aid-off x q)
 
   pub room-tok : (j k : ℕ) (s : Tok) → j < L .packages → k < L .services → Room L (withTok j k s t)
-  room-tok j k s p q = search off
+  room-tok j k s p q = search (off, own (withTok j k s t))
     where
       out : (x y : ℕ) → (x ≡ j) × (y ≡ k) → (L .packages ≤ x) ⊎ (L .services ≤ y) → s ≡ noTok
       out x y e (inl o) = absurd (not-le-of-lt p (subst (λ (z : ℕ). L .packages ≤ z) (e .0) o))
@@ -81,7 +88,7 @@ module _ (L : Layout) (t : Tables) (room : Room L t) where
       off x y o = by-test (λ z. z ≡ noTok) s (t .tok x y) (eqb x j && eqb y k) (λ e. out x y (both x y j k e) o) (λ _. room .tok-off x y o)
 
   pub room-provides : (j : ℕ) (f : ℕ → Bool) → j < L .packages → ((y : ℕ) → T (f y) → y < L .services) → Room L (withProvides j f t)
-  room-provides j f p h = search inside
+  room-provides j f p h = search (inside, own (withProvides j f t))
     where
       inside : (x y : ℕ) → T (withProvides j f t .provides x y) → (x < L .packages) × (y < L .services)
       inside x y =
@@ -99,8 +106,6 @@ module _ (L : Layout) (t : Tables) (room : Room L t) where
       (λ x y z. by-test (λ b. T b → BitIn L x y z) (f z) (tableOf tb t x y z) (eqb x i && eqb y j)
       (λ e s. let o = both x y i j e in (subst (λ (k : ℕ). k < L .packages) (sym (o .0)) p, subst (λ (k : ℕ). k < L .packages) (sym (o .1)) q, h z s)) (λ _. entry-in L t room tb x y z))
 
-  pub room-unmet : (l : List Unmet) → length l ≤ L .capacity → ((u : Unmet) → In u l → length (u .callee) ≤ 16) → Room L (withUnmet l t)
-  room-unmet l p h = search
-
-  pub room-waiting : (l : List Waiting) → length l ≤ L .capacity → ((v : Waiting) → In v l → length (v .caller) ≤ 16) → Room L (withWaiting l t)
-  room-waiting l p h = search
+  pub room-list : (l : Kept) (m : List (Item l)) → length m ≤ L .capacity → ((x : Item l) → In x m → length (itemAid l x) ≤ 16) → Room L (withItems l m t)
+  room-list UnmetCalls m p h = search
+  room-list WaitingGrants m p h = search (own (withItems WaitingGrants m t))

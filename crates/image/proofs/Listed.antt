@@ -4,154 +4,149 @@ use native.Mathlib.Omega.{arith}
 use native.Mathlib.Nat.{add-assoc}
 use mathlib.Core.Path.{_≡_, refl, sym, ap, ap₂, _∙_}
 use mathlib.Core.Bool.{Bool, true, false, not, _&&_, and-false, and-true}
-use mathlib.Core.List.{List}
+use mathlib.Core.List.{List, []}
 use lib.Dec.{eqb}
 use lib.ListN.{length, getD, take, drop}
 use mir.Syntax.{w64}
 use mir.Val.{boolByte, Fits}
 use borrow.Author.Needs.{needs}
 use Rattle.policy.specs.Contract.{Aid, eqAid, Tok, eqTok}
-use Rattle.policy.specs.Layout.{unmetAt, waitingAt}
-use Rattle.policy.specs.Tables.{Tables, Unmet, Waiting, decode}
+use Rattle.policy.specs.Tables.{Tables, noTok, decode}
+use Rattle.policy.specs.Lookup.{numberOf}
 use Rattle.policy.proofs.Sets.{false-T}
 use Rattle.geometry.specs.declared.Card.{Card}
-use Rattle.geometry.specs.Geometry.{layoutOf}
-use Rattle.geometry.proofs.Bounds.{layout-ok, limits, unmet-in, waiting-in}
+use Rattle.geometry.specs.declared.Kept.{Kept}
+use Rattle.geometry.specs.Geometry.{layoutOf, listAt, placeAt, numberIn}
+use Rattle.geometry.specs.Geometry as geometry
+use Rattle.geometry.proofs.Bounds.{layout-ok, early, limits, list-in, row-in, number-in-row, tokens-in-row}
 use Rattle.image.specs.Laid.{Laid}
-use Rattle.image.specs.Read.{tokens, aidIn, tokensIn, noUnmet, unmetRow, noWaiting, waitingRow, maskOf}
+use Rattle.image.specs.Read.{numberOr, tokens, aidIn, tokensIn, Item, itemsOf, item, itemAid, itemTok, itemNumber, itemAt, maskOf}
 use Rattle.image.proofs.Access as at
+use Rattle.image.proofs.Places.{list-fits}
 use Rattle.image.proofs.Seen.{aid-held, laid-size}
 use Rattle.image.proofs.Masks.{mask-start, mask-turn, mask-doubles, mask-adds, mask-end}
 
 -- ---- a test of the tokens first, then of the AID
-other : (b : Bool) (x y : Bool) → b ≡ y → not b ≡ true → false ≡ x && y
+pub other : (b : Bool) (x y : Bool) → b ≡ y → not b ≡ true → false ≡ x && y
 other false x y e q = sym (and-false x) ∙ ap (λ (z : Bool). x && z) e
 other true x y e q = absurd (false-T (sym q) tt)
 
-alike : (b r x y : Bool) → b ≡ y → not b ≡ false → r ≡ x → r ≡ x && y
+pub alike : (b r x y : Bool) → b ≡ y → not b ≡ false → r ≡ x → r ≡ x && y
 alike true r x y e q z = z ∙ sym (and-true x) ∙ ap (λ (v : Bool). x && v) e
 alike false r x y e q z = absurd (false-T q tt)
 
-module _ (c : Card) (img : List ℕ) (h : Laid (layoutOf c) img) where
+module _ (c : Card) (img : List ℕ) (h : Laid (layoutOf c) img) (l : Kept) where
   abbrev t : Tables
   t = decode (layoutOf c) img
 
-  -- ---- unmet calls: their count
-  pub unmet-low : length (decode (layoutOf c) img .unmet) ≤ 32
-  unmet-low = omega (arith, h .room .unmet-fits, limits c)
+  -- ---- its count
+  pub list-low : length (itemsOf l (decode (layoutOf c) img)) ≤ 32
+  list-low = omega (arith, list-fits (layoutOf c) t (h .room) l, limits c)
 
-  pub unmet-counts : (a : ℕ) → a ≡ unmetAt (layoutOf c) → a < length img
-  unmet-counts a q = omega (arith, laid-size c img h)
+  pub list-counts : (a : ℕ) → a ≡ listAt (layoutOf c) l → a < length img
+  list-counts a q = omega (arith, laid-size c img h, list-in c l)
 
-  pub unmet-counted : (a r : ℕ) → a ≡ unmetAt (layoutOf c) → r ≡ getD img a 0 → r ≡ length (decode (layoutOf c) img .unmet)
-  unmet-counted a r q e = e ∙ ap (λ (x : ℕ). getD img x 0) q ∙ at.unmet-count (layoutOf c) (layout-ok c) h
+  pub list-counted : (a r : ℕ) → a ≡ listAt (layoutOf c) l → r ≡ getD img a 0 → r ≡ length (itemsOf l (decode (layoutOf c) img))
+  list-counted a r q e = e ∙ ap (λ (x : ℕ). getD img x 0) q ∙ at.list-count (layoutOf c) (layout-ok c) (early c) h l
 
-  -- row r, which stands at a
-  module _ (r : ℕ) (p : r < length (decode (layoutOf c) img .unmet)) (a : ℕ) (q : a ≡ unmetAt (layoutOf c) + (1 + r * 20)) where
-    unmet-room : a + 20 ≤ length img
-    unmet-room = omega (arith, laid-size c img h, unmet-in c r (omega (arith, h .room .unmet-fits)))
+  -- ---- row r, which stands at a
+  module _ (r : ℕ) (p : r < length (itemsOf l (decode (layoutOf c) img))) where
+    pub row-lt : r ≤ layoutOf c .capacity
+    row-lt = omega (arith, list-fits (layoutOf c) t (h .room) l)
 
-    pub unmet-byte : (k : ℕ) → k < 20 → a + k < length img
-    unmet-byte k l = omega (arith, unmet-room)
+    module _ (a : ℕ) (q : a ≡ placeAt (layoutOf c) l r) where
+      row-room : a + 20 ≤ length img
+      row-room = omega (arith, laid-size c img h, row-in c l r (omega (arith, list-fits (layoutOf c) t (h .room) l)))
 
-    pub unmet-sum : (k : ℕ) → k < 20 → Fits w64 (a + k)
-    unmet-sum k l = omega (arith, laid-size c img h, unmet-room, limits c)
+      pub row-sum : (k : ℕ) → k < 20 → Fits w64 (a + k)
+      row-sum k g = omega (arith, laid-size c img h, row-room, limits c)
 
-    pub unmet-aid : a + 17 ≤ length img
-    unmet-aid = omega (arith, unmet-room)
+      pub row-aid : a + 17 ≤ length img
+      row-aid = omega (arith, row-room)
 
-    pub unmet-tokens : a + 17 + 2 ≤ length img
-    unmet-tokens = omega (arith, unmet-room)
+      pub row-start : a < length img
+      row-start = omega (arith, row-room)
 
-    callee-length : getD img a 0 ≡ length (unmetRow t r .callee)
-    callee-length = ap (λ (x : ℕ). getD img x 0) q ∙ at.unmet-length (layoutOf c) (layout-ok c) h r noUnmet p
+      aid-length : getD img a 0 ≡ length (itemAid l (itemAt l t r))
+      aid-length = ap (λ (x : ℕ). getD img x 0) q ∙ at.row-length (layoutOf c) (layout-ok c) (early c) h l r p
 
-    pub callee-short : getD img a 0 ≤ 16
-    callee-short = omega (arith, callee-length, at.callee-short (layoutOf c) (layout-ok c) h r noUnmet p)
+      pub aid-short : getD img a 0 ≤ 16
+      aid-short = omega (arith, aid-length, at.row-short (layoutOf c) (layout-ok c) (early c) h l r p)
 
-    pub callee-seen : aidIn img a ≡ unmetRow t r .callee
-    callee-seen =
-        aid-held img a (unmetRow t r .callee) callee-length
-        (ap (λ (x : ℕ). take (length (unmetRow t r .callee)) (drop (x + 1) img)) q ∙ at.unmet-bytes (layoutOf c) (layout-ok c) h r noUnmet p)
+      pub aid-seen : aidIn img a ≡ itemAid l (itemAt l (decode (layoutOf c) img) r)
+      aid-seen =
+          aid-held img a (itemAid l (itemAt l t r)) aid-length
+          (ap (λ (x : ℕ). take (length (itemAid l (itemAt l t r))) (drop (x + 1) img)) q ∙ at.row-bytes (layoutOf c) (layout-ok c) (early c) h l r p)
 
-    pub callee-is : (aid : List ℕ) (v : Bool) → v ≡ eqAid (aidIn img a) aid → v ≡ eqAid (unmetRow (decode (layoutOf c) img) r .callee) aid
-    callee-is aid v z = z ∙ ap (λ (s : Aid). eqAid s aid) callee-seen
+      -- the AID's bytes as a part of the image
+      pub held-sum : Fits w64 (a + 1)
+      held-sum = row-sum 1 (omega arith)
 
-    pub itf-seen : (n : ℕ) → n ≡ getD img (a + 17) 0 → n ≡ unmetRow (decode (layoutOf c) img) r .tok .itf
-    itf-seen n e = e ∙ ap (λ (x : ℕ). getD img (x + 17) 0) q ∙ at.unmet-itf (layoutOf c) (layout-ok c) h r noUnmet p
+      module _ (n : ℕ) (i : n ≡ getD img a 0) where
+        pub held-end : Fits w64 (a + 1 + n)
+        held-end = omega (arith, laid-size c img h, row-room, aid-short, limits c)
 
-    pub mth-seen : (n : ℕ) → n ≡ getD img (a + 18) 0 → n ≡ unmetRow (decode (layoutOf c) img) r .tok .mth
-    mth-seen n e = e ∙ ap (λ (x : ℕ). getD img (x + 18) 0) q ∙ at.unmet-mth (layoutOf c) (layout-ok c) h r noUnmet p
+        pub held-in : a + 1 + n ≤ length img
+        held-in = omega (arith, row-room, aid-short)
 
-    pub tok-seen : tokensIn img (a + 17) ≡ unmetRow t r .tok
-    tok-seen = λ i. record { itf = itf-seen (getD img (a + 17) 0) refl i; mth = mth-seen (getD img (a + 17 + 1) 0) (ap (λ (x : ℕ). getD img x 0) (add-assoc a 17 1)) i }
+        pub holder-is : (r′ : ℕ) → r′ ≡ numberOr (layoutOf c .packages) (numberOf (layoutOf c) (decode (layoutOf c) img) (take (a + 1 + n - (a + 1)) (drop (a + 1) img)))
+            → r′ ≡ numberOr (layoutOf c .packages) (numberOf (layoutOf c) (decode (layoutOf c) img) (itemAid l (itemAt l (decode (layoutOf c) img) r)))
+        holder-is r′ e =
+            let k : a + 1 + n - (a + 1) ≡ getD img a 0 = omega (arith, i) in
+            e ∙ ap (λ (z : Aid). numberOr (layoutOf c .packages) (numberOf (layoutOf c) t z)) (ap (λ (z : ℕ). take z (drop (a + 1) img)) k ∙ aid-seen)
 
-    pub by-seen : (n : ℕ) → n ≡ getD img (a + 19) 0 → n ≡ unmetRow (decode (layoutOf c) img) r .caller
-    by-seen n e = e ∙ ap (λ (x : ℕ). getD img (x + 19) 0) q ∙ at.unmet-caller (layoutOf c) (layout-ok c) h r noUnmet p
+      pub aid-is : (aid : List ℕ) (v : Bool) → v ≡ eqAid (aidIn img a) aid → v ≡ eqAid (itemAid l (itemAt l (decode (layoutOf c) img) r)) aid
+      aid-is aid v z = z ∙ ap (λ (s : Aid). eqAid s aid) aid-seen
 
-    module _ (aid : List ℕ) (x y : ℕ) (b : Bool) (e : b ≡ eqTok (tokensIn img (a + 17)) (tokens x y)) where
-      pub asks-other : not b ≡ true → false ≡ eqAid (unmetRow (decode (layoutOf c) img) r .callee) aid && eqTok (unmetRow (decode (layoutOf c) img) r .tok) (tokens x y)
-      asks-other g = other b (eqAid (unmetRow t r .callee) aid) (eqTok (unmetRow t r .tok) (tokens x y)) (e ∙ ap (λ (s : Tok). eqTok s (tokens x y)) tok-seen) g
+      -- its number, at k
+      module _ (k : ℕ) (i : k ≡ numberIn l) where
+        pub number-byte : a + k < length img
+        number-byte = omega (arith, row-room, number-in-row l)
 
-      pub asks-seen : (v : Bool) → not b ≡ false → v ≡ eqAid (unmetRow (decode (layoutOf c) img) r .callee) aid
-          → v ≡ eqAid (unmetRow (decode (layoutOf c) img) r .callee) aid && eqTok (unmetRow (decode (layoutOf c) img) r .tok) (tokens x y)
-      asks-seen v g z =
-          alike b v (eqAid (unmetRow t r .callee) aid) (eqTok (unmetRow t r .tok) (tokens x y)) (e ∙ ap (λ (s : Tok). eqTok s (tokens x y)) tok-seen) g z
+        pub number-sum : Fits w64 (a + k)
+        number-sum = row-sum k (omega (arith, number-in-row l))
 
-  -- ---- waiting grants, alike
-  pub waiting-low : length (decode (layoutOf c) img .waiting) ≤ 32
-  waiting-low = omega (arith, h .room .waiting-fits, limits c)
+        pub number-seen : (n : ℕ) → n ≡ getD img (a + k) 0 → n ≡ itemNumber l (itemAt l (decode (layoutOf c) img) r)
+        number-seen n e = e ∙ ap₂ (λ (x y : ℕ). getD img (x + y) 0) q i ∙ at.row-number (layoutOf c) (layout-ok c) (early c) h r l p
 
-  pub waiting-counts : (a : ℕ) → a ≡ waitingAt (layoutOf c) → a < length img
-  waiting-counts a q = omega (arith, laid-size c img h)
+      -- its tokens, at k
+      module _ (k : ℕ) (i : k ≡ geometry.tokensIn l) where
+        pub tokens-byte : a + k < length img
+        tokens-byte = omega (arith, row-room, tokens-in-row l)
 
-  pub waiting-counted : (a r : ℕ) → a ≡ waitingAt (layoutOf c) → r ≡ getD img a 0 → r ≡ length (decode (layoutOf c) img .waiting)
-  waiting-counted a r q e = e ∙ ap (λ (x : ℕ). getD img x 0) q ∙ at.waiting-count (layoutOf c) (layout-ok c) h
+        pub tokens-sum : Fits w64 (a + k)
+        tokens-sum = row-sum k (omega (arith, tokens-in-row l))
 
-  module _ (r : ℕ) (p : r < length (decode (layoutOf c) img .waiting)) (a : ℕ) (q : a ≡ waitingAt (layoutOf c) + (1 + r * 19)) where
-    waiting-room : a + 19 ≤ length img
-    waiting-room = omega (arith, laid-size c img h, waiting-in c r (omega (arith, h .room .waiting-fits)))
+        pub tokens-room : a + k + 2 ≤ length img
+        tokens-room = omega (arith, row-room, tokens-in-row l)
 
-    pub waiting-byte : (k : ℕ) → k < 19 → a + k < length img
-    waiting-byte k l = omega (arith, waiting-room)
+        pub method-in : Fits w64 (k + 1)
+        method-in = omega (arith, tokens-in-row l)
 
-    pub waiting-sum : (k : ℕ) → k < 19 → Fits w64 (a + k)
-    waiting-sum k l = omega (arith, laid-size c img h, waiting-room, limits c)
+        pub method-byte : a + (k + 1) < length img
+        method-byte = omega (arith, row-room, tokens-in-row l)
 
-    pub waiting-aid : a + 17 ≤ length img
-    waiting-aid = omega (arith, waiting-room)
+        pub method-sum : Fits w64 (a + (k + 1))
+        method-sum = row-sum (k + 1) (omega (arith, tokens-in-row l))
 
-    caller-length : getD img a 0 ≡ length (waitingRow t r .caller)
-    caller-length = ap (λ (x : ℕ). getD img x 0) q ∙ at.waiting-length (layoutOf c) (layout-ok c) h r noWaiting p
+        pub itf-seen : (n : ℕ) → n ≡ getD img (a + k) 0 → n ≡ itemTok l (itemAt l (decode (layoutOf c) img) r) .itf
+        itf-seen n e = e ∙ ap₂ (λ (x y : ℕ). getD img (x + y) 0) q i ∙ at.row-itf (layoutOf c) (layout-ok c) (early c) h r l p
 
-    pub caller-short : getD img a 0 ≤ 16
-    caller-short = omega (arith, caller-length, at.caller-short (layoutOf c) (layout-ok c) h r noWaiting p)
+        pub mth-seen : (n : ℕ) → n ≡ getD img (a + (k + 1)) 0 → n ≡ itemTok l (itemAt l (decode (layoutOf c) img) r) .mth
+        mth-seen n e = e ∙ ap₂ (λ (x y : ℕ). getD img (x + (y + 1)) 0) q i ∙ at.row-mth (layoutOf c) (layout-ok c) (early c) h r l p
 
-    pub caller-seen : aidIn img a ≡ waitingRow t r .caller
-    caller-seen =
-        aid-held img a (waitingRow t r .caller) caller-length
-        (ap (λ (x : ℕ). take (length (waitingRow t r .caller)) (drop (x + 1) img)) q ∙ at.waiting-bytes (layoutOf c) (layout-ok c) h r noWaiting p)
+        pub tok-seen : tokensIn img (a + k) ≡ itemTok l (itemAt l (decode (layoutOf c) img) r)
+        tok-seen = λ i. record { itf = itf-seen (getD img (a + k) 0) refl i; mth = mth-seen (getD img (a + k + 1) 0) (ap (λ (x : ℕ). getD img x 0) (add-assoc a k 1)) i }
 
-    pub waits-seen : (aid : List ℕ) (v : Bool) → v ≡ eqAid (aidIn img a) aid → v ≡ eqAid (waitingRow (decode (layoutOf c) img) r .caller) aid
-    waits-seen aid v z = z ∙ ap (λ (s : Aid). eqAid s aid) caller-seen
+        pub tokens-are : (x y : ℕ) (b : Bool) → b ≡ eqTok (tokensIn img (a + k)) (tokens x y) → b ≡ eqTok (itemTok l (itemAt l (decode (layoutOf c) img) r)) (tokens x y)
+        tokens-are x y b e = e ∙ ap (λ (s : Tok). eqTok s (tokens x y)) tok-seen
 
-    pub granter-seen : (n : ℕ) → n ≡ getD img (a + 17) 0 → n ≡ waitingRow (decode (layoutOf c) img) r .callee
-    granter-seen n e = e ∙ ap (λ (x : ℕ). getD img (x + 17) 0) q ∙ at.waiting-callee (layoutOf c) (layout-ok c) h r noWaiting p
-
-    pub granted-seen : (n : ℕ) → n ≡ getD img (a + 18) 0 → n ≡ waitingRow (decode (layoutOf c) img) r .service
-    granted-seen n e = e ∙ ap (λ (x : ℕ). getD img (x + 18) 0) q ∙ at.waiting-service (layoutOf c) (layout-ok c) h r noWaiting p
-
-pub ruleset listed = (unmet-counts, unmet-counted, unmet-byte, unmet-sum, unmet-aid, unmet-tokens, callee-short, callee-is, itf-seen, mth-seen, by-seen, asks-other, asks-seen, waiting-counts, waiting-counted, waiting-byte, waiting-sum, waiting-aid, caller-short, waits-seen, granter-seen, granted-seen, needs)
+pub ruleset listed = (list-counts, list-counted, row-lt, row-aid, row-start, aid-short, held-sum, held-end, held-in, holder-is, aid-is, number-byte, number-sum, number-seen, tokens-byte, tokens-sum, tokens-room, method-in, method-byte, method-sum, itf-seen, mth-seen, tokens-are, other, alike, needs)
 
 -- ---- the loops that gather a mask of rows: `search masks`
--- a turn whose test is of numbers that were read
-module _ (f : Unmet → Bool) (l : List Unmet) (r m : ℕ) (e : m ≡ maskOf f (drop r l)) (h : 0 < r) (i : r ≤ length l) where
-  pub unmet-turn : (b : Bool) → b ≡ f (getD l (r - 1) noUnmet) → m * 2 + boolByte b ≡ maskOf f (drop (r - 1) l)
-  unmet-turn = mask-turn f l r m e h i noUnmet
-
-module _ (f : Waiting → Bool) (l : List Waiting) (r m : ℕ) (e : m ≡ maskOf f (drop r l)) (h : 0 < r) (i : r ≤ length l) where
-  pub waiting-turn : (b : Bool) → b ≡ f (getD l (r - 1) noWaiting) → m * 2 + boolByte b ≡ maskOf f (drop (r - 1) l)
-  waiting-turn = mask-turn f l r m e h i noWaiting
+module _ (l : Kept) (f : Item l → Bool) (m : List (Item l)) (r mask : ℕ) (e : mask ≡ maskOf f (drop r m)) (h : 0 < r) (i : r ≤ length m) where
+  pub item-turn : (b : Bool) → b ≡ f (getD m (r - 1) (item l [] noTok 0)) → mask * 2 + boolByte b ≡ maskOf f (drop (r - 1) m)
+  item-turn = mask-turn f m r mask e h i (item l [] noTok 0)
 
 pub number-same : (n x y : ℕ) → x ≡ y → eqb x n ≡ eqb y n
 number-same n x y e = ap (λ (z : ℕ). eqb z n) e
@@ -159,4 +154,4 @@ number-same n x y e = ap (λ (z : ℕ). eqb z n) e
 pub both-same : (a b c d : Bool) → a ≡ b → c ≡ d → a && c ≡ b && d
 both-same a b c d p q = ap₂ (λ (x y : Bool). x && y) p q
 
-pub ruleset masks = (mask-start, mask-turn, mask-doubles, mask-adds, mask-end, unmet-turn, waiting-turn, number-same, both-same, unmet-low, waiting-low, needs)
+pub ruleset masks = (mask-start, mask-turn, mask-doubles, mask-adds, mask-end, item-turn, number-same, both-same, list-low, needs)

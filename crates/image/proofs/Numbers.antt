@@ -1,7 +1,7 @@
 -- What a number that code found says of the search: below the limit it is what was found, at the limit nothing was.
 use Prim.Native.Nat.{ℕ, _≤_, _<_}
 use native.Mathlib.Omega.{arith}
-use mathlib.Core.Path.{_≡_, refl, sym, ap, _∙_}
+use mathlib.Core.Path.{_≡_, refl, sym, ap, ap₂, _∙_}
 use mathlib.Core.Bool.{Bool}
 use mathlib.Core.Option.{Option, none, some}
 use borrow.Author.Needs.{needs}
@@ -9,10 +9,11 @@ use Rattle.policy.specs.Lists.{first, upto, orElse}
 use Rattle.policy.specs.Contract.{Aid, Tok, Row}
 use Rattle.policy.specs.Layout.{Layout}
 use Rattle.policy.specs.Tables.{Tables}
-use Rattle.policy.specs.Lookup.{Place as Found, numberOf, serviceOf, serverOf, freeNumber, freeService}
+use Rattle.policy.specs.Lookup.{Place as Found, Spot as SpotFound, numberOf, serviceOf, serverOf, spotOf, freeNumber, freeService}
 use Rattle.policy.proofs.Sets.{Found as Finds, found, upto-in}
 use Rattle.image.specs.declared.read.Place.{Place}
-use Rattle.image.specs.Read.{numberOr, placeOr, tokens, asked}
+use Rattle.image.specs.declared.read.Spot.{Spot}
+use Rattle.image.specs.Read.{numberOr, placeOr, spotOr, tokens, asked}
 
 -- what was found is below n
 abbrev pub Below : ℕ → Option ℕ → Type 0
@@ -108,6 +109,29 @@ module _ (L : Layout) (t : Tables) where
         pub served-at : k < m → _≡_ {A = Place} (record { callee = j; service = k }) (placeOr L (serverOf L t (asked a x y)))
         served-at l = sym (ap (placeOr L) (by-service (some k) (service-some j (tokens x y) k q (omega arith))))
 
+  -- ---- a grant of package j as a bit: i is the number of its caller, and k that of its service
+  module _ (j : ℕ) (a : Aid) (x y : ℕ) where
+    abbrev spotted : Option ℕ → Option ℕ → Option SpotFound
+    spotted o u = orElse o none (λ i. orElse u none (λ k. some (record { caller = i; service = k })))
+
+    by-both : (o u : Option ℕ) → numberOf L t a ≡ o → serviceOf L t j (tokens x y) ≡ u → spotOf L t j (asked a x y) ≡ spotted o u
+    unfolding spotOf
+    by-both o u e f = ap₂ spotted e f
+
+    module _ (n m i : ℕ) (en : n ≡ L .packages) (em : m ≡ L .services) (p : i ≡ numberOr (L .packages) (numberOf L t a)) where
+      no-spot : spotOf L t j (asked a x y) ≡ none → _≡_ {A = Spot} (record { caller = n; service = m }) (spotOr L (spotOf L t j (asked a x y)))
+      no-spot e = (λ r. record { caller = en r; service = em r }) ∙ sym (ap (spotOr L) e)
+
+      pub no-caller : n ≤ i → _≡_ {A = Spot} (record { caller = n; service = m }) (spotOr L (spotOf L t j (asked a x y)))
+      no-caller h = no-spot (by-both none (serviceOf L t j (tokens x y)) (package-none a i p (omega arith)) refl)
+
+      module _ (k : ℕ) (h : i < n) (q : k ≡ numberOr (L .services) (serviceOf L t j (tokens x y))) where
+        pub not-provided : m ≤ k → _≡_ {A = Spot} (record { caller = n; service = m }) (spotOr L (spotOf L t j (asked a x y)))
+        not-provided l = no-spot (by-both (some i) none (package-some a i p (omega arith)) (service-none j (tokens x y) k q (omega arith)))
+
+        pub spotted-at : k < m → _≡_ {A = Spot} (record { caller = i; service = k }) (spotOr L (spotOf L t j (asked a x y)))
+        spotted-at l = sym (ap (spotOr L) (by-both (some i) (some k) (package-some a i p (omega arith)) (service-some j (tokens x y) k q (omega arith))))
+
 -- ---- what a place that was found says
 PlaceBelow : Layout → Option Found → Type 0
 PlaceBelow L none = Unit {0}
@@ -145,5 +169,39 @@ module _ (L : Layout) (t : Tables) (r : Row) where
     pub server-some : p .callee < L .packages → (serverOf L t r ≡ some (record { callee = p .callee; service = p .service })) × (p .service < L .services)
     server-some = place-some L p (serverOf L t r) server-below e
 
+-- ---- what a grant that was found as a bit says
+SpotBelow : Layout → Option SpotFound → Type 0
+SpotBelow L none = Unit {0}
+SpotBelow L (some p) = (p .caller < L .packages) × (p .service < L .services)
+
+spot-out : (L : Layout) (p : Spot) (o : Option SpotFound) → SpotBelow L o → p ≡ spotOr L o → L .packages ≤ p .caller → o ≡ none
+unfolding SpotBelow
+spot-out L p none b e h = refl
+spot-out L p (some q) b e h = let z = ap (λ (u : Spot). u .caller) e in absurd (omega arith)
+
+spot-in : (L : Layout) (p : Spot) (o : Option SpotFound) → SpotBelow L o → p ≡ spotOr L o → p .caller < L .packages → (o ≡ some (record { caller = p .caller; service = p .service })) × (p .service < L .services)
+unfolding SpotBelow
+spot-in L p none b e h = let z = ap (λ (u : Spot). u .caller) e in absurd (omega arith)
+spot-in L p (some q) b e h =
+    let z = ap (λ (u : Spot). u .service) e in
+    ((λ i. some (record { caller = sym e i .caller; service = sym e i .service })), omega arith)
+
+module _ (L : Layout) (t : Tables) (j : ℕ) (r : Row) where
+  spot-below : SpotBelow L (spotOf L t j r)
+  unfolding spotOf SpotBelow
+  spot-below = go (numberOf L t (r .aid)) (package-below L t (r .aid)) (serviceOf L t j (r .tok)) (service-below L t j (r .tok))
+    where
+      go : (o : Option ℕ) → Below (L .packages) o → (u : Option ℕ) → Below (L .services) u → SpotBelow L (orElse o none (λ i. orElse u none (λ k. some (record { caller = i; service = k }))))
+      go none b u d = tt
+      go (some i) b none d = tt
+      go (some i) b (some k) d = (b, d)
+
+  module _ (p : Spot) (e : p ≡ spotOr L (spotOf L t j r)) where
+    pub spot-none : L .packages ≤ p .caller → spotOf L t j r ≡ none
+    spot-none = spot-out L p (spotOf L t j r) spot-below e
+
+    pub spot-some : p .caller < L .packages → (spotOf L t j r ≡ some (record { caller = p .caller; service = p .service })) × (p .service < L .services)
+    spot-some = spot-in L p (spotOf L t j r) spot-below e
+
 -- what the searches for a package and its service leave: `search located`
-pub ruleset located = (no-package, no-service, served-at, needs)
+pub ruleset located = (no-package, no-service, served-at, no-caller, not-provided, spotted-at, needs)

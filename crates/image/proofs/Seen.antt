@@ -1,32 +1,37 @@
 -- What code reads in a laid image of a card, in the form in which the needs ask it: `search seen`.
 use Prim.Native.Nat.{ℕ, _+_, _-_, _≤_, _<_}
 use native.Mathlib.Omega.{arith}
-use mathlib.Core.Path.{_≡_, refl, sym, ap, _∙_}
+use mathlib.Core.Path.{_≡_, refl, sym, ap, ap₂, _∙_}
 use mathlib.Core.Bool.{Bool, true, false, not, _&&_, and-true, and-false}
-use mathlib.Core.List.{List, [], _∷_}
+use mathlib.Core.List.{List, [], _∷_, _++_, append-nil}
 use lib.Dec.{eqb}
-use lib.ListN.{length, getD, take, drop, length-take, length-drop}
+use lib.ListN.{length, getD, take, drop, length-take, length-drop, drop-of-length-le}
 use borrow.Author.Tests.{not-true, not-false, ne-eqb}
 use Rattle.policy.specs.Lists.{eqBytes, first, upto}
 use Rattle.policy.specs.Contract.{Aid, eqAid, Tok, eqTok}
 use Rattle.policy.specs.Layout.{size}
-use Rattle.policy.specs.Tables.{readNumber, rowOf, bit, decode}
+use Rattle.policy.specs.Tables.{readNumber, writeAid, rowOf, bit, decode}
 use Rattle.policy.specs.Lookup.{freeNumber, freeService}
 use Rattle.policy.proofs.Sets.{T-false, false-T, upto-in}
 use Rattle.policy.proofs.Equal.{eqAid→}
 use Rattle.policy.proofs.Bits.{rowOf-lt, bit-rowOf}
+use Rattle.policy.proofs.Pieces.{length-aid}
 use Rattle.bits.proofs.Loops.{first-ext}
 use Rattle.bits.proofs.Row.{lowest-row}
-use Rattle.rows.specs.Area.{part}
+use Rattle.rows.specs.Area.{part, over}
 use Rattle.rows.proofs.Over.{getD-part}
 use Rattle.geometry.specs.declared.Card.{Card}
 use Rattle.geometry.specs.declared.Table.{Table}
 use Rattle.geometry.specs.Geometry.{layoutOf, aidAt, tokAt, provAt, entryAt}
-use Rattle.geometry.proofs.Bounds.{layout-ok, limits, geo}
+use Rattle.geometry.proofs.Bounds.{layout-ok, early, limits, geo}
 use Rattle.image.specs.Laid.{Laid, tableOf}
 use Rattle.image.specs.Read.{numberOr, tokens, aidIn, tokensIn}
 use Rattle.image.proofs.Laid.{laid-length}
-use Rattle.image.proofs.Access.{used-number, provides-number, entry-number, aid-length, aid-bytes, tok-itf, tok-mth}
+use Rattle.image.proofs.Access.{used-number, provides-number, entry-number, aid-length, aid-bytes, aid-slot, tok-itf, tok-mth}
+
+-- as many bytes over a list as it has
+over-whole : (x l : List ℕ) → length x ≡ length l → over 0 x l ≡ x
+over-whole x l e = ap (λ (z : List ℕ). x ++ z) (drop-of-length-le l {i = 0 + length x} (omega arith)) ∙ append-nil x
 
 -- ---- a bit of a row, as a test leaves it
 bit-off : (n : ℕ) (f : ℕ → Bool) {k row : ℕ} {b : Bool} (x : Bool) → row ≡ rowOf n f → k < n → b ≡ bit row k → not b ≡ true → false ≡ f k && x
@@ -83,25 +88,34 @@ module _ (c : Card) (img : List ℕ) (h : Laid (layoutOf c) img) where
 
   -- ---- rows of bits: r is the number read at a
   pub used-seen : (r : ℕ) → r ≡ readNumber 0 (take (layoutOf c .width) (drop 3 img)) → r ≡ rowOf (layoutOf c .packages) (decode (layoutOf c) img .used)
-  used-seen r e = e ∙ used-number (layoutOf c) (layout-ok c) h
+  used-seen r e = e ∙ used-number (layoutOf c) (layout-ok c) (early c) h
 
   pub provided-seen : (j a r : ℕ) → j < layoutOf c .packages → a ≡ provAt (layoutOf c) j → r ≡ readNumber 0 (take (layoutOf c .width) (drop a img))
       → r ≡ rowOf (layoutOf c .services) (decode (layoutOf c) img .provides j)
-  provided-seen j a r p q e = e ∙ ap (λ (x : ℕ). readNumber 0 (take (layoutOf c .width) (drop x img))) q ∙ provides-number (layoutOf c) (layout-ok c) h j p
+  provided-seen j a r p q e = e ∙ ap (λ (x : ℕ). readNumber 0 (take (layoutOf c .width) (drop x img))) q ∙ provides-number (layoutOf c) (layout-ok c) (early c) h j p
 
   pub entry-seen : (tb : Table) (i j a r : ℕ) → i < layoutOf c .packages → j < layoutOf c .packages → a ≡ entryAt (layoutOf c) tb i j
       → r ≡ readNumber 0 (take (layoutOf c .width) (drop a img)) → r ≡ rowOf (layoutOf c .services) (tableOf tb (decode (layoutOf c) img) i j)
-  entry-seen tb i j a r p l q e = e ∙ ap (λ (x : ℕ). readNumber 0 (take (layoutOf c .width) (drop x img))) q ∙ entry-number (layoutOf c) (layout-ok c) h tb i j p l
+  entry-seen tb i j a r p l q e = e ∙ ap (λ (x : ℕ). readNumber 0 (take (layoutOf c .width) (drop x img))) q ∙ entry-number (layoutOf c) (layout-ok c) (early c) h tb i j p l
 
   -- ---- the AID of a package, in the place at a
   module _ (n a : ℕ) (p : n < layoutOf c .packages) (q : a ≡ aidAt (layoutOf c) n) where
     pub aid-seen : aidIn img a ≡ decode (layoutOf c) img .aid n
     aid-seen =
         ap (aidIn img) q
-        ∙ aid-held img (aidAt (layoutOf c) n) (decode (layoutOf c) img .aid n) (aid-length (layoutOf c) (layout-ok c) h n p) (aid-bytes (layoutOf c) (layout-ok c) h n p)
+        ∙ aid-held img (aidAt (layoutOf c) n) (decode (layoutOf c) img .aid n) (aid-length (layoutOf c) (layout-ok c) (early c) h n p) (aid-bytes (layoutOf c) (layout-ok c) (early c) h n p)
 
     pub aid-short : getD img a 0 ≤ 16
-    aid-short = let e = ap (λ (x : ℕ). getD img x 0) q ∙ aid-length (layoutOf c) (layout-ok c) h n p in omega (arith, e, h .room .aid-short n)
+    aid-short = let e = ap (λ (x : ℕ). getD img x 0) q ∙ aid-length (layoutOf c) (layout-ok c) (early c) h n p in omega (arith, e, h .room .aid-short n)
+
+  -- ---- the AID's place, copied over as many bytes
+  pub place-copied : (n a : ℕ) → n < layoutOf c .packages → a ≡ aidAt (layoutOf c) n → (old : List ℕ) {new : List ℕ} → length old ≡ 17
+      → new ≡ over 0 (take (a + 17 - a) (drop a img)) old → new ≡ writeAid (decode (layoutOf c) img .aid n)
+  place-copied n a p q old s e =
+      let k : a + 17 - a ≡ 17 = omega arith in
+      let z : take (a + 17 - a) (drop a img) ≡ writeAid (decode (layoutOf c) img .aid n) =
+      ap₂ (λ (x y : ℕ). take x (drop y img)) k q ∙ aid-slot (layoutOf c) (layout-ok c) (early c) h n p in
+      e ∙ over-whole (take (a + 17 - a) (drop a img)) old (ap length z ∙ length-aid (decode (layoutOf c) img .aid n) (h .room .aid-short n) ∙ sym s) ∙ z
 
   -- ---- the number n is used, and has the AID; b compares the AID, and r is the bit
   module _ (n a : ℕ) (b : Bool) (aid : List ℕ) (l : n < layoutOf c .packages) (q : a ≡ aidAt (layoutOf c) n) (z : b ≡ eqAid (aidIn img a) aid) where
@@ -125,7 +139,7 @@ module _ (c : Card) (img : List ℕ) (h : Laid (layoutOf c) img) where
     pub tokens-seen : tokensIn img a ≡ decode (layoutOf c) img .tok j k
     tokens-seen =
         ap (tokensIn img) q
-        ∙ λ i. record { itf = tok-itf (layoutOf c) (layout-ok c) h j k p l i; mth = tok-mth (layoutOf c) (layout-ok c) h j k p l i }
+        ∙ λ i. record { itf = tok-itf (layoutOf c) (layout-ok c) (early c) h j k p l i; mth = tok-mth (layoutOf c) (layout-ok c) (early c) h j k p l i }
 
   module _ (j k x y row : ℕ) (b : Bool) (p : j < layoutOf c .packages) (l : k < layoutOf c .services)
       (e : row ≡ rowOf (layoutOf c .services) (decode (layoutOf c) img .provides j)) (d : b ≡ bit row k) where
@@ -149,4 +163,4 @@ module _ (c : Card) (img : List ℕ) (h : Laid (layoutOf c) img) where
   unfolding freeService
   lowest-unprovided j row r = lowest (layoutOf c .services) (decode (layoutOf c) img .provides j) row r (limits c .services-low)
 
-pub ruleset seen = (laid-size, used-seen, provided-seen, entry-seen, aid-other, aid-long, aid-last, aid-none, aid-same, aid-short, unnamed, named, unprovided, provided-with, lowest-unused, lowest-unprovided, geo)
+pub ruleset seen = (laid-size, place-copied, used-seen, provided-seen, entry-seen, aid-other, aid-long, aid-last, aid-none, aid-same, aid-short, unnamed, named, unprovided, provided-with, lowest-unused, lowest-unprovided, geo)

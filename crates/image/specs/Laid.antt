@@ -11,6 +11,9 @@ use Rattle.policy.specs.Draft.{put, put2, withCalls, withGrants, withNeeds}
 use Rattle.policy.specs.Room.{Room}
 use Rattle.geometry.specs.declared.Table.{Table}
 use Rattle.geometry.specs.declared.Table.the-variants.{Calls, Grants, Needs}
+use Rattle.geometry.specs.declared.Kept.{Kept}
+use Rattle.geometry.specs.declared.Kept.the-variants.{UnmetCalls, WaitingGrants}
+use Rattle.image.specs.Read.{Item}
 
 -- ---- the three tables of bits
 abbrev pub tableOf : Table → Tables → ℕ → ℕ → ℕ → Bool
@@ -91,3 +94,7 @@ withUnmet l t = withCalls (t .calls) l t
 
 abbrev pub withWaiting : List Waiting → Tables → Tables
 withWaiting l t = withGrants (t .grants) l t
+
+abbrev pub withItems : (l : Kept) → List (Item l) → Tables → Tables
+withItems UnmetCalls m t = withUnmet m t
+withItems WaitingGrants m t = withWaiting m t

@@ -1,3 +1,3 @@
+pub mod Read
 pub mod Laid
 pub mod Wrote
-pub mod Read

@@ -1,15 +1,18 @@
 -- What code finds in an image and its tables, as numbers.
 use Prim.Native.Nat.{ℕ, _+_, _*_}
 use mathlib.Core.Bool.{Bool, cond}
-use mathlib.Core.List.{List, [], _∷_}
+use mathlib.Core.List.{List, [], _∷_, _++_}
 use mathlib.Core.Option.{Option}
 use lib.ListN.{getD, take, drop}
 use Rattle.policy.specs.Lists.{orElse}
 use Rattle.policy.specs.Contract.{Aid, Tok, Row}
 use Rattle.policy.specs.Layout.{Layout}
-use Rattle.policy.specs.Tables.{Tables, Unmet, Waiting, noTok}
-use Rattle.policy.specs.Lookup.{Place as Found}
+use Rattle.policy.specs.Tables.{Tables, Unmet, Waiting, noTok, writeAid}
+use Rattle.policy.specs.Lookup.{Place as Found, Spot as SpotFound}
+use Rattle.geometry.specs.declared.Kept.{Kept}
+use Rattle.geometry.specs.declared.Kept.the-variants.{UnmetCalls, WaitingGrants}
 use Rattle.image.specs.declared.read.Place.{Place}
+use Rattle.image.specs.declared.read.Spot.{Spot}
 
 -- a number that was found, or d for none
 abbrev pub numberOr : ℕ → Option ℕ → ℕ
@@ -18,6 +21,9 @@ numberOr d o = orElse o d (λ n. n)
 -- a place that was found, or the numbers past the last for none
 abbrev pub placeOr : Layout → Option Found → Place
 placeOr L o = orElse o (record { callee = L .packages; service = L .services }) (λ p. record { callee = p .callee; service = p .service })
+
+abbrev pub spotOr : Layout → Option SpotFound → Spot
+spotOr L o = orElse o (record { caller = L .packages; service = L .services }) (λ p. record { caller = p .caller; service = p .service })
 
 -- two token bytes
 abbrev pub tokens : ℕ → ℕ → Tok
@@ -40,15 +46,45 @@ abbrev pub maskOf : {A : Type 0} → (A → Bool) → List A → ℕ
 maskOf f [] = 0
 maskOf f (x ∷ l) = cond (f x) 1 0 + 2 * maskOf f l
 
--- row r of a list, and what stands for none
-abbrev pub noUnmet : Unmet
-noUnmet = record { callee = []; tok = noTok; caller = 0 }
+-- ---- the two lists alike: an item has an AID, tokens and a package number
+abbrev pub Item : Kept → Type 0
+Item UnmetCalls = Unmet
+Item WaitingGrants = Waiting
+
+abbrev pub itemsOf : (l : Kept) → Tables → List (Item l)
+itemsOf UnmetCalls t = t .unmet
+itemsOf WaitingGrants t = t .waiting
+
+abbrev pub item : (l : Kept) → Aid → Tok → ℕ → Item l
+item UnmetCalls a s n = record { callee = a; tok = s; caller = n }
+item WaitingGrants a s n = record { caller = a; callee = n; tok = s }
+
+abbrev pub itemAid : (l : Kept) → Item l → Aid
+itemAid UnmetCalls u = u .callee
+itemAid WaitingGrants w = w .caller
+
+abbrev pub itemTok : (l : Kept) → Item l → Tok
+itemTok UnmetCalls u = u .tok
+itemTok WaitingGrants w = w .tok
+
+abbrev pub itemNumber : (l : Kept) → Item l → ℕ
+itemNumber UnmetCalls u = u .caller
+itemNumber WaitingGrants w = w .callee
+
+-- its row: an AID's place, then 'tokens, caller number', or 'callee number' and tokens
+abbrev pub tailOf : Kept → Tok → ℕ → List ℕ
+tailOf UnmetCalls s n = s .itf ∷ s .mth ∷ n ∷ []
+tailOf WaitingGrants s n = n ∷ s .itf ∷ s .mth ∷ []
+
+abbrev pub writeItem : (l : Kept) → Item l → List ℕ
+writeItem l x = writeAid (itemAid l x) ++ tailOf l (itemTok l x) (itemNumber l x)
+
+-- item r of a list, and what stands for none
+abbrev pub itemAt : (l : Kept) → Tables → ℕ → Item l
+itemAt l t r = getD (itemsOf l t) r (item l [] noTok 0)
 
 abbrev pub unmetRow : Tables → ℕ → Unmet
-unmetRow t r = getD (t .unmet) r noUnmet
-
-abbrev pub noWaiting : Waiting
-noWaiting = record { caller = []; callee = 0; service = 0 }
+unmetRow t r = itemAt UnmetCalls t r
 
 abbrev pub waitingRow : Tables → ℕ → Waiting
-waitingRow t r = getD (t .waiting) r noWaiting
+waitingRow t r = itemAt WaitingGrants t r

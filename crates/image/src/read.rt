@@ -4,17 +4,23 @@ ghost use mathlib.Core.Bool.{_&&_};
 ghost use Prim.Native.Nat.{_+_, _≤_, _<_};
 ghost use lib.ListN.{length, getD};
 ghost use Rattle.policy.specs.Contract.{eqAid, eqTok};
-ghost use Rattle.policy.specs.Tables.{rowOf, decode};
-ghost use Rattle.policy.specs.Lookup.{numberOf, serviceOf, serverOf, freeNumber, freeService};
+ghost use Rattle.policy.specs.Tables.{rowOf, writeAid, decode};
+ghost use Rattle.policy.specs.Lookup.{numberOf, serviceOf, serverOf, spotOf, freeNumber, freeService};
 ghost use Rattle.geometry.specs.Geometry.{layoutOf};
 ghost use Rattle.image.specs.Laid.{Laid, tableOf};
-ghost use Rattle.image.specs.Read.{numberOr, placeOr, tokens, asked, aidIn, tokensIn};
+ghost use Rattle.image.specs.Read.{numberOr, placeOr, spotOr, tokens, asked, aidIn, tokensIn};
 use geometry::Card;
 use geometry::Table;
 
 // A service of the card: package and service number.
 pub struct Place {
     pub callee: usize,
+    pub service: usize,
+}
+
+// A grant that is a bit: the caller's number, and the service number.
+pub struct Spot {
+    pub caller: usize,
     pub service: usize,
 }
 
@@ -73,6 +79,18 @@ pub fn tokens_are(img: &[u8], at: usize, interface: u8, method: u8) -> bool
     ensures { λ r. ⌜ r ≡ eqTok (tokensIn (now (img .entry)) at) (tokens interface method) ⌝ }
 {
     (img[at] == interface) & (img[at + 1] == method)
+}
+
+// The AID of package n in its place, 17 bytes: length, bytes, zero fill.
+pub fn aid_place(img: &[u8], c: Card, n: usize) -> [u8; 17]
+    requires laid { ⌜ Laid (layoutOf c) (now img) ⌝ }
+    requires inside { ⌜ n < layoutOf c .packages ⌝ }
+    ensures { λ r. ⌜ r ≡ writeAid (decode (layoutOf c) (now (img .entry)) .aid n) ⌝ }
+{
+    let at = geometry::aid_at(c, n);
+    let mut place = [0u8; 17];
+    rows::put(&mut place, 0, &img[at..at + 17]);
+    place
 }
 
 // Package number n is used and has this AID.
@@ -155,6 +173,35 @@ pub fn find_server(img: &[u8], c: Card, aid: &[u8], interface: u8, method: u8) -
     }
     Place {
         callee: j,
+        service: k,
+    }
+}
+
+// Where a grant of package j to this AID of the service with these tokens stands as a bit; the number of packages and that of services
+// where caller or service is not on the card.
+pub fn find_spot(img: &[u8], c: Card, j: usize, aid: &[u8], interface: u8, method: u8) -> Spot
+    requires laid { ⌜ Laid (layoutOf c) (now img) ⌝ }
+    requires inside { ⌜ j < layoutOf c .packages ⌝ }
+    ensures { λ r. ⌜ r ≡ spotOr (layoutOf c) (spotOf (layoutOf c) (decode (layoutOf c) (now (img .entry))) j (asked (now (aid .entry)) interface method)) ⌝ }
+{
+    let n = geometry::packages(c);
+    let m = geometry::services(c);
+    let i = find_package(img, c, aid);
+    if i >= n {
+        return Spot {
+            caller: n,
+            service: m,
+        };
+    }
+    let k = find_service(img, c, j, interface, method);
+    if k >= m {
+        return Spot {
+            caller: n,
+            service: m,
+        };
+    }
+    Spot {
+        caller: i,
         service: k,
     }
 }

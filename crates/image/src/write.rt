@@ -8,9 +8,11 @@ ghost use Rattle.policy.specs.Tables.{bit, writeAid, decode};
 ghost use Rattle.policy.specs.Draft.{put3};
 ghost use Rattle.geometry.specs.Geometry.{layoutOf};
 ghost use Rattle.rows.specs.Area.{over, HasRoom, keepRows, appended};
-ghost use Rattle.image.specs.Laid.{Laid, tableOf, withUsed, withAid, withTok, withProvides, withTable, withEntry, withUnmet, withWaiting};
+ghost use Rattle.image.specs.Laid.{Laid, tableOf, withUsed, withAid, withTok, withProvides, withTable, withEntry, withItems};
+ghost use Rattle.image.specs.Read.{itemsOf, item, tailOf};
 ghost use Rattle.image.specs.Wrote.{Wrote, withoutPackage, inColumn, inRow, withoutService, withoutServices};
 use geometry::Card;
+use geometry::Kept;
 use geometry::Table;
 
 // The entry of a table in row i, column j.
@@ -124,52 +126,49 @@ fn append(area: &mut [u8], aid: &[u8], tail: &[u8])
     rows::append_row(area, width, &row[..width]);
 }
 
-// One unmet call more: package number `caller` calls a service of the package `aid`.
-pub fn append_unmet(img: &mut [u8], c: Card, aid: &[u8], interface: u8, method: u8, caller: usize)
-    requires laid { ⌜ Laid (layoutOf c) (now img) ⌝ }
-    requires room { ⌜ length (decode (layoutOf c) (now img) .unmet) < layoutOf c .capacity ⌝ }
-    requires short { ⌜ length (now aid) ≤ 16 ⌝ }
-    requires inside { ⌜ caller < layoutOf c .packages ⌝ }
-    ensures { λ _. ⌜ Wrote (layoutOf c) (now (img .exit)) (withUnmet (decode (layoutOf c) (now (img .entry)) .unmet
-        ++ (record { callee = now (aid .entry); tok = record { itf = interface; mth = method }; caller = caller } ∷ [])) (decode (layoutOf c) (now (img .entry)))) ⌝ }
+// What follows the AID in a row of a list.
+fn tail(l: Kept, interface: u8, method: u8, number: u8) -> [u8; 3]
+    ensures { λ r. ⌜ r ≡ tailOf l (record { itf = interface; mth = method }) number ⌝ }
 {
-    let at = geometry::unmet_at(c);
-    let end = geometry::waiting_at(c);
-    append(&mut img[at..end], aid, &[interface, method, caller as u8]);
+    match l {
+        Kept::UnmetCalls => [interface, method, number],
+        Kept::WaitingGrants => [number, interface, method],
+    }
 }
 
-// One waiting grant more: of service number `service` of package number `callee` to the package `aid`.
-pub fn append_waiting(img: &mut [u8], c: Card, aid: &[u8], callee: usize, service: usize)
+// One row more: package number `number` calls the service of the package `aid` with these tokens, or grants its own with them to the package `aid`.
+pub fn append_row(
+    img: &mut [u8],
+    c: Card,
+    l: Kept,
+    aid: &[u8],
+    interface: u8,
+    method: u8,
+    number: usize,
+)
     requires laid { ⌜ Laid (layoutOf c) (now img) ⌝ }
-    requires room { ⌜ length (decode (layoutOf c) (now img) .waiting) < layoutOf c .capacity ⌝ }
+    requires room { ⌜ length (itemsOf l (decode (layoutOf c) (now img))) < layoutOf c .capacity ⌝ }
     requires short { ⌜ length (now aid) ≤ 16 ⌝ }
-    requires inside { ⌜ (callee < layoutOf c .packages) × (service < layoutOf c .services) ⌝ }
-    ensures { λ _. ⌜ Wrote (layoutOf c) (now (img .exit)) (withWaiting (decode (layoutOf c) (now (img .entry)) .waiting
-        ++ (record { caller = now (aid .entry); callee = callee; service = service } ∷ [])) (decode (layoutOf c) (now (img .entry)))) ⌝ }
+    requires inside { ⌜ number < layoutOf c .packages ⌝ }
+    ensures { λ _. ⌜ Wrote (layoutOf c) (now (img .exit)) (withItems l (itemsOf l (decode (layoutOf c) (now (img .entry)))
+        ++ (item l (now (aid .entry)) (record { itf = interface; mth = method }) number ∷ [])) (decode (layoutOf c) (now (img .entry)))) ⌝ }
 {
-    let at = geometry::waiting_at(c);
-    append(&mut img[at..], aid, &[callee as u8, service as u8]);
+    let at = geometry::list_at(c, l);
+    let end = geometry::list_end(c, l);
+    let t = tail(l, interface, method, number as u8);
+    append(&mut img[at..end], aid, &t);
 }
 
-// The unmet calls whose bit of the mask is clear, closed up in order.
-pub fn drop_unmet(img: &mut [u8], c: Card, mask: u32)
+// The rows of a list whose bit of the mask is clear, closed up in order.
+pub fn drop_rows(img: &mut [u8], c: Card, l: Kept, mask: u32)
     requires { ⌜ Laid (layoutOf c) (now img) ⌝ }
     ensures { λ _. ⌜ Wrote (layoutOf c) (now (img .exit))
-        (withUnmet (keepRows mask (decode (layoutOf c) (now (img .entry)) .unmet)) (decode (layoutOf c) (now (img .entry)))) ⌝ }
+        (withItems l (keepRows mask (itemsOf l (decode (layoutOf c) (now (img .entry))))) (decode (layoutOf c) (now (img .entry)))) ⌝ }
 {
-    let at = geometry::unmet_at(c);
-    let end = geometry::waiting_at(c);
-    rows::drop_rows(&mut img[at..end], 20, mask);
-}
-
-// The waiting grants whose bit of the mask is clear, closed up in order.
-pub fn drop_waiting(img: &mut [u8], c: Card, mask: u32)
-    requires { ⌜ Laid (layoutOf c) (now img) ⌝ }
-    ensures { λ _. ⌜ Wrote (layoutOf c) (now (img .exit))
-        (withWaiting (keepRows mask (decode (layoutOf c) (now (img .entry)) .waiting)) (decode (layoutOf c) (now (img .entry)))) ⌝ }
-{
-    let at = geometry::waiting_at(c);
-    rows::drop_rows(&mut img[at..], 19, mask);
+    let at = geometry::list_at(c, l);
+    let end = geometry::list_end(c, l);
+    let width = geometry::row_size(c, l);
+    rows::drop_rows(&mut img[at..end], width, mask);
 }
 
 // Row n and column n of a table clear.
