@@ -1,12 +1,15 @@
 -- Cause 3, part by part. Assumes nothing.
 use Prim.Native.Nat.{ℕ}
 use mathlib.Core.Path.{_≡_, refl, sym, _∙_}
-use mathlib.Core.Bool.{Bool, true, false, not, _&&_, and-false}
+use mathlib.Core.Bool.{Bool, true, false, not, _&&_, and-false, and-true}
 use mathlib.Core.List.{List}
 use native.Mathlib.Omega.{arith}
 use Rattle.policy.specs.Lists.{every, exists, distinct}
-use Rattle.policy.specs.Contract.{Aid as Bytes, Tok, Row, eqAid, eqTok, eqRow, hasTok, hasRow}
+use Rattle.policy.specs.Contract.{Aid as Bytes, Tok, Row, eqAid, eqTok, eqRow, hasRow}
 use Rattle.policy.specs.Record.{Reader, load, notOwn, proper}
+use Rattle.geometry.specs.declared.Card.{Card}
+use Rattle.geometry.specs.Geometry.{layoutOf}
+use Rattle.geometry.proofs.Bounds.{early}
 use Rattle.record.specs.Meaning.{aidIn, itemsIn, Uncons}
 use Rattle.record.specs.declared.Aid.{Aid}
 use Rattle.record.specs.declared.Items.{Items}
@@ -44,31 +47,31 @@ module _ {A : Type 0} {p : Reader A} {s : List ℕ} {todo rest : Items} (own : A
     once-next e = todo-next h u (others own eq) (rw (sym w ∙ f, sym q ∙ e))
 
 -- ---- the lists of a load, in the order of the code
-arranged : (dp dc dg dn oc og on x y : Bool)
-    → ((dp && dc && dg && dn) && (oc && og && on) && (x && y)) ≡ (dp && ((oc && dc) && ((og && dg) && ((on && dn) && (x && y)))))
-arranged false dc dg dn oc og on x y = refl
-arranged true false dg dn false og on x y = refl
-arranged true false dg dn true og on x y = refl
-arranged true true false dn false og on x y = refl
-arranged true true false dn true false on x y = refl
-arranged true true false dn true true on x y = refl
-arranged true true true false false og on x y = refl
-arranged true true true false true false on x y = refl
-arranged true true true false true true false x y = refl
-arranged true true true false true true true x y = refl
-arranged true true true true false og on x y = refl
-arranged true true true true true false on x y = refl
-arranged true true true true true true false x y = refl
-arranged true true true true true true true x y = refl
+arranged : (dp dc dg dn oc og on x : Bool)
+    → ((dp && dc && dg && dn) && (oc && og && on) && (x && true)) ≡ (dp && ((oc && dc) && ((og && dg) && ((on && dn) && x))))
+arranged false dc dg dn oc og on x = refl
+arranged true false dg dn false og on x = refl
+arranged true false dg dn true og on x = refl
+arranged true true false dn false og on x = refl
+arranged true true false dn true false on x = refl
+arranged true true false dn true true on x = refl
+arranged true true true false false og on x = refl
+arranged true true true false true false on x = refl
+arranged true true true false true true false x = refl
+arranged true true true false true true true x = refl
+arranged true true true true false og on x = refl
+arranged true true true true true false on x = refl
+arranged true true true true true true false x = refl
+arranged true true true true true true true x = and-true x
 
-pub load-is : (a : Bytes) (p : List Tok) (c g n : List Row) {rp rc rg rn x y : Bool}
+-- R-2: a grant of a service that is not provided is proper
+pub load-is : (a : Bytes) (p : List Tok) (c g n : List Row) {rp rc rg rn x : Bool}
     → rp ≡ distinct eqTok p → rc ≡ (notOwn a c && distinct eqRow c) → rg ≡ (notOwn a g && distinct eqRow g) → rn ≡ (notOwn a n && distinct eqRow n)
-    → x ≡ every (λ r. hasRow r c) n → y ≡ every (λ r. hasTok (r .tok) p) g
-    → (rp && (rc && (rg && (rn && (x && y))))) ≡ proper a (load p c g n)
+    → x ≡ every (λ r. hasRow r c) n → (k : Card) → (rp && (rc && (rg && (rn && x)))) ≡ proper (layoutOf k) a (load p c g n)
 unfolding proper
-load-is a p c g n hp hc hg hn hx hy =
-    rw (hp, hc, hg, hn, hx, hy)
-    (sym (arranged (distinct eqTok p) (distinct eqRow c) (distinct eqRow g) (distinct eqRow n) (notOwn a c) (notOwn a g) (notOwn a n) (every (λ r. hasRow r c) n) (every (λ r. hasTok (r .tok) p) g)))
+load-is a p c g n hp hc hg hn hx k =
+    rw (early k, hp, hc, hg, hn, hx)
+    (sym (arranged (distinct eqTok p) (distinct eqRow c) (distinct eqRow g) (distinct eqRow n) (notOwn a c) (notOwn a g) (notOwn a n) (every (λ r. hasRow r c) n)))
 
 -- an answer whose negation was tested
 pub yes : (r : Bool) {b : Bool} → r ≡ b → not r ≡ false → true ≡ b

@@ -4,6 +4,8 @@ ghost use mathlib.Core.Bool.{not, _&&_};
 ghost use Rattle.policy.specs.Lists.{every, exists, distinct};
 ghost use Rattle.policy.specs.Contract.{eqAid, eqTok, eqRow, hasTok, hasRow};
 ghost use Rattle.policy.specs.Record.{aid, tokens, aRow, load, notOwn, proper};
+ghost use Rattle.geometry.specs.declared.Card.{Card};
+ghost use Rattle.geometry.specs.Geometry.{layoutOf};
 ghost use Rattle.record.specs.Meaning.{AidFits, Stands, RecordFits, aidIn, tokOf, rowIn, itemsIn, kindOf};
 use crate::Aid;
 use crate::Items;
@@ -143,24 +145,6 @@ fn all_called(rec: &[u8], needs: Items, calls: Items) -> bool
     true
 }
 
-// Whether each granted service is provided.
-fn all_provided(rec: &[u8], grants: Items, provides: Items) -> bool
-    requires { ⌜ Stands aRow (now rec) grants × Stands tokens (now rec) provides ⌝ }
-    ensures { λ r. ⌜ r ≡ every (λ x. hasTok (x .tok) (itemsIn tokens (now (rec .entry)) provides)) (itemsIn aRow (now (rec .entry)) grants) ⌝ }
-{
-    let mut todo = grants;
-    while 0 < todo.count {
-        let r = crate::steps::take_row(rec, todo);
-        let t = r.tokens;
-        if has_tokens(rec, t, provides) {
-            todo = r.rest;
-        } else {
-            return false;
-        }
-    }
-    true
-}
-
 // Whether the lists of a load are proper.
 fn load_proper(
     rec: &[u8],
@@ -171,7 +155,7 @@ fn load_proper(
     needs: Items,
 ) -> bool
     requires { ⌜ AidFits (now rec) own × Stands tokens (now rec) provides × Stands aRow (now rec) calls × Stands aRow (now rec) grants × Stands aRow (now rec) needs ⌝ }
-    ensures { λ r. ⌜ r ≡ proper (aidIn (now (rec .entry)) own) (load (itemsIn tokens (now (rec .entry)) provides) (itemsIn aRow (now (rec .entry)) calls) (itemsIn aRow (now (rec .entry)) grants) (itemsIn aRow (now (rec .entry)) needs)) ⌝ }
+    ensures { λ r. ⌜ ((c : Card) → r ≡ proper (layoutOf c) (aidIn (now (rec .entry)) own) (load (itemsIn tokens (now (rec .entry)) provides) (itemsIn aRow (now (rec .entry)) calls) (itemsIn aRow (now (rec .entry)) grants) (itemsIn aRow (now (rec .entry)) needs))) ⌝ }
 {
     let p = tokens_proper(rec, provides);
     if !p {
@@ -189,11 +173,7 @@ fn load_proper(
     if !n {
         return false;
     }
-    let called = all_called(rec, needs, calls);
-    if !called {
-        return false;
-    }
-    all_provided(rec, grants, provides)
+    all_called(rec, needs, calls)
 }
 
 // Whether the other end of a row is not the own AID.
@@ -204,10 +184,10 @@ fn other_proper(rec: &[u8], own: Aid, other: Aid) -> bool
     !crate::same::same_aid(rec, other, own)
 }
 
-// Whether a record that was read is proper.
+// Whether a record that was read is proper, alike on every card.
 pub fn is_proper(rec: &[u8], r: Record) -> bool
     requires { ⌜ RecordFits (now rec) r ⌝ }
-    ensures { λ b. ⌜ b ≡ proper (aidIn (now (rec .entry)) (r .aid)) (kindOf (now (rec .entry)) (r .kind)) ⌝ }
+    ensures { λ b. ⌜ ((c : Card) → b ≡ proper (layoutOf c) (aidIn (now (rec .entry)) (r .aid)) (kindOf (now (rec .entry)) (r .kind))) ⌝ }
 {
     let own = r.aid;
     let kind = r.kind;

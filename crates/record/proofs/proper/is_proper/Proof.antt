@@ -59,43 +59,43 @@ other-proper-requires-6 : tie.Need-other-proper-requires-6
 other-proper-requires-6 c κs = rw (c .before .kind8 .given .1) at (c .before .before .before .before .before .pre)
 
 returns : tie.Need-returns
-returns c = rw (c .before .before .kind .given .1) (c .load-proper .ensures)
+returns c k = rw (c .before .before .kind .given .1) (c .load-proper .ensures k)
 
 returns-2 : tie.Need-returns-2
 unfolding proper
-returns-2 c = rw (c .enum-told .given .1)
+returns-2 c k = rw (c .enum-told .given .1)
 
 returns-3 : tie.Need-returns-3
 unfolding proper
-returns-3 c = rw (c .before .before .kind2 .given .1) (c .callers-proper .ensures)
+returns-3 c k = rw (c .before .before .kind2 .given .1) (c .callers-proper .ensures)
 
 returns-4 : tie.Need-returns-4
 unfolding proper
-returns-4 c = rw (c .enum-told2 .given .1)
+returns-4 c k = rw (c .enum-told2 .given .1)
 
 returns-5 : tie.Need-returns-5
 unfolding proper
-returns-5 c = rw (c .before .before .kind3 .given .1) (c .other-proper .ensures)
+returns-5 c k = rw (c .before .before .kind3 .given .1) (c .other-proper .ensures)
 
 returns-6 : tie.Need-returns-6
 unfolding proper
-returns-6 c = rw (c .before .before .kind4 .given .1) (c .other-proper2 .ensures)
+returns-6 c k = rw (c .before .before .kind4 .given .1) (c .other-proper2 .ensures)
 
 returns-7 : tie.Need-returns-7
 unfolding proper
-returns-7 c = rw (c .before .before .kind5 .given .1) (c .other-proper3 .ensures)
+returns-7 c k = rw (c .before .before .kind5 .given .1) (c .other-proper3 .ensures)
 
 returns-8 : tie.Need-returns-8
 unfolding proper
-returns-8 c = rw (c .before .before .kind6 .given .1) (c .other-proper4 .ensures)
+returns-8 c k = rw (c .before .before .kind6 .given .1) (c .other-proper4 .ensures)
 
 returns-9 : tie.Need-returns-9
 unfolding proper
-returns-9 c = rw (c .before .before .kind7 .given .1) (c .other-proper5 .ensures)
+returns-9 c k = rw (c .before .before .kind7 .given .1) (c .other-proper5 .ensures)
 
 returns-10 : tie.Need-returns-10
 unfolding proper
-returns-10 c = rw (c .before .before .kind8 .given .1) (c .other-proper6 .ensures)
+returns-10 c k = rw (c .before .before .kind8 .given .1) (c .other-proper6 .ensures)
 
 pub is-proper-spec : {M : Type 1} → statement M
 is-proper-spec =

@@ -15,7 +15,7 @@ returns : tie.Need-returns
 returns c =
     let a = c .before .before .before .args in
     load-is (aidIn (now (a .rec)) (a .own)) (itemsIn tokens (now (a .rec)) (a .provides)) (itemsIn aRow (now (a .rec)) (a .calls)) (itemsIn aRow (now (a .rec)) (a .grants)) (itemsIn aRow (now (a .rec)) (a .needs))
-    (no _ (c .before .tokens-proper .ensures) (c .if1 .taken)) refl refl refl refl refl
+    (no _ (c .before .tokens-proper .ensures) (c .if1 .taken)) refl refl refl refl
 
 rows-proper-requires : tie.Need-rows-proper-requires
 rows-proper-requires c κs = search needs
@@ -24,7 +24,7 @@ returns-2 : tie.Need-returns-2
 returns-2 c =
     let a = c .before .before .before .before .before .args in
     load-is (aidIn (now (a .rec)) (a .own)) (itemsIn tokens (now (a .rec)) (a .provides)) (itemsIn aRow (now (a .rec)) (a .calls)) (itemsIn aRow (now (a .rec)) (a .grants)) (itemsIn aRow (now (a .rec)) (a .needs))
-    (yes _ (c .before .before .before .tokens-proper .ensures) (c .before .before .if1 .left)) (no _ (c .before .rows-proper .ensures) (c .if2 .taken)) refl refl refl refl
+    (yes _ (c .before .before .before .tokens-proper .ensures) (c .before .before .if1 .left)) (no _ (c .before .rows-proper .ensures) (c .if2 .taken)) refl refl refl
 
 rows-proper-requires-2 : tie.Need-rows-proper-requires-2
 rows-proper-requires-2 c κs = search needs
@@ -33,7 +33,7 @@ returns-3 : tie.Need-returns-3
 returns-3 c =
     let a = c .before .before .before .before .before .before .before .args in
     load-is (aidIn (now (a .rec)) (a .own)) (itemsIn tokens (now (a .rec)) (a .provides)) (itemsIn aRow (now (a .rec)) (a .calls)) (itemsIn aRow (now (a .rec)) (a .grants)) (itemsIn aRow (now (a .rec)) (a .needs))
-    (yes _ (c .before .before .before .before .before .tokens-proper .ensures) (c .before .before .before .before .if1 .left)) (yes _ (c .before .before .before .rows-proper .ensures) (c .before .before .if2 .left)) (no _ (c .before .rows-proper2 .ensures) (c .if3 .taken)) refl refl refl
+    (yes _ (c .before .before .before .before .before .tokens-proper .ensures) (c .before .before .before .before .if1 .left)) (yes _ (c .before .before .before .rows-proper .ensures) (c .before .before .if2 .left)) (no _ (c .before .rows-proper2 .ensures) (c .if3 .taken)) refl refl
 
 rows-proper-requires-3 : tie.Need-rows-proper-requires-3
 rows-proper-requires-3 c κs = search needs
@@ -42,25 +42,16 @@ returns-4 : tie.Need-returns-4
 returns-4 c =
     let a = c .before .before .before .before .before .before .before .before .before .args in
     load-is (aidIn (now (a .rec)) (a .own)) (itemsIn tokens (now (a .rec)) (a .provides)) (itemsIn aRow (now (a .rec)) (a .calls)) (itemsIn aRow (now (a .rec)) (a .grants)) (itemsIn aRow (now (a .rec)) (a .needs))
-    (yes _ (c .before .before .before .before .before .before .before .tokens-proper .ensures) (c .before .before .before .before .before .before .if1 .left)) (yes _ (c .before .before .before .before .before .rows-proper .ensures) (c .before .before .before .before .if2 .left)) (yes _ (c .before .before .before .rows-proper2 .ensures) (c .before .before .if3 .left)) (no _ (c .before .rows-proper3 .ensures) (c .if4 .taken)) refl refl
+    (yes _ (c .before .before .before .before .before .before .before .tokens-proper .ensures) (c .before .before .before .before .before .before .if1 .left)) (yes _ (c .before .before .before .before .before .rows-proper .ensures) (c .before .before .before .before .if2 .left)) (yes _ (c .before .before .before .rows-proper2 .ensures) (c .before .before .if3 .left)) (no _ (c .before .rows-proper3 .ensures) (c .if4 .taken)) refl
 
 all-called-requires : tie.Need-all-called-requires
 all-called-requires c κs = search needs
 
 returns-5 : tie.Need-returns-5
 returns-5 c =
-    let a = c .before .before .before .before .before .before .before .before .before .before .before .args in
+    let a = c .before .before .before .before .before .before .before .before .before .before .args in
     load-is (aidIn (now (a .rec)) (a .own)) (itemsIn tokens (now (a .rec)) (a .provides)) (itemsIn aRow (now (a .rec)) (a .calls)) (itemsIn aRow (now (a .rec)) (a .grants)) (itemsIn aRow (now (a .rec)) (a .needs))
-    (yes _ (c .before .before .before .before .before .before .before .before .before .tokens-proper .ensures) (c .before .before .before .before .before .before .before .before .if1 .left)) (yes _ (c .before .before .before .before .before .before .before .rows-proper .ensures) (c .before .before .before .before .before .before .if2 .left)) (yes _ (c .before .before .before .before .before .rows-proper2 .ensures) (c .before .before .before .before .if3 .left)) (yes _ (c .before .before .before .rows-proper3 .ensures) (c .before .before .if4 .left)) (no _ (c .before .all-called .ensures) (c .if5 .taken)) refl
-
-all-provided-requires : tie.Need-all-provided-requires
-all-provided-requires c κs = search needs
-
-returns-6 : tie.Need-returns-6
-returns-6 c =
-    let a = c .before .before .before .before .before .before .before .before .before .before .before .before .args in
-    load-is (aidIn (now (a .rec)) (a .own)) (itemsIn tokens (now (a .rec)) (a .provides)) (itemsIn aRow (now (a .rec)) (a .calls)) (itemsIn aRow (now (a .rec)) (a .grants)) (itemsIn aRow (now (a .rec)) (a .needs))
-    (yes _ (c .before .before .before .before .before .before .before .before .before .before .tokens-proper .ensures) (c .before .before .before .before .before .before .before .before .before .if1 .left)) (yes _ (c .before .before .before .before .before .before .before .before .rows-proper .ensures) (c .before .before .before .before .before .before .before .if2 .left)) (yes _ (c .before .before .before .before .before .before .rows-proper2 .ensures) (c .before .before .before .before .before .if3 .left)) (yes _ (c .before .before .before .before .rows-proper3 .ensures) (c .before .before .before .if4 .left)) (yes _ (c .before .before .all-called .ensures) (c .before .if5 .left)) (c .all-provided .ensures)
+    (yes _ (c .before .before .before .before .before .before .before .before .tokens-proper .ensures) (c .before .before .before .before .before .before .before .if1 .left)) (yes _ (c .before .before .before .before .before .before .rows-proper .ensures) (c .before .before .before .before .before .if2 .left)) (yes _ (c .before .before .before .before .rows-proper2 .ensures) (c .before .before .before .if3 .left)) (yes _ (c .before .before .rows-proper3 .ensures) (c .before .if4 .left)) (c .all-called .ensures)
 
 pub load-proper-spec : {M : Type 1} → statement M
 load-proper-spec =
@@ -75,6 +66,4 @@ load-proper-spec =
     rows-proper-requires-3
     returns-4
     all-called-requires
-    returns-5
-    all-provided-requires
-    returns-6)
+    returns-5)
