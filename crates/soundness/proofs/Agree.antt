@@ -2,27 +2,28 @@
 use Prim.Native.Nat.{ℕ, _^_, _<_}
 use native.Mathlib.Omega.{arith}
 use mathlib.Core.Path.{_≡_, refl, sym, ap, _∙_}
-use mathlib.Core.Bool.{Bool, false, _&&_}
+use mathlib.Core.Bool.{Bool, true, false, _&&_}
 use mathlib.Core.List.{List}
 use lib.Dec.{T, eqb, eqb→eq}
 use lib.ListN.{length, take}
 use Rattle.policy.specs.Lists.{eqBytes, keep, upto}
-use Rattle.policy.specs.Layout.{Layout, size, usedAt}
+use Rattle.policy.specs.Layout.{Layout, narrow, small, size, usedAt}
 use Rattle.policy.specs.Tables.{bit, decode, encode}
 use Rattle.policy.specs.Lookup.{usedNumbers}
 use Rattle.policy.specs.Sound.{soundTables, sound}
-use Rattle.policy.proofs.Sets.{T-eq, T-false, and-l, and-r, and-i, keep-ext, upto-in, eqBytes→}
-use Rattle.policy.proofs.Equal.{eqAid-of, eqb-of}
+use Rattle.policy.proofs.Sets.{T-eq, and-l, and-r, and-i, keep-ext, upto-in, eqBytes→}
+use Rattle.policy.proofs.Equal.{eqAid-of}
 use Rattle.policy.proofs.Pieces.{length-aid}
 use Rattle.policy.proofs.RoundTrip.{formed-room, length-unmets}
+use Rattle.policy.proofs.Theorems.{card-ok}
 use Rattle.policy.proofs.SoundFacts.{sound-formed, sound-ruled, sound-lawful, sound-fitting, sound-tables}
 use Rattle.bits.proofs.Row.{keep-row}
 use Rattle.geometry.specs.Geometry.{layoutOf}
 use Rattle.geometry.specs.declared.Card.{Card}
 use Rattle.geometry.specs.declared.Card.the-variants.{Small}
-use Rattle.geometry.proofs.Bounds.{layout-ok, limits}
-use Rattle.soundness.specs.declared.Kept.the-variants.{Unmet, Waiting}
-use Rattle.soundness.specs.Check.{partAt, usedRow, packagesOk, linesOk, listOk, checkOk}
+use Rattle.geometry.proofs.Bounds.{layout-ok, early, limits}
+use Rattle.geometry.specs.declared.Kept.the-variants.{UnmetCalls, WaitingGrants}
+use Rattle.soundness.specs.Check.{partAt, usedRow, numberAt, newTok, tokOk, toksOk, methodsOk, blankOk, packageOk, packagesOk, pairOk, lineOk, linesOk, tokenRowOk, numberRowOk, rowOk, listOk, checkBy, sizedOk, checkOk}
 use Rattle.soundness.proofs.Parts.{part-length}
 use Rattle.soundness.proofs.Encoded.{Bytes, part-bytes, row-lt}
 use Rattle.soundness.proofs.Lookup.{used-is}
@@ -33,54 +34,74 @@ use Rattle.soundness.proofs.Passes.{passes}
 pub full : (c : Card) → Full (layoutOf c)
 full Small = record { ok = layout-ok Small; packages-full = refl; services-full = refl; services-low = limits Small .services-low; some-methods = omega arith }
 
-module _ (L : Layout) (lf : Full L) (l : List ℕ) (bytes : Bytes l) (len : length l ≡ size L) where
+old-full : Full narrow
+old-full = record { ok = card-ok; packages-full = refl; services-full = refl; services-low = omega arith; some-methods = omega arith }
+
+module _ (L : Layout) (lf : Full L) (l : List ℕ) (bytes : Bytes l) where
+  abbrev sized : Bool
+  sized = eqb (length l) (size L)
+
   abbrev headed : Bool
   headed = eqBytes (take 3 l) (L .header)
 
+  abbrev unmets : Bool
+  unmets = listOk L l (L .early) UnmetCalls
+
+  abbrev waitings : Bool
+  waitings = listOk L l (L .early) WaitingGrants
+
   checked-sound : T (checkOk L l) → T (sound L l)
-  unfolding checkOk sound
+  unfolding checkBy sound
   checked-sound ok =
-      let a = and-l (headed && packagesOk L l && linesOk L l && listOk L l Unmet) (listOk L l Waiting) ok in
-      let w = and-r (headed && packagesOk L l && linesOk L l && listOk L l Unmet) (listOk L l Waiting) ok in
-      let b = and-l (headed && packagesOk L l && linesOk L l) (listOk L l Unmet) a in
-      let u = and-r (headed && packagesOk L l && linesOk L l) (listOk L l Unmet) a in
+      let z = and-l sized (headed && packagesOk L l && linesOk L l && unmets && waitings) ok in
+      let o = and-r sized (headed && packagesOk L l && linesOk L l && unmets && waitings) ok in
+      let a = and-l (headed && packagesOk L l && linesOk L l && unmets) waitings o in
+      let w = and-r (headed && packagesOk L l && linesOk L l && unmets) waitings o in
+      let b = and-l (headed && packagesOk L l && linesOk L l) unmets a in
+      let u = and-r (headed && packagesOk L l && linesOk L l) unmets a in
       let c = and-l (headed && packagesOk L l) (linesOk L l) b in
       let i = and-r (headed && packagesOk L l) (linesOk L l) b in
       let h = and-l headed (packagesOk L l) c in
       let p = and-r headed (packagesOk L l) c in
+      let len = eqb→eq (length l) (size L) z in
       let t = decode L l in
-      and-i (eqb (length l) (size L) && headed) (eqBytes (encode L t) l && soundTables L t) (and-i (eqb (length l) (size L)) headed (eqb-of len) h)
+      and-i (sized && headed) (eqBytes (encode L t) l && soundTables L t) (and-i sized headed z h)
       (and-i (eqBytes (encode L t) l) (soundTables L t)
       (eqAid-of (encode-back L lf l bytes len (eqBytes→ (take 3 l) (L .header) h) (check-parts L lf l bytes len p i u w)))
       (sound-tables L t (check-formed L lf l bytes len p i u w) (check-ruled L lf l bytes len p i u w) (check-lawful L lf l bytes len p i u w) (check-fitting L lf l bytes len p i u w)))
 
   sound-checked : T (sound L l) → T (checkOk L l)
-  unfolding checkOk sound
+  unfolding checkBy sound
   sound-checked ok =
       let t = decode L l in
-      let h = and-r (eqb (length l) (size L)) headed (and-l (eqb (length l) (size L) && headed) (eqBytes (encode L t) l && soundTables L t) ok) in
-      let e = and-l (eqBytes (encode L t) l) (soundTables L t) (and-r (eqb (length l) (size L) && headed) (eqBytes (encode L t) l && soundTables L t) ok) in
+      let d = and-l (sized && headed) (eqBytes (encode L t) l && soundTables L t) ok in
+      let e = and-l (eqBytes (encode L t) l) (soundTables L t) (and-r (sized && headed) (eqBytes (encode L t) l && soundTables L t) ok) in
+      let z = and-l sized headed d in
+      let len = eqb→eq (length l) (size L) z in
       let fo = sound-formed L l ok in
       let fi = sound-fitting L l ok in
-      let room = formed-room L t fo fi in
+      let ru = sound-ruled L l ok in
+      let room = formed-room L t fo ru fi in
       let parts : Parts L lf l bytes len = encode-parts L lf l bytes len (eqBytes→ (encode L t) l e) (λ i p. length-aid (t .aid i) (room .aid-short i))
       (length-unmets L (lf .ok) t room) in
-      let p = passes L lf l bytes len fo (sound-ruled L l ok) (sound-lawful L l ok) fi parts in
-      and-i (headed && packagesOk L l && linesOk L l && listOk L l Unmet) (listOk L l Waiting)
-      (and-i (headed && packagesOk L l && linesOk L l) (listOk L l Unmet) (and-i (headed && packagesOk L l) (linesOk L l) (and-i headed (packagesOk L l) h (p .0)) (p .1)) (p .2)) (p .3)
+      let p = passes L lf l bytes len fo ru (sound-lawful L l ok) fi parts in
+      and-i sized (headed && packagesOk L l && linesOk L l && unmets && waitings) z
+      (and-i (headed && packagesOk L l && linesOk L l && unmets) waitings (and-i (headed && packagesOk L l && linesOk L l) unmets
+      (and-i (headed && packagesOk L l) (linesOk L l) (and-i headed (packagesOk L l) (and-r sized headed d) (p .0)) (p .1)) (p .2)) (p .3))
 
-pub check-is-sound : (c : Card) (l : List ℕ) → Bytes l → length l ≡ size (layoutOf c) → checkOk (layoutOf c) l ≡ sound (layoutOf c) l
-check-is-sound c l bytes len = T-eq (checkOk (layoutOf c) l) (sound (layoutOf c) l) (checked-sound (layoutOf c) (full c) l bytes len) (sound-checked (layoutOf c) (full c) l bytes len)
+  check-is-sound : checkOk L l ≡ sound L l
+  check-is-sound = T-eq (checkOk L l) (sound L l) checked-sound sound-checked
 
-pub sound-of : (c : Card) (l : List ℕ) → Bytes l → length l ≡ size (layoutOf c) → {r : Bool} → r ≡ checkOk (layoutOf c) l → r ≡ sound (layoutOf c) l
-sound-of c l bytes len e = e ∙ check-is-sound c l bytes len
+-- what the code's check says of an image of a card in force, and of one of version 01: there all but the length, the first bytes and the rules is as on the small card
+pub sound-of : (c : Card) (l : List ℕ) → Bytes l → {n : ℕ} {h : List ℕ} {r : Bool} → n ≡ size (layoutOf c) → h ≡ layoutOf c .header → r ≡ sizedOk (layoutOf c) l n h true → r ≡ sound (layoutOf c) l
+sound-of c l bytes p q e = e ∙ (λ i. sizedOk (layoutOf c) l (p i) (q i) (sym (early c) i)) ∙ check-is-sound (layoutOf c) (full c) l bytes
 
-pub unsized : (L : Layout) (l : List ℕ) → (length l ≡ size L → ⊥) → false ≡ sound L l
-unfolding sound
-unsized L l f =
-    let t = decode L l in
-    let e : eqb (length l) (size L) ≡ false = T-false (eqb (length l) (size L)) (λ h. f (eqb→eq (length l) (size L) h)) in
-    ap (λ (b : Bool). b && eqBytes (take 3 l) (L .header) && (eqBytes (encode L t) l && soundTables L t)) (sym e)
+old-check : (l : List ℕ) → sizedOk small l (size narrow) (narrow .header) false ≡ checkOk narrow l
+unfolding checkBy packagesOk packageOk numberAt methodsOk toksOk tokOk newTok blankOk linesOk lineOk pairOk listOk rowOk tokenRowOk numberRowOk
+old-check l = refl
+
+pub old-sound-of : (l : List ℕ) → Bytes l → {n : ℕ} {h : List ℕ} {r : Bool} → n ≡ size narrow → h ≡ narrow .header → r ≡ sizedOk small l n h false → r ≡ sound narrow l
+old-sound-of l bytes p q e = e ∙ (λ i. sizedOk small l (p i) (q i) false) ∙ old-check l ∙ check-is-sound narrow old-full l bytes
 
 -- ---- how many package numbers are used
 pub used-count : (c : Card) (l : List ℕ) → Bytes l → length l ≡ size (layoutOf c) → {row r : ℕ} → row ≡ usedRow (layoutOf c) l → r ≡ length (keep (bit row) (upto 16))

@@ -4,15 +4,15 @@ use native.Mathlib.Omega.{arith}
 use native.Mathlib.Nat.{add-mul, add-sub-of-le}
 use mathlib.Core.Path.{_≡_, refl, sym, ap, _∙_, subst}
 use mathlib.Core.Logic.{_⊎_, inl, inr}
-use mathlib.Core.Bool.{Bool, not, _&&_}
+use mathlib.Core.Bool.{Bool, true, false, not, _&&_, cond}
 use mathlib.Core.List.{List, [], map}
 use mathlib.Core.List.{List·Memᴰ as In}
 use lib.Dec.{T, eqb, leb, ltb, eqb→eq, ltb→lt, leb→le}
-use lib.ListN.{length, take, drop, replicate}
+use lib.ListN.{length, getD, take, drop, replicate}
 use lib.Seq.{take-take}
 use Rattle.policy.specs.Lists.{implies, every, upto, NoRepeat}
 use Rattle.policy.specs.Contract.{Aid, validAid}
-use Rattle.policy.specs.Layout.{Layout, size, aidSize}
+use Rattle.policy.specs.Layout.{Layout, size, aidSize, waitingSize}
 use Rattle.policy.specs.Records.{ValidTok}
 use Rattle.policy.specs.Tables.{Tables, Unmet, Waiting, noTok, bit, readAid, writeAid, readTok, writeTok, readUnmet, writeUnmet, readWaiting, writeWaiting, readList, writeList, decode}
 use Rattle.policy.proofs.Sets.{and-l, and-r, and-i, or-e, implies-e, not-e, test, false-T, map-in, upto-in, once-map, once-upto, below-in}
@@ -21,19 +21,20 @@ use Rattle.policy.proofs.Pieces.{in-or-off, row-ends}
 use Rattle.policy.proofs.Formed.{Names, Bits, UnmetRows, WaitingRows, grantBit, Formed, Lawful, Fitting, Ruled}
 use Rattle.policy.proofs.SoundFacts.{InRange, decode-in}
 use Rattle.policy.proofs.Bits.{bit-none}
-use Rattle.geometry.specs.Geometry.{aidAt, tokAt, entryAt}
+use Rattle.geometry.specs.Geometry.{aidAt, tokAt, entryAt, listAt, numberIn, tokensIn}
+use Rattle.geometry.proofs.Bounds.{tokens-in-row}
 use Rattle.geometry.specs.declared.Table.the-variants.{Calls, Grants, Needs}
-use Rattle.soundness.specs.declared.Kept.{Kept}
-use Rattle.soundness.specs.declared.Kept.the-variants.{Unmet as Unmets, Waiting as Waitings}
+use Rattle.geometry.specs.declared.Kept.{Kept}
+use Rattle.geometry.specs.declared.Kept.the-variants.{UnmetCalls, WaitingGrants}
 use Rattle.soundness.specs.Check.{byteAt, partAt, zerosAt, sameAt, aidOk, within, rowAt, usedRow, provRow, numberAt, isTok, newTok, tokOk, toksOk, methodOk, methodsOk, newAid, blankOk, packageOk, packagesOk}
-use Rattle.soundness.specs.Check.{grantOk, pairOk, lineOk, linesOk, isUsed, unserved, unmetOk, isProvided, waitingOk, listAt, rowSize, placeAt, countOf, rowOk, newRow, placeOk, listOk}
+use Rattle.soundness.specs.Check.{grantOk, pairOk, lineOk, linesOk, isUsed, server, unserved, tokenRowOk, isProvided, numberRowOk, rowSize, placeAt, countOf, rowOk, newRow, placeOk, listOk}
 use Rattle.soundness.proofs.Parts.{part-length, part-same, zero-byte, zeros-part, Filled, filled-inj, ok-filled, zeros-blank}
 use Rattle.soundness.proofs.Decoded.{used-read, aid-read, aid-off, tok-read, tok-off, list-read}
-use Rattle.soundness.proofs.Encoded.{Bytes, tok-back, unmet-back, waiting-back, list-back, length-rows}
+use Rattle.soundness.proofs.Encoded.{Bytes, tok-back, unmet-back, grant-back, Numbered, list-back, length-rows}
 use Rattle.soundness.proofs.Whole.{list-end, Full, Parts}
 use Rattle.soundness.proofs.Tests.{row-low}
-use Rattle.soundness.proofs.Lookup.{cond-then, cond-else, tok-bytes, method-is, unmet-at, waiting-at, number-same, used-is, prov-is, calls-is, grants-is, needs-is}
-use Rattle.soundness.proofs.Lookup.{found-used}
+use Rattle.soundness.proofs.Lookup.{cond-then, cond-else, tok-bytes, method-is, past, unmet-at, grant-at, number-same, used-is, prov-is, calls-is, grants-is, needs-is}
+use Rattle.soundness.proofs.Lookup.{found-used, number-with}
 
 -- conjunctions as they stand in the tests
 two : (a b : Bool) → T (a && b) → T a × T b
@@ -44,6 +45,15 @@ three a b c h = let p = and-l (a && b) c h in (and-l a b p, and-r a b p, and-r (
 
 four : (a b c d : Bool) → T (a && b && c && d) → T a × T b × T c × T d
 four a b c d h = let p = three a b c (and-l (a && b && c) d h) in (p .0, p .1, p .2, and-r (a && b && c) d h)
+
+-- what a row v of waiting grants gives, by the rules of its version
+record GrantFacts (L : Layout) (t : Tables) (early : Bool) (v : Waiting) : Type 0 where
+  valid : T (validAid (v .caller))
+  used : T (t .used (v .callee))
+  other : v .caller ≡ t .aid (v .callee) → ⊥
+  off : (i k : ℕ) → T (t .used i) → t .aid i ≡ v .caller → T (t .provides (v .callee) k) → t .tok (v .callee) k ≡ v .tok → ⊥
+  method : ValidTok L (v .tok)
+  own : (T early → ⊥) → (k : ℕ) × T (t .provides (v .callee) k) × (t .tok (v .callee) k ≡ v .tok)
 
 -- numbers of which neither is lower
 level : (i j : ℕ) → (i < j → ⊥) → (j < i → ⊥) → i ≡ j
@@ -250,46 +260,49 @@ module _ (L : Layout) (lf : Full L) (l : List ℕ) (bytes : Bytes l) (len : leng
       }
 
   -- ---- lists
-  module _ (k : Kept) (ok : T (listOk L l k)) where
+  module _ (k : Kept) (ok : T (listOk L l (L .early) k)) where
     abbrev count : ℕ
     count = countOf L l k
 
-    abbrev row : ℕ → List ℕ
-    row q = partAt l (placeAt L k q) (rowSize k)
+    abbrev w : ℕ
+    w = rowSize (L .early) k
 
-    list-facts : (count ≤ L .capacity) × T (every (placeOk L l k) (upto count)) × T (zerosAt l (placeAt L k count) ((L .capacity - count) * rowSize k))
+    abbrev spot : ℕ → ℕ
+    spot q = placeAt L (L .early) k q
+
+    abbrev row : ℕ → List ℕ
+    row q = partAt l (spot q) (w)
+
+    list-facts : (count ≤ L .capacity) × T (every (placeOk L l (L .early) k) (upto count)) × T (zerosAt l (spot count) ((L .capacity - count) * w))
     unfolding listOk
     list-facts =
-        let p = three (leb count (L .capacity)) (every (placeOk L l k) (upto count)) (zerosAt l (placeAt L k count) ((L .capacity - count) * rowSize k)) ok in
+        let p = three (leb count (L .capacity)) (every (placeOk L l (L .early) k) (upto count)) (zerosAt l (spot count) ((L .capacity - count) * w)) ok in
         (leb→le count (L .capacity) (p .0), p .1, p .2)
 
-    row-ok : (q : ℕ) → q < count → T (rowOk L l k (placeAt L k q)) × T (newRow L l k q)
-    row-ok q p = two (rowOk L l k (placeAt L k q)) (newRow L l k q) (below-in (placeOk L l k) count (list-facts .1) q p)
+    row-ok : (q : ℕ) → q < count → T (rowOk L l (L .early) k (spot q)) × T (newRow l (listAt L k) (w) q)
+    row-ok q p = two (rowOk L l (L .early) k (spot q)) (newRow l (listAt L k) (w) q) (below-in (placeOk L l (L .early) k) count (list-facts .1) q p)
 
-    row-in : (q : ℕ) → q < count → placeAt L k q + rowSize k ≤ length l
-    row-in q p = let a = list-end L l len k in let b = list-facts .0 in let c = row-ends q (L .capacity) (rowSize k) (omega arith) in omega arith
+    row-in : (q : ℕ) → q < count → spot q + w ≤ length l
+    row-in q p = let a = list-end L l len k in let b = list-facts .0 in let c = row-ends q (L .capacity) (w) (omega arith) in omega arith
 
-    past-rows : partAt l (placeAt L k count) ((L .capacity - count) * rowSize k) ≡ replicate ((L .capacity - count) * rowSize k) 0
+    past-rows : partAt l (spot count) ((L .capacity - count) * w) ≡ replicate ((L .capacity - count) * w) 0
     past-rows =
         let h = list-end L l len k in
-        let q : L .capacity * rowSize k ≡ count * rowSize k + (L .capacity - count) * rowSize k =
-        ap (λ (x : ℕ). x * rowSize k) (sym (add-sub-of-le (list-facts .0))) ∙ add-mul count (L .capacity - count) (rowSize k) in
-        zeros-part l (placeAt L k count) ((L .capacity - count) * rowSize k) (omega arith) (list-facts .2)
+        let q : L .capacity * w ≡ count * w + (L .capacity - count) * w =
+        ap (λ (x : ℕ). x * w) (sym (add-sub-of-le (list-facts .0))) ∙ add-mul count (L .capacity - count) (w) in
+        zeros-part l (spot count) ((L .capacity - count) * w) (omega arith) (list-facts .2)
 
-    -- rows are read by f and written by g; the AID's place of a row that passes is filled
-    module _ {A : Type 0} (f : List ℕ → A) (g : A → List ℕ) (back : (p : List ℕ) → length p ≡ rowSize k → Filled (take 17 p) → g (f p) ≡ p)
-        (fill : (at : ℕ) → at + rowSize k ≤ length l → T (rowOk L l k at) → Filled (partAt l at 17)) where
+    -- rows are read by f and written by g, back to themselves where they pass
+    module _ {A : Type 0} (f : List ℕ → A) (g : A → List ℕ)
+        (back : (at : ℕ) → at + w ≤ length l → T (rowOk L l (L .early) k at) → g (f (partAt l at (w))) ≡ partAt l at (w)) where
       abbrev listed : List A
-      listed = readList f (rowSize k) (drop (listAt L k) l)
+      listed = readList f (w) (drop (listAt L k) l)
 
       rows-are : listed ≡ map (λ q. f (row q)) (upto count)
-      rows-are = list-read l f (rowSize k) (listAt L k) (let h = list-end L l len k in omega arith)
+      rows-are = list-read l f (w) (listAt L k) (let h = list-end L l len k in omega arith)
 
       rows-back : (q : ℕ) → q < count → g (f (row q)) ≡ row q
-      rows-back q p =
-          let at = placeAt L k q in
-          let h = row-in q p in
-          back (row q) (part-length l at (rowSize k) h) (subst Filled (sym (take-take 17 (rowSize k) (drop at l) (let w = row-low k in omega arith))) (fill at h (row-ok q p .0)))
+      rows-back q p = back (spot q) (row-in q p) (row-ok q p .0)
 
       rows-once : NoRepeat listed
       unfolding newRow
@@ -298,145 +311,198 @@ module _ (L : Layout) (lf : Full L) (l : List ℕ) (bytes : Bytes l) (len : leng
         where
           new : (x y : ℕ) → x < count → y < count → f (row x) ≡ f (row y) → x < y → ⊥
           new x y a b e h =
-              not-e (sameAt l (placeAt L k y) (placeAt L k x) (rowSize k)) (below-in (λ q. not (sameAt l (placeAt L k y) (placeAt L k q) (rowSize k))) y (row-ok y b .1) x h)
-              (part-same l (placeAt L k y) (placeAt L k x) (rowSize k) (sym (rows-back y b) ∙ ap g (sym e) ∙ rows-back x a))
+              not-e (sameAt l (spot y) (spot x) (w)) (below-in (λ q. not (sameAt l (spot y) (spot q) (w))) y (row-ok y b .1) x h)
+              (part-same l (spot y) (spot x) (w) (sym (rows-back y b) ∙ ap g (sym e) ∙ rows-back x a))
 
       rows-fit : length listed ≤ L .capacity
-      rows-fit = subst (λ (z : ℕ). z ≤ L .capacity) (sym (length-rows L l f g (rowSize k) (listAt L k) (list-end L l len k))) (list-facts .0)
+      rows-fit = subst (λ (z : ℕ). z ≤ L .capacity) (sym (length-rows L l f g (w) (listAt L k) (list-end L l len k))) (list-facts .0)
 
-      list-part : writeList L g (rowSize k) listed ≡ partAt l (listAt L k) (1 + L .capacity * rowSize k)
-      list-part = list-back L l f g (rowSize k) (listAt L k) (list-end L l len k) (list-facts .0) rows-back past-rows
+      list-part : writeList L g (w) listed ≡ partAt l (listAt L k) (1 + L .capacity * w)
+      list-part = list-back L l f g (w) (listAt L k) (list-end L l len k) (list-facts .0) rows-back past-rows
 
-      each-row : (P : A → Type 0) → ((at : ℕ) → at + rowSize k ≤ length l → T (rowOk L l k at) → P (f (partAt l at (rowSize k)))) → (x : A) → In x listed → P x
+      each-row : (P : A → Type 0) → ((at : ℕ) → at + w ≤ length l → T (rowOk L l (L .early) k at) → P (f (partAt l at (w)))) → (x : A) → In x listed → P x
       each-row P h x i =
           let p = map-in (λ q. f (row q)) (upto count) (subst (In x) rows-are i) in
           let c = upto-in count (p .1) in
-          subst P (sym (p .2)) (h (placeAt L k (p .0)) (row-in (p .0) c) (row-ok (p .0) c .0))
+          subst P (sym (p .2)) (h (spot (p .0)) (row-in (p .0) c) (row-ok (p .0) c .0))
 
   module _ (packages : T (packagesOk L l)) where
     abbrev na : Names L (t .used) (t .aid) (t .tok) (t .provides)
     na = names packages
 
-    -- a row of unmet calls, and one of waiting grants
-    module _ (at : ℕ) (inside : at + 20 ≤ length l) (ok : T (unmetOk L l at)) where
-      abbrev caller : ℕ
-      caller = byteAt l (at + 19)
+    -- a row with tokens
+    module _ (k : Kept) (at : ℕ) (inside : at + 20 ≤ length l) (ok : T (tokenRowOk L l k at)) where
+      abbrev own : ℕ
+      own = byteAt l (at + numberIn k)
+
+      abbrev toks : ℕ
+      toks = at + tokensIn k
 
       abbrev number : ℕ
       number = numberAt L l at
 
-      abbrev method : Bool
-      method = methodOk L l (at + 17)
+      row-four : T (isUsed L l own) × T (aidOk l at) × T (methodOk L l toks) × T (unserved L l k toks own number)
+      unfolding tokenRowOk
+      row-four = four (isUsed L l own) (aidOk l at) (methodOk L l toks) (unserved L l k toks own number) ok
 
-      abbrev free : Bool
-      free = unserved L l (at + 17) caller number
+      row-filled : Filled (partAt l at 17) × T (validAid (readAid (partAt l at 17)))
+      row-filled = ok-filled l at (omega arith) (row-four .1)
 
-      unmet-four : T (isUsed L l caller) × T (aidOk l at) × T method × T free
-      unfolding unmetOk
-      unmet-four = four (isUsed L l caller) (aidOk l at) method free ok
+      row-used : T (t .used own)
+      row-used = subst T (sym (used-read L l own)) (row-four .0)
 
-      unmet-filled : Filled (partAt l at 17) × T (validAid (readAid (partAt l at 17)))
-      unmet-filled = ok-filled l at (omega arith) (unmet-four .1)
+      row-method : ValidTok L (readTok (partAt l toks 2))
+      row-method = subst T (method-is l toks L) (row-four .2)
 
-      row-used : T (t .used caller)
-      row-used = subst T (sym (used-read L l caller)) (unmet-four .0)
-
-      row-method : ValidTok L (readTok (partAt l (at + 17) 2))
-      row-method = subst T (method-is l (at + 17) L) (unmet-four .2)
-
-      -- a used package with the row's AID
+      -- a used package with the row's AID, and the one that would serve it
       module _ (j : ℕ) (u : T (t .used j)) (e : t .aid j ≡ readAid (partAt l at 17)) where
-        served : T (not (eqb j caller) && newTok L l m (at + 17) j)
-        served = go number (found-used L lf l bytes len na (filled packages) at (unmet-filled .0) (unmet-filled .1) j u e) (unmet-four .3)
+        abbrev Free : ℕ → Bool
+        Free c = not (eqb c own) && newTok L l m toks (server k c own)
+
+        free : T (Free j)
+        free = go number (found-used L lf l bytes len na (filled packages) at (row-filled .0) (row-filled .1) j u e) (row-four .3)
           where
-            go : (c : ℕ) → c ≡ j → T (unserved L l (at + 17) caller c) → T (not (eqb j caller) && newTok L l m (at + 17) j)
-            go c q h = pick (or-e (eqb c n) (not (eqb c caller) && newTok L l m (at + 17) c) h)
+            go : (c : ℕ) → c ≡ j → T (unserved L l k toks own c) → T (Free j)
+            go c q h = pick (or-e (eqb c n) (Free c) h)
               where
-                pick : T (eqb c n) ⊎ T (not (eqb c caller) && newTok L l m (at + 17) c) → T (not (eqb j caller) && newTok L l m (at + 17) j)
+                pick : T (eqb c n) ⊎ T (Free c) → T (Free j)
                 pick (inl z) = let a = eqb→eq c n z in let b = r .used-in j u in absurd (omega arith)
-                pick (inr z) = subst (λ (x : ℕ). T (not (eqb x caller) && newTok L l m (at + 17) x)) q z
+                pick (inr z) = subst (λ (x : ℕ). T (Free x)) q z
 
-        row-other : j ≡ caller → ⊥
-        row-other q = not-e (eqb j caller) (and-l (not (eqb j caller)) (newTok L l m (at + 17) j) served) (eqb-of q)
+        row-other : j ≡ own → ⊥
+        row-other q = not-e (eqb j own) (and-l (not (eqb j own)) (newTok L l m toks (server k j own)) free) (eqb-of q)
 
-        row-off : (k : ℕ) → T (t .provides j k) → t .tok j k ≡ readTok (partAt l (at + 17) 2) → ⊥
+        row-off : (q : ℕ) → T (t .provides (server k j own) q) → t .tok (server k j own) q ≡ readTok (partAt l toks 2) → ⊥
         unfolding newTok
-        row-off k s f =
-            let c = r .prov-in j k s in
-            let same = part-same l (at + 17) (tokAt L j k) 2 (tok-inj (at + 17) (tokAt L j k) (omega arith) (tok-in j k (c .0) (c .1)) (sym f ∙ tok-read L l j k (c .0) (c .1))) in
-            not-e (isTok L l (at + 17) j k) (below-in (λ k′. not (isTok L l (at + 17) j k′)) m (and-r (not (eqb j caller)) (newTok L l m (at + 17) j) served) k (c .1))
-            (and-i (bit (provRow L l j) k) (sameAt l (at + 17) (tokAt L j k) 2) (subst T (prov-is L lf l bytes len j k (c .0) (c .1)) s) same)
+        row-off q s f =
+            let i = server k j own in
+            let c = r .prov-in i q s in
+            let same = part-same l toks (tokAt L i q) 2 (tok-inj toks (tokAt L i q) (let b = tokens-in-row k in omega arith) (tok-in i q (c .0) (c .1)) (sym f ∙ tok-read L l i q (c .0) (c .1))) in
+            not-e (isTok L l toks i q) (below-in (λ x. not (isTok L l toks i x)) m (and-r (not (eqb j own)) (newTok L l m toks i) free) q (c .1))
+            (and-i (bit (provRow L l i) q) (sameAt l toks (tokAt L i q) 2) (subst T (prov-is L lf l bytes len i q (c .0) (c .1)) s) same)
 
-    module _ (at : ℕ) (inside : at + 19 ≤ length l) (ok : T (waitingOk L l at)) where
+    -- a row with a service number
+    module _ (at : ℕ) (inside : at + 19 ≤ length l) (ok : T (numberRowOk L l at)) where
       abbrev callee : ℕ
       callee = byteAt l (at + 17)
 
       abbrev service : ℕ
       service = byteAt l (at + 18)
 
-      waiting-three : T (isProvided L l callee service) × T (aidOk l at) × T (eqb (numberAt L l at) n)
-      unfolding waitingOk
-      waiting-three = three (isProvided L l callee service) (aidOk l at) (eqb (numberAt L l at) n) ok
+      row-three : T (isProvided L l callee service) × T (aidOk l at) × T (eqb (numberAt L l at) n)
+      unfolding numberRowOk
+      row-three = three (isProvided L l callee service) (aidOk l at) (eqb (numberAt L l at) n) ok
 
-      waiting-filled : Filled (partAt l at 17) × T (validAid (readAid (partAt l at 17)))
-      waiting-filled = ok-filled l at (omega arith) (waiting-three .1)
+      number-filled : Filled (partAt l at 17) × T (validAid (readAid (partAt l at 17)))
+      number-filled = ok-filled l at (omega arith) (row-three .1)
 
       row-prov : T (t .provides callee service)
       row-prov =
-          let p = three (ltb callee n) (ltb service m) (bit (provRow L l callee) service) (waiting-three .0) in
+          let p = three (ltb callee n) (ltb service m) (bit (provRow L l callee) service) (row-three .0) in
           subst T (sym (prov-is L lf l bytes len callee service (ltb→lt callee n (p .0)) (ltb→lt service m (p .1)))) (p .2)
 
       row-absent : (j : ℕ) → T (t .used j) → t .aid j ≡ readAid (partAt l at 17) → ⊥
       row-absent j u e =
-          let a = found-used L lf l bytes len na (filled packages) at (waiting-filled .0) (waiting-filled .1) j u e in
-          let b = eqb→eq (numberAt L l at) n (waiting-three .2) in
+          let a = found-used L lf l bytes len na (filled packages) at (number-filled .0) (number-filled .1) j u e in
+          let b = eqb→eq (numberAt L l at) n (row-three .2) in
           let c = r .used-in j u in
           absurd (omega arith)
 
-    module _ (unmets : T (listOk L l Unmets)) where
-      unmet-fill : (at : ℕ) → at + 20 ≤ length l → T (rowOk L l Unmets at) → Filled (partAt l at 17)
-      unfolding rowOk
-      unmet-fill at a b = unmet-filled at a b .0
+    -- the AID's place of a row that passes is filled
+    fill : (early : Bool) (k : Kept) (at : ℕ) → at + rowSize early k ≤ length l → T (rowOk L l early k at) → Filled (partAt l at 17)
+    unfolding rowOk
+    fill early UnmetCalls at a b = row-filled UnmetCalls at a b .0
+    fill true WaitingGrants at a b = row-filled WaitingGrants at a b .0
+    fill false WaitingGrants at a b = number-filled at a b .0
 
-      each-unmet : (P : Unmet → Type 0) → ((at : ℕ) → at + 20 ≤ length l → T (unmetOk L l at)
+    -- and so the part that its AID is read from
+    filled-front : (early : Bool) (k : Kept) (at : ℕ) → at + rowSize early k ≤ length l → T (rowOk L l early k at) → Filled (take 17 (partAt l at (rowSize early k)))
+    filled-front early k at a b = subst Filled (sym (take-take 17 (rowSize early k) (drop at l) (let w = row-low early k in omega arith))) (fill early k at a b)
+
+    module _ (unmets : T (listOk L l (L .early) UnmetCalls)) where
+      unmet-again : (at : ℕ) → at + 20 ≤ length l → T (rowOk L l (L .early) UnmetCalls at) → writeUnmet (readUnmet (partAt l at 20)) ≡ partAt l at 20
+      unmet-again at a b = unmet-back (partAt l at 20) (part-length l at 20 a) (filled-front (L .early) UnmetCalls at a b)
+
+      each-unmet : (P : Unmet → Type 0) → ((at : ℕ) → at + 20 ≤ length l → T (tokenRowOk L l UnmetCalls at)
           → P (record { callee = readAid (partAt l at 17); tok = readTok (partAt l (at + 17) 2); caller = byteAt l (at + 19) })) → (u : Unmet) → In u (t .unmet) → P u
       unfolding decode rowOk
-      each-unmet P f = each-row Unmets unmets readUnmet writeUnmet unmet-back unmet-fill P (λ at a b. subst P (sym (unmet-at l at)) (f at a b))
+      each-unmet P f = each-row UnmetCalls unmets readUnmet writeUnmet unmet-again P (λ at a b. subst P (sym (unmet-at l at)) (f at a b))
 
       unmet-rows : UnmetRows (t .used) (t .aid) (t .tok) (t .provides) (t .unmet)
       unfolding decode
       unmet-rows = record {
         off = record {
-          off-used = each-unmet (λ u. T (t .used (u .caller))) row-used;
+          off-used = each-unmet (λ u. T (t .used (u .caller))) (row-used UnmetCalls);
           off-card = each-unmet (λ u. (j k : ℕ) → T (t .provides j k) → t .aid j ≡ u .callee → t .tok j k ≡ u .tok → ⊥)
-              (λ at a b j k s e f. row-off at a b j (prov-used packages j k s) e k s f);
+              (λ at a b j k s e f. row-off UnmetCalls at a b j (prov-used packages j k s) e k s f);
         };
-        unmet-valid = each-unmet (λ u. T (validAid (u .callee))) (λ at a b. unmet-filled at a b .1);
-        unmet-other = each-unmet (λ u. u .callee ≡ t .aid (u .caller) → ⊥) (λ at a b e. row-other at a b (byteAt l (at + 19)) (row-used at a b) (sym e) refl);
-        unmet-once = rows-once Unmets unmets readUnmet writeUnmet unmet-back unmet-fill;
+        unmet-valid = each-unmet (λ u. T (validAid (u .callee))) (λ at a b. row-filled UnmetCalls at a b .1);
+        unmet-other = each-unmet (λ u. u .callee ≡ t .aid (u .caller) → ⊥) (λ at a b e. row-other UnmetCalls at a b (byteAt l (at + 19)) (row-used UnmetCalls at a b) (sym e) refl);
+        unmet-once = rows-once UnmetCalls unmets readUnmet writeUnmet unmet-again;
       }
 
-    module _ (waitings : T (listOk L l Waitings)) where
-      waiting-fill : (at : ℕ) → at + 19 ≤ length l → T (rowOk L l Waitings at) → Filled (partAt l at 17)
-      unfolding rowOk
-      waiting-fill at a b = waiting-filled at a b .0
+    -- what a row of waiting grants that passes gives, by the rules of its version
+    waiting-facts : (early : Bool) (at : ℕ) → at + rowSize early WaitingGrants ≤ length l → T (rowOk L l early WaitingGrants at) → GrantFacts L t early
+        (record { caller = readAid (partAt l at 17); callee = byteAt l (at + 17); tok = cond early (readTok (partAt l (at + 18) 2)) (t .tok (byteAt l (at + 17)) (byteAt l (at + 18))) })
+    unfolding rowOk
+    waiting-facts true at a b = record {
+      valid = row-filled WaitingGrants at a b .1;
+      used = row-used WaitingGrants at a b;
+      other = λ e. row-other WaitingGrants at a b (byteAt l (at + 17)) (row-used WaitingGrants at a b) (sym e) refl;
+      off = λ i k u e s f. row-off WaitingGrants at a b i u e k s f;
+      method = row-method WaitingGrants at a b;
+      own = λ late. absurd (late tt);
+    }
+    waiting-facts false at a b =
+        let s = row-prov at a b in
+        let u = prov-used packages (byteAt l (at + 17)) (byteAt l (at + 18)) s in
+        record {
+          valid = number-filled at a b .1;
+          used = u;
+          other = λ e. row-absent at a b (byteAt l (at + 17)) u (sym e);
+          off = λ i k v e _ _. row-absent at a b i v e;
+          method = tok-method packages (byteAt l (at + 17)) (byteAt l (at + 18)) s;
+          own = λ late. (byteAt l (at + 18), s, refl);
+        }
 
-      each-waiting : (P : Waiting → Type 0) → ((at : ℕ) → at + 19 ≤ length l → T (waitingOk L l at)
-          → P (record { caller = readAid (partAt l at 17); callee = byteAt l (at + 17); service = byteAt l (at + 18) })) → (v : Waiting) → In v (t .waiting) → P v
-      unfolding decode rowOk
-      each-waiting P f = each-row Waitings waitings readWaiting writeWaiting waiting-back waiting-fill P (λ at a b. subst P (sym (waiting-at l at)) (f at a b))
+    -- a service number is the one that is written for its service
+    numbered : (early : Bool) (at : ℕ) → at + rowSize early WaitingGrants ≤ length l → T (rowOk L l early WaitingGrants at) → (T early → ⊥)
+        → Numbered L (t .provides) (t .tok) (getD (drop 17 (partAt l at (rowSize early WaitingGrants))) 0 0) (getD (drop 17 (partAt l at (rowSize early WaitingGrants))) 1 0)
+    unfolding rowOk
+    numbered true at a b late = absurd (late tt)
+    numbered false at a b late =
+        let j = byteAt l (at + 17) in
+        let k = byteAt l (at + 18) in
+        subst (λ (x : ℕ). Numbered L (t .provides) (t .tok) x (getD (drop 17 (partAt l at 19)) 1 0)) (sym (past l at 19 0 (omega arith)))
+        (subst (λ (x : ℕ). Numbered L (t .provides) (t .tok) j x) (sym (past l at 19 1 (omega arith))) (number-with L t na j k (t .tok j k) (row-prov at a b) refl))
 
-      waiting-rows : WaitingRows (t .used) (t .aid) (t .provides) (t .waiting)
+    module _ (waitings : T (listOk L l (L .early) WaitingGrants)) where
+      abbrev write : Waiting → List ℕ
+      write = writeWaiting L (t .provides) (t .tok)
+
+      abbrev wide : ℕ
+      wide = waitingSize L
+
+      waiting-again : (at : ℕ) → at + wide ≤ length l → T (rowOk L l (L .early) WaitingGrants at) → write (readWaiting L (t .tok) (partAt l at wide)) ≡ partAt l at wide
+      waiting-again at a b = grant-back L (t .provides) (t .tok) (L .early) (partAt l at wide) (part-length l at wide a) (filled-front (L .early) WaitingGrants at a b) (numbered (L .early) at a b)
+
+      each-waiting : (P : Waiting → Type 0) → ((v : Waiting) → GrantFacts L t (L .early) v → P v) → (v : Waiting) → In v (t .waiting) → P v
+      unfolding decode
+      each-waiting P f = each-row WaitingGrants waitings (readWaiting L (t .tok)) write waiting-again P
+          (λ at a b. subst P (sym (grant-at l at (t .tok) (L .early))) (f _ (waiting-facts (L .early) at a b)))
+
+      waiting-rows : WaitingRows (t .used) (t .aid) (t .tok) (t .provides) (t .waiting)
       unfolding decode
       waiting-rows = record {
-        wait-valid = each-waiting (λ v. T (validAid (v .caller))) (λ at a b. waiting-filled at a b .1);
-        wait-off = each-waiting (λ v. (j : ℕ) → T (t .used j) → t .aid j ≡ v .caller → ⊥) row-absent;
-        wait-prov = each-waiting (λ v. T (t .provides (v .callee) (v .service))) row-prov;
-        wait-once = rows-once Waitings waitings readWaiting writeWaiting waiting-back waiting-fill;
+        wait-valid = each-waiting (λ v. T (validAid (v .caller))) (λ v g. g .valid);
+        wait-used = each-waiting (λ v. T (t .used (v .callee))) (λ v g. g .used);
+        wait-other = each-waiting (λ v. v .caller ≡ t .aid (v .callee) → ⊥) (λ v g. g .other);
+        wait-off = each-waiting (λ v. (i k : ℕ) → T (t .used i) → t .aid i ≡ v .caller → T (t .provides (v .callee) k) → t .tok (v .callee) k ≡ v .tok → ⊥) (λ v g. g .off);
+        wait-once = rows-once WaitingGrants waitings (readWaiting L (t .tok)) write waiting-again;
       }
 
   -- ---- the whole
-  module _ (packages : T (packagesOk L l)) (lines : T (linesOk L l)) (unmets : T (listOk L l Unmets)) (waitings : T (listOk L l Waitings)) where
+  module _ (packages : T (packagesOk L l)) (lines : T (linesOk L l)) (unmets : T (listOk L l (L .early) UnmetCalls)) (waitings : T (listOk L l (L .early) WaitingGrants)) where
     pub check-formed : Formed L t
     check-formed = record {
       names = names packages;
@@ -448,7 +514,12 @@ module _ (L : Layout) (lf : Full L) (l : List ℕ) (bytes : Bytes l) (len : leng
     }
 
     pub check-ruled : Ruled L t
-    check-ruled = record { provided = tok-method packages; unmet = each-unmet packages unmets (λ u. ValidTok L (u .tok)) (row-method packages) }
+    check-ruled = record {
+      provided = tok-method packages;
+      unmet = each-unmet packages unmets (λ u. ValidTok L (u .tok)) (row-method packages UnmetCalls);
+      waiting = each-waiting packages waitings (λ v. ValidTok L (v .tok)) (λ v g. g .method);
+      own = λ late. each-waiting packages waitings (λ v. (k : ℕ) × T (t .provides (v .callee) k) × (t .tok (v .callee) k ≡ v .tok)) (λ v g. g .own late);
+    }
 
     pub check-lawful : Lawful t
     check-lawful = lawful packages lines
@@ -456,14 +527,14 @@ module _ (L : Layout) (lf : Full L) (l : List ℕ) (bytes : Bytes l) (len : leng
     pub check-fitting : Fitting L t
     unfolding decode
     check-fitting = record {
-      unmet-fits = rows-fit Unmets unmets readUnmet writeUnmet unmet-back (unmet-fill packages unmets);
-      waiting-fits = rows-fit Waitings waitings readWaiting writeWaiting waiting-back (waiting-fill packages waitings);
+      unmet-fits = rows-fit UnmetCalls unmets readUnmet writeUnmet (unmet-again packages unmets);
+      waiting-fits = rows-fit WaitingGrants waitings (readWaiting L (t .tok)) (writeWaiting L (t .provides) (t .tok)) (waiting-again packages waitings);
     }
 
     pub check-parts : Parts L lf l bytes len
     unfolding decode
     check-parts = (
       λ i h. ap writeAid (aid-read L l i h) ∙ filled packages i h,
-      list-part Unmets unmets readUnmet writeUnmet unmet-back (unmet-fill packages unmets),
-      list-part Waitings waitings readWaiting writeWaiting waiting-back (waiting-fill packages waitings),
+      list-part UnmetCalls unmets readUnmet writeUnmet (unmet-again packages unmets),
+      list-part WaitingGrants waitings (readWaiting L (t .tok)) (writeWaiting L (t .provides) (t .tok)) (waiting-again packages waitings),
     )

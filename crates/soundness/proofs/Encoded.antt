@@ -4,17 +4,19 @@ use native.Mathlib.Omega.{arith}
 use native.Mathlib.Nat.{zero-mul, suc-mul, pow-suc, mul-le-mul-right, add-zero, add-mul, add-sub-of-le}
 use mathlib.Core.Path.{_≡_, refl, sym, ap, _∙_}
 use mathlib.Core.Logic.{_⊎_, inl, inr}
-use mathlib.Core.Bool.{Bool, _&&_}
+use mathlib.Core.Bool.{Bool, true, false, _&&_, cond}
 use mathlib.Core.List.{List, [], _∷_, _++_, append-nil}
-use lib.Dec.{ltb, lt→ltb}
+use lib.Dec.{T, ltb, lt→ltb}
 use lib.ListN.{length, getD, take, drop, replicate, length-map, take-append-drop, length-take, length-drop, List·getD-eq-default}
 use lib.Seq.{drop-drop, take-at, drop-at, getD-take, getD-drop}
 use Rattle.policy.specs.Lists.{flat, from, upto}
-use Rattle.policy.specs.Layout.{Layout}
-use Rattle.policy.specs.Tables.{bit, rowOf, readNumber, writeNumber, readAid, writeAid, readTok, writeTok, readUnmet, writeUnmet, readWaiting, writeWaiting, readList, writeList, bitOf, writeBits, pieces}
+use Rattle.policy.specs.Contract.{Tok}
+use Rattle.policy.specs.Layout.{Layout, aidSize}
+use Rattle.policy.specs.Tables.{Waiting, bit, rowOf, readNumber, writeNumber, readAid, writeAid, readTok, writeTok, readUnmet, writeUnmet, numberWith, readList, writeList, bitOf, writeBits, pieces}
 use Rattle.policy.proofs.Sets.{T-true, flat-map, length-from}
 use Rattle.policy.proofs.Pieces.{in-or-off, piece-only, length-table, piece-part, row-ends}
-use Rattle.soundness.specs.Check.{byteAt, partAt}
+use Rattle.geometry.specs.declared.Kept.the-variants.{WaitingGrants}
+use Rattle.soundness.specs.Check.{byteAt, partAt, rowSize}
 use Rattle.soundness.proofs.Parts.{part-in, part-part, part-length, part-cons, Filled}
 use Rattle.bits.proofs.Row.{row-is}
 use Rattle.soundness.proofs.Decoded.{list-read}
@@ -77,6 +79,10 @@ three : (q : List ℕ) → length q ≡ 3 → getD q 0 0 ∷ getD q 1 0 ∷ getD
 three [] e = absurd (omega arith)
 three (a ∷ q) e = ap (λ (z : List ℕ). a ∷ z) (two q (omega arith))
 
+one-two : (q : List ℕ) → length q ≡ 3 → getD q 0 0 ∷ writeTok (readTok (drop 1 q)) ≡ q
+one-two [] e = absurd (omega arith)
+one-two (a ∷ q) e = ap (λ (z : List ℕ). a ∷ z) (two q (omega arith))
+
 pub tok-back : (p : List ℕ) → length p ≡ 2 → writeTok (readTok p) ≡ p
 tok-back p e = two p e
 
@@ -117,8 +123,24 @@ length-past p a b e = length-drop a p ∙ ap (λ (k : ℕ). k - a) e ∙ (let q 
 pub unmet-back : (p : List ℕ) → length p ≡ 20 → Filled (take 17 p) → writeUnmet (readUnmet p) ≡ p
 unmet-back p e f = row-back p (writeTok (readTok (drop 17 p)) ++ (getD (drop 17 p) 2 0 ∷ [])) f (three (drop 17 p) (length-past p 17 3 e))
 
-pub waiting-back : (p : List ℕ) → length p ≡ 19 → Filled (take 17 p) → writeWaiting (readWaiting p) ≡ p
-waiting-back p e f = row-back p (getD (drop 17 p) 0 0 ∷ getD (drop 17 p) 1 0 ∷ []) f (two (drop 17 p) (length-past p 17 2 e))
+-- a row of waiting grants by the rules of its version: it is read and written as L's where these are L's
+abbrev pub readGrant : (ℕ → ℕ → Tok) → Bool → List ℕ → Waiting
+readGrant toks early bs =
+    let q = drop aidSize bs in
+    record { caller = readAid (take aidSize bs); callee = getD q 0 0; tok = cond early (readTok (drop 1 q)) (toks (getD q 0 0) (getD q 1 0)) }
+
+module _ (L : Layout) (provides : ℕ → ℕ → Bool) (toks : ℕ → ℕ → Tok) where
+  abbrev pub writeGrant : Bool → Waiting → List ℕ
+  writeGrant early v = writeAid (v .caller) ++ (v .callee ∷ cond early (writeTok (v .tok)) (numberWith L (provides (v .callee)) (toks (v .callee)) (v .tok) ∷ []))
+
+  -- the service number q names a service that is written by it
+  abbrev pub Numbered : ℕ → ℕ → Type 0
+  Numbered j q = numberWith L (provides j) (toks j) (toks j q) ≡ q
+
+  pub grant-back : (early : Bool) (p : List ℕ) → length p ≡ rowSize early WaitingGrants → Filled (take 17 p) → ((T early → ⊥) → Numbered (getD (drop 17 p) 0 0) (getD (drop 17 p) 1 0))
+      → writeGrant early (readGrant toks early p) ≡ p
+  grant-back true p e f n = row-back p (getD (drop 17 p) 0 0 ∷ writeTok (readTok (drop 1 (drop 17 p)))) f (one-two (drop 17 p) (length-past p 17 3 e))
+  grant-back false p e f n = row-back p _ f ((λ i. getD (drop 17 p) 0 0 ∷ n (λ x. x) i ∷ []) ∙ two (drop 17 p) (length-past p 17 2 e))
 
 -- ---- a list of rows of w bytes, read by f and written by g
 module _ (L : Layout) (l : List ℕ) {A : Type 0} (f : List ℕ → A) (g : A → List ℕ) (w at : ℕ) (fits : at + (1 + L .capacity * w) ≤ length l) where

@@ -11,19 +11,21 @@ use lib.Dec.{T, ltb, lt→ltb}
 use lib.ListN.{length, getD, drop}
 use lib.Seq.{take-take, getD-drop}
 use Rattle.policy.specs.Lists.{first, upto, orElse, eqBytes}
-use Rattle.policy.specs.Contract.{Aid, validAid}
+use Rattle.policy.specs.Contract.{Aid, validAid, Tok, eqTok}
 use Rattle.policy.specs.Layout.{Layout, size, aidSize}
 use Rattle.policy.specs.Record.{validTok}
-use Rattle.policy.specs.Tables.{Tables, bit, readAid, readTok, readUnmet, readWaiting, decode}
-use Rattle.policy.proofs.Sets.{T-true, test, upto-in, in-upto, Found, found}
+use Rattle.policy.specs.Tables.{Tables, bit, readAid, readTok, readUnmet, numberWith, decode}
+use Rattle.policy.proofs.Sets.{T-true, and-l, and-r, and-i, test, upto-in, in-upto, Found, found}
+use Rattle.policy.proofs.Equal.{eqTok→, eqTok-of}
 use Rattle.policy.proofs.Formed.{Names}
 use Rattle.policy.proofs.Pieces.{row-ends}
 use Rattle.geometry.specs.Geometry.{aidAt, provAt, entryAt}
 use Rattle.geometry.specs.declared.Table.the-variants.{Calls, Grants, Needs}
-use Rattle.soundness.specs.Check.{byteAt, partAt, rowAt, usedRow, provRow, sameAt, isAid, numberAt, methodOk}
-use Rattle.soundness.proofs.Parts.{part-byte, part-length, same-part, part-same, Filled, filled-inj}
+use Rattle.geometry.specs.declared.Kept.the-variants.{WaitingGrants}
+use Rattle.soundness.specs.Check.{byteAt, partAt, rowAt, usedRow, provRow, sameAt, rowSize, isAid, numberAt, methodOk}
+use Rattle.soundness.proofs.Parts.{part-byte, part-length, part-rest, same-part, part-same, Filled, filled-inj}
 use Rattle.soundness.proofs.Decoded.{used-read, aid-read, prov-read, calls-read, grants-read, needs-read}
-use Rattle.soundness.proofs.Encoded.{Bytes, part-bytes, row-lt}
+use Rattle.soundness.proofs.Encoded.{Bytes, part-bytes, row-lt, readGrant}
 use Rattle.soundness.proofs.Whole.{Full}
 
 -- ---- tests by cases
@@ -44,7 +46,8 @@ in-range k n b h = rw (T-true (ltb k n) (lt→ltb k n h))
 
 -- ---- rows of lists
 module _ (l : List ℕ) (at : ℕ) where
-  past : (n k : ℕ) → 17 + k < n → getD (drop 17 (partAt l at n)) k 0 ≡ byteAt l (at + (17 + k))
+  -- the bytes of a row after its AID
+  pub past : (n k : ℕ) → 17 + k < n → getD (drop 17 (partAt l at n)) k 0 ≡ byteAt l (at + (17 + k))
   past n k h = getD-drop 17 (partAt l at n) k 0 ∙ part-byte l at n (17 + k) h
 
   pub tok-bytes : readTok (partAt l at 2) ≡ record { itf = byteAt l at; mth = byteAt l (at + 1) }
@@ -68,11 +71,19 @@ module _ (l : List ℕ) (at : ℕ) where
       tok : readTok (drop 17 (partAt l at 20)) ≡ record { itf = byteAt l (at + 17); mth = byteAt l (at + 17 + 1) }
       tok = λ i. record { itf = past l at 20 0 (omega arith) i; mth = (past l at 20 1 (omega arith) ∙ ap (byteAt l) e) i }
 
-  pub waiting-at : readWaiting (partAt l at 19) ≡ record { caller = readAid (partAt l at 17); callee = byteAt l (at + 17); service = byteAt l (at + 18) }
-  waiting-at = λ i. record {
+  pub grant-at : (toks : ℕ → ℕ → Tok) (early : Bool) → readGrant toks early (partAt l at (rowSize early WaitingGrants))
+      ≡ record { caller = readAid (partAt l at 17); callee = byteAt l (at + 17); tok = cond early (readTok (partAt l (at + 18) 2)) (toks (byteAt l (at + 17)) (byteAt l (at + 18))) }
+  grant-at toks true =
+      let e : at + 17 + 1 ≡ at + 18 = omega arith in
+      λ i. record {
+        caller = ap readAid (take-take 17 20 (drop at l) (omega arith)) i;
+        callee = past l at 20 0 (omega arith) i;
+        tok = ap readTok (ap (drop 1) (part-rest l at 20 17 (omega arith)) ∙ part-rest l (at + 17) 3 1 (omega arith) ∙ ap (λ (a : ℕ). partAt l a 2) e) i;
+      }
+  grant-at toks false = λ i. record {
     caller = ap readAid (take-take 17 19 (drop at l) (omega arith)) i;
     callee = past l at 19 0 (omega arith) i;
-    service = past l at 19 1 (omega arith) i;
+    tok = toks (past l at 19 0 (omega arith) i) (past l at 19 1 (omega arith) i);
   }
 
 -- ---- the lowest package with an AID
@@ -157,3 +168,15 @@ module _ (L : Layout) (lf : Full L) (l : List ℕ) (bytes : Bytes l) (len : leng
             go : (k : ℕ) → NumberIs L l at k → k ≡ i
             go k (inl h) = absurd (h .1 i (names .used-lt i u) (same-aid i (names .used-lt i u) e))
             go k (inr h) = names .aid-inj k i (same-used k (h .0) (h .1)) u (aid-same k (h .0) (h .1) ∙ sym e)
+
+-- ---- the number that is written for a service of package j is the service's, since tokens of one package differ
+module _ (L : Layout) (t : Tables) (names : Names L (t .used) (t .aid) (t .tok) (t .provides)) where
+  pub number-with : (j k : ℕ) (s : Tok) → T (t .provides j k) → t .tok j k ≡ s → numberWith L (t .provides j) (t .tok j) s ≡ k
+  number-with j k s p e = go (first f (upto (L .services))) (found f (upto (L .services)))
+    where
+      f : ℕ → Bool
+      f q = t .provides j q && eqTok (t .tok j q) s
+
+      go : (o : Option ℕ) → Found (λ q. t .provides j q && eqTok (t .tok j q) s) (upto (L .services)) o → orElse o 0 (λ q. q) ≡ k
+      go none h = absurd (h k (in-upto (L .services) k (names .prov-lt j k p)) (and-i (t .provides j k) (eqTok (t .tok j k) s) p (eqTok-of e)))
+      go (some q) h = names .tok-inj j q k (and-l (t .provides j q) (eqTok (t .tok j q) s) (h .1)) p (eqTok→ (t .tok j q) s (and-r (t .provides j q) (eqTok (t .tok j q) s) (h .1)) ∙ sym e)

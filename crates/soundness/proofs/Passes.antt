@@ -3,17 +3,17 @@ use Prim.Native.Nat.{ℕ, zero, suc, _+_, _*_, _-_, _/_, _%_, _^_, _≤_, _<_}
 use native.Mathlib.Omega.{arith}
 use mathlib.Core.Path.{_≡_, refl, sym, ap, _∙_, subst}
 use mathlib.Core.Logic.{_⊎_, inl, inr}
-use mathlib.Core.Bool.{Bool, not, _&&_, _||_}
+use mathlib.Core.Bool.{Bool, true, false, not, _&&_, _||_, cond}
 use mathlib.Core.List.{List, [], _∷_, _++_, map}
 use mathlib.Core.List.{List·Memᴰ as In}
 use lib.Dec.{T, eqb, leb, ltb, eqb→eq, le→leb, lt→ltb}
-use lib.ListN.{length, take, drop, replicate}
-use lib.Seq.{take-at, take-take}
+use lib.ListN.{length, getD, take, drop, replicate}
+use lib.Seq.{take-at, drop-at, take-take}
 use Rattle.policy.specs.Lists.{implies, every, upto, NoRepeat}
 use Rattle.policy.specs.Contract.{Aid, Tok, validAid}
-use Rattle.policy.specs.Layout.{Layout, size, aidSize, unmetSize, waitingSize}
+use Rattle.policy.specs.Layout.{Layout, size, aidSize, unmetSize}
 use Rattle.policy.specs.Records.{ValidTok}
-use Rattle.policy.specs.Tables.{Tables, Unmet, Waiting, noTok, bit, readAid, writeAid, readTok, writeTok, readUnmet, readWaiting, readList, writeList, decode}
+use Rattle.policy.specs.Tables.{Tables, Unmet, Waiting, noTok, bit, readAid, writeAid, readTok, writeTok, readUnmet, numberWith, readWaiting, readList, writeList, decode}
 use Rattle.policy.proofs.Sets.{T-false, and-l, and-r, and-i, or-l, or-r, implies-i, not-i, test, false-T, in-map, in-upto, in-below}
 use Rattle.policy.proofs.Equal.{eqb-of}
 use Rattle.policy.proofs.Pieces.{in-or-off, length-aid, valid-short, length-unmet, length-waiting, row-ends}
@@ -21,19 +21,19 @@ use Rattle.policy.proofs.Formed.{grantBit, Formed, Lawful, Fitting, Ruled}
 use Rattle.policy.proofs.Sets.{map-inj}
 use Rattle.policy.proofs.Bits.{bit-none}
 use Rattle.bits.proofs.Row.{bit-past, bit-ext}
-use Rattle.geometry.specs.Geometry.{aidAt, tokAt, entryAt}
+use Rattle.geometry.specs.Geometry.{aidAt, tokAt, entryAt, listAt, numberIn, tokensIn}
 use Rattle.geometry.specs.declared.Table.the-variants.{Calls, Grants, Needs}
-use Rattle.soundness.specs.declared.Kept.{Kept}
-use Rattle.soundness.specs.declared.Kept.the-variants.{Unmet as Unmets, Waiting as Waitings}
+use Rattle.geometry.specs.declared.Kept.{Kept}
+use Rattle.geometry.specs.declared.Kept.the-variants.{UnmetCalls, WaitingGrants}
 use Rattle.soundness.specs.Check.{byteAt, partAt, zerosAt, sameAt, aidOk, within, rowAt, usedRow, provRow, numberAt, isTok, newTok, tokOk, toksOk, methodOk, methodsOk, newAid, blankOk, packageOk, packagesOk}
-use Rattle.soundness.specs.Check.{grantOk, pairOk, lineOk, linesOk, isUsed, unserved, unmetOk, isProvided, waitingOk, listAt, rowSize, placeAt, countOf, rowOk, newRow, placeOk, listOk}
+use Rattle.soundness.specs.Check.{grantOk, pairOk, lineOk, linesOk, isUsed, isAid, server, unserved, tokenRowOk, isProvided, numberRowOk, rowSize, placeAt, countOf, rowOk, newRow, placeOk, listOk}
 use Rattle.soundness.proofs.Parts.{same-part, byte-zeros, part-zeros, Filled, filled-ok, blank-zeros}
 use Rattle.soundness.proofs.Decoded.{used-read, aid-read, tok-read, list-read}
-use Rattle.soundness.proofs.Encoded.{Bytes, list-parts, length-rows}
+use Rattle.soundness.proofs.Encoded.{Bytes, writeGrant, list-parts, length-rows}
 use Rattle.soundness.proofs.Whole.{Full, list-end, Parts}
-use Rattle.soundness.proofs.Lookup.{cond-by, tok-bytes, method-is, unmet-at, waiting-at, number-is, NumberIs, used-is, prov-is, calls-is, grants-is, needs-is, row-small, prov-small}
+use Rattle.soundness.proofs.Lookup.{cond-by, tok-bytes, method-is, past, unmet-at, grant-at, number-is, NumberIs, used-is, prov-is, calls-is, grants-is, needs-is, row-small, prov-small}
 use Rattle.soundness.proofs.Tests.{row-low}
-use Rattle.soundness.proofs.Lookup.{aid-same, same-used, found-used}
+use Rattle.soundness.proofs.Lookup.{aid-same, same-used, found-used, number-with}
 
 three-i : (a b c : Bool) → T a → T b → T c → T (a && b && c)
 three-i a b c x y z = and-i (a && b) c (and-i a b x y) z
@@ -198,15 +198,18 @@ module _ (L : Layout) (lf : Full L) (l : List ℕ) (bytes : Bytes l) (len : leng
   -- ---- lists
   -- a list's rows are read by f, and each is written as its AID and the rest
   module _ (k : Kept) {A : Type 0} (f : List ℕ → A) (name : A → Aid) (rest : A → List ℕ) (named : (p : List ℕ) → name (f p) ≡ readAid (take 17 p))
-      (long : (r : A) → length (name r) ≤ 16 → length (writeAid (name r) ++ rest r) ≡ rowSize k) where
+      (long : (r : A) → length (name r) ≤ 16 → length (writeAid (name r) ++ rest r) ≡ rowSize (L .early) k) where
     abbrev w : ℕ
-    w = rowSize k
+    w = rowSize (L .early) k
+
+    abbrev spot : ℕ → ℕ
+    spot q = placeAt L (L .early) k q
 
     abbrev count : ℕ
     count = countOf L l k
 
     abbrev row : ℕ → A
-    row q = f (partAt l (placeAt L k q) w)
+    row q = f (partAt l (spot q) w)
 
     abbrev listed : List A
     listed = readList f w (drop (listAt L k) l)
@@ -228,16 +231,16 @@ module _ (L : Layout) (lf : Full L) (l : List ℕ) (bytes : Bytes l) (len : leng
       row-valid : (q : ℕ) → q < count → T (validAid (name (row q)))
       row-valid q p = valid (row q) (in-list q p)
 
-      rows-back : ((q : ℕ) → q < count → write (row q) ≡ partAt l (placeAt L k q) w) × (partAt l (placeAt L k count) ((L .capacity - count) * w) ≡ replicate ((L .capacity - count) * w) 0)
+      rows-back : ((q : ℕ) → q < count → write (row q) ≡ partAt l (spot q) w) × (partAt l (spot count) ((L .capacity - count) * w) ≡ replicate ((L .capacity - count) * w) 0)
       rows-back = list-parts L l f write w (listAt L k) (list-end L l len k) count-fits (λ q p. long (row q) (valid-short (name (row q)) (row-valid q p))) back
 
       -- the AID's place of a row
       module _ (q : ℕ) (p : q < count) where
         abbrev at : ℕ
-        at = placeAt L k q
+        at = spot q
 
         front : take 17 (partAt l at w) ≡ partAt l at 17
-        front = take-take 17 w (drop at l) (let h = row-low k in omega arith)
+        front = take-take 17 w (drop at l) (let h = row-low (L .early) k in omega arith)
 
         name-back : writeAid (name (row q)) ≡ partAt l at 17
         name-back = sym (take-at (writeAid (name (row q))) (rest (row q)) 17 (length-aid (name (row q)) (valid-short (name (row q)) (row-valid q p)))) ∙ ap (take 17) (rows-back .0 q p) ∙ front
@@ -248,91 +251,136 @@ module _ (L : Layout) (lf : Full L) (l : List ℕ) (bytes : Bytes l) (len : leng
         row-aid : T (aidOk l at)
         row-aid =
             let a = list-end L l len k in
-            let b = row-low k in
+            let b = row-low (L .early) k in
             let c = count-fits in
             let d = row-ends q (L .capacity) w (omega arith) in
             filled-ok l at (omega arith) (name (row q)) (row-valid q p) (sym name-back)
 
-      new-row : (q : ℕ) → q < count → T (newRow L l k q)
+      new-row : (q : ℕ) → q < count → T (newRow l (listAt L k) w q)
       unfolding newRow
-      new-row q h = in-below (λ p. not (sameAt l (placeAt L k q) (placeAt L k p) w)) q (λ p c. not-i (sameAt l (placeAt L k q) (placeAt L k p) w) (λ s.
-          let e : q ≡ p = map-inj row (upto count) (subst NoRepeat rows-are once) (in-upto count q h) (in-upto count p (omega arith)) (ap f (same-part l (placeAt L k q) (placeAt L k p) w s)) in
+      new-row q h = in-below (λ p. not (sameAt l (spot q) (spot p) w)) q (λ p c. not-i (sameAt l (spot q) (spot p) w) (λ s.
+          let e : q ≡ p = map-inj row (upto count) (subst NoRepeat rows-are once) (in-upto count q h) (in-upto count p (omega arith)) (ap f (same-part l (spot q) (spot p) w s)) in
           absurd (omega arith)))
 
-      list-ok : ((at : ℕ) → In (f (partAt l at w)) listed → Filled (partAt l at 17) → T (aidOk l at) → T (rowOk L l k at)) → T (listOk L l k)
+      list-ok : ((at : ℕ) → In (f (partAt l at w)) listed → write (f (partAt l at w)) ≡ partAt l at w → Filled (partAt l at 17) → T (aidOk l at) → T (rowOk L l (L .early) k at)) → T (listOk L l (L .early) k)
       unfolding listOk
       list-ok ok =
-          three-i (leb count (L .capacity)) (every (placeOk L l k) (upto count)) (zerosAt l (placeAt L k count) ((L .capacity - count) * w))
+          three-i (leb count (L .capacity)) (every (placeOk L l (L .early) k) (upto count)) (zerosAt l (spot count) ((L .capacity - count) * w))
           (le→leb count (L .capacity) count-fits)
-          (in-below (placeOk L l k) count (λ q p. and-i (rowOk L l k (placeAt L k q)) (newRow L l k q) (ok (placeAt L k q) (in-list q p) (row-filled q p) (row-aid q p)) (new-row q p)))
-          (part-zeros l (placeAt L k count) ((L .capacity - count) * w) (rows-back .1))
+          (in-below (placeOk L l (L .early) k) count (λ q p. and-i (rowOk L l (L .early) k (spot q)) (newRow l (listAt L k) w q) (ok (spot q) (in-list q p) (rows-back .0 q p) (row-filled q p) (row-aid q p)) (new-row q p)))
+          (part-zeros l (spot count) ((L .capacity - count) * w) (rows-back .1))
+
+  -- ---- a row with tokens
+  module _ (k : Kept) (at : ℕ) (fill : Filled (partAt l at 17)) (ok : T (aidOk l at)) where
+    abbrev own : ℕ
+    own = byteAt l (at + numberIn k)
+
+    abbrev toks : ℕ
+    toks = at + tokensIn k
+
+    -- its package is used, its AID another's, its method token in range, and it has no service
+    module _ (used : T (t .used own)) (other : readAid (partAt l at 17) ≡ t .aid own → ⊥) (method : ValidTok L (readTok (partAt l toks 2)))
+        (off : (c q : ℕ) → c < n → T (isAid L l at c) → T (t .provides (server k c own) q) → t .tok (server k c own) q ≡ readTok (partAt l toks 2) → ⊥) where
+      row-unserved : T (unserved L l k toks own (numberAt L l at))
+      unfolding newTok
+      row-unserved = go (numberAt L l at) (number-is L l at)
+        where
+          served-in : (k : Kept) (c own : ℕ) → c < n → own < n → server k c own < n
+          served-in UnmetCalls c own h i = h
+          served-in WaitingGrants c own h i = i
+
+          go : (c : ℕ) → NumberIs L l at c → T (unserved L l k toks own c)
+          go c (inl b) = or-l (eqb c n) (not (eqb c own) && newTok L l m toks (server k c own)) (eqb-of (b .0))
+          go c (inr b) =
+              let j = server k c own in
+              or-r (eqb c n) (not (eqb c own) && newTok L l m toks j) (and-i (not (eqb c own)) (newTok L l m toks j)
+              (not-i (eqb c own) (λ s. other (sym (aid-same L lf l bytes len (fo .names) filled at fill c (b .0) (b .1)) ∙ ap (t .aid) (eqb→eq c own s))))
+              (in-below (λ q. not (isTok L l toks j q)) m (λ q d. not-i (isTok L l toks j q) (λ s.
+              let o = tok-same toks j q (served-in k c own (b .0) (fo .names .used-lt own used)) d s in off c q (b .0) (b .1) (o .0) (o .1)))))
+
+      token-row : T (tokenRowOk L l k at)
+      unfolding tokenRowOk
+      token-row = four-i (isUsed L l own) (aidOk l at) (methodOk L l toks) (unserved L l k toks own (numberAt L l at))
+          (subst T (used-read L l own) used) ok (subst T (sym (method-is l toks L)) method) row-unserved
 
   -- ---- unmet calls
-  module _ (at : ℕ) (has : In (readUnmet (partAt l at unmetSize)) (t .unmet)) (fill : Filled (partAt l at 17)) (ok : T (aidOk l at)) where
-    abbrev u : Unmet
-    u = record { callee = readAid (partAt l at 17); tok = readTok (partAt l (at + 17) 2); caller = byteAt l (at + 19) }
+  unmet-ok : (at : ℕ) → In (readUnmet (partAt l at unmetSize)) (t .unmet) → Filled (partAt l at 17) → T (aidOk l at) → T (tokenRowOk L l UnmetCalls at)
+  unmet-ok at has fill ok =
+      let u : Unmet = record { callee = readAid (partAt l at 17); tok = readTok (partAt l (at + 17) 2); caller = byteAt l (at + 19) } in
+      let i : In u (t .unmet) = subst (λ (z : Unmet). In z (t .unmet)) (unmet-at l at) has in
+      token-row UnmetCalls at fill ok (fo .unmet .off .off-used u i) (fo .unmet .unmet-other u i) (ru .unmet u i)
+      (λ c q h e s f. fo .unmet .off .off-card u i c q s (aid-same L lf l bytes len (fo .names) filled at fill c h e) f)
 
-    in-u : In u (t .unmet)
-    in-u = subst (λ (z : Unmet). In z (t .unmet)) (unmet-at l at) has
-
-    u-served : T (unserved L l (at + 17) (u .caller) (numberAt L l at))
-    unfolding newTok
-    u-served = go (numberAt L l at) (number-is L l at)
-      where
-        go : (c : ℕ) → NumberIs L l at c → T (unserved L l (at + 17) (u .caller) c)
-        go c (inl b) = or-l (eqb c n) (not (eqb c (u .caller)) && newTok L l m (at + 17) c) (eqb-of (b .0))
-        go c (inr b) =
-            let e : t .aid c ≡ u .callee = aid-same L lf l bytes len (fo .names) filled at fill c (b .0) (b .1) in
-            or-r (eqb c n) (not (eqb c (u .caller)) && newTok L l m (at + 17) c) (and-i (not (eqb c (u .caller))) (newTok L l m (at + 17) c)
-            (not-i (eqb c (u .caller)) (λ s. fo .unmet .unmet-other u in-u (sym e ∙ ap (t .aid) (eqb→eq c (u .caller) s))))
-            (in-below (λ k. not (isTok L l (at + 17) c k)) m (λ k d. not-i (isTok L l (at + 17) c k) (λ s.
-            let o = tok-same (at + 17) c k (b .0) d s in fo .unmet .off .off-card u in-u c k (o .0) e (o .1)))))
-
-    unmet-ok : T (unmetOk L l at)
-    unfolding unmetOk
-    unmet-ok = four-i (isUsed L l (u .caller)) (aidOk l at) (methodOk L l (at + 17)) (unserved L l (at + 17) (u .caller) (numberAt L l at))
-        (subst T (used-read L l (u .caller)) (fo .unmet .off .off-used u in-u)) ok
-        (subst T (sym (method-is l (at + 17) L)) (ru .unmet u in-u)) u-served
-
-  unmets-ok : T (listOk L l Unmets)
+  unmets-ok : T (listOk L l (L .early) UnmetCalls)
   unfolding decode rowOk
-  unmets-ok = list-ok Unmets readUnmet (λ u. u .callee) (λ u. writeTok (u .tok) ++ (u .caller ∷ [])) (λ p. refl) length-unmet
-      (fi .unmet-fits) (fo .unmet .unmet-valid) (fo .unmet .unmet-once) (parts .1) unmet-ok
+  unmets-ok = list-ok UnmetCalls readUnmet (λ u. u .callee) (λ u. writeTok (u .tok) ++ (u .caller ∷ [])) (λ p. refl) length-unmet
+      (fi .unmet-fits) (fo .unmet .unmet-valid) (fo .unmet .unmet-once) (parts .1) (λ at has back. unmet-ok at has)
 
-  -- ---- waiting grants
-  module _ (at : ℕ) (has : In (readWaiting (partAt l at waitingSize)) (t .waiting)) (fill : Filled (partAt l at 17)) (ok : T (aidOk l at)) where
-    abbrev v : Waiting
-    v = record { caller = readAid (partAt l at 17); callee = byteAt l (at + 17); service = byteAt l (at + 18) }
+  -- ---- waiting grants, by the rules of their version
+  module _ (at : ℕ) (fill : Filled (partAt l at 17)) (ok : T (aidOk l at)) where
+    abbrev callee : ℕ
+    callee = byteAt l (at + 17)
 
-    in-v : In v (t .waiting)
-    in-v = subst (λ (z : Waiting). In z (t .waiting)) (waiting-at l at) has
+    abbrev service : ℕ
+    service = byteAt l (at + 18)
 
-    v-provided : T (isProvided L l (v .callee) (v .service))
-    v-provided =
-        let s = fo .waiting .wait-prov v in-v in
-        let h = fo .names .used-lt (v .callee) (fo .names .prov-used (v .callee) (v .service) s) in
-        let c = fo .names .prov-lt (v .callee) (v .service) s in
-        three-i (ltb (v .callee) n) (ltb (v .service) m) (bit (provRow L l (v .callee)) (v .service))
-        (lt→ltb (v .callee) n h) (lt→ltb (v .service) m c) (subst T (prov-is L lf l bytes len (v .callee) (v .service) h c) s)
+    abbrev grant-row : Bool → Waiting
+    grant-row early = record { caller = readAid (partAt l at 17); callee = callee; tok = cond early (readTok (partAt l (at + 18) 2)) (t .tok callee service) }
 
-    v-absent : T (eqb (numberAt L l at) n)
-    v-absent = go (numberAt L l at) (number-is L l at)
-      where
-        go : (c : ℕ) → NumberIs L l at c → T (eqb c n)
-        go c (inl b) = eqb-of (b .0)
-        go c (inr b) = absurd (fo .waiting .wait-off v in-v c (same-used L lf l bytes len (fo .names) filled at fill (fo .waiting .wait-valid v in-v) c (b .0) (b .1))
-            (aid-same L lf l bytes len (fo .names) filled at fill c (b .0) (b .1)))
+    -- a row with a service number, which is the number of a service with the grant's tokens
+    module _ (has : In (grant-row false) (t .waiting)) (back : writeGrant L (t .provides) (t .tok) false (grant-row false) ≡ partAt l at 19) (k : ℕ) (s : T (t .provides callee k))
+        (e : t .tok callee k ≡ t .tok callee service) where
+      abbrev caller : Aid
+      caller = readAid (partAt l at 17)
 
-    waiting-ok : T (waitingOk L l at)
-    unfolding waitingOk
-    waiting-ok = three-i (isProvided L l (v .callee) (v .service)) (aidOk l at) (eqb (numberAt L l at) n) v-provided ok v-absent
+      valid : T (validAid caller)
+      valid = fo .waiting .wait-valid (grant-row false) has
 
-  waitings-ok : T (listOk L l Waitings)
-  unfolding decode rowOk
-  waitings-ok = list-ok Waitings readWaiting (λ v. v .caller) (λ v. v .callee ∷ v .service ∷ []) (λ p. refl) length-waiting
-      (fi .waiting-fits) (fo .waiting .wait-valid) (fo .waiting .wait-once) (parts .2) waiting-ok
+      provided : T (t .provides callee service)
+      provided = subst (λ (q : ℕ). T (t .provides callee q)) (sym (number-with L t (fo .names) callee k (t .tok callee service) s e) ∙ written) s
+        where
+          written : numberWith L (t .provides callee) (t .tok callee) (t .tok callee service) ≡ service
+          written =
+              sym (ap (λ (z : List ℕ). getD z 1 0) (drop-at (writeAid caller) _ 17 (length-aid caller (valid-short caller valid))))
+              ∙ ap (λ (z : List ℕ). getD (drop 17 z) 1 0) back ∙ past l at 19 1 (omega arith)
 
-  pub passes : T (packagesOk L l) × T (linesOk L l) × T (listOk L l Unmets) × T (listOk L l Waitings)
+      absent : T (eqb (numberAt L l at) n)
+      absent = go (numberAt L l at) (number-is L l at)
+        where
+          go : (c : ℕ) → NumberIs L l at c → T (eqb c n)
+          go c (inl b) = eqb-of (b .0)
+          go c (inr b) = absurd (fo .waiting .wait-off (grant-row false) has c k (same-used L lf l bytes len (fo .names) filled at fill valid c (b .0) (b .1))
+              (aid-same L lf l bytes len (fo .names) filled at fill c (b .0) (b .1)) s e)
+
+      number-row : T (numberRowOk L l at)
+      unfolding numberRowOk
+      number-row =
+          let h = fo .names .used-lt callee (fo .names .prov-used callee service provided) in
+          let c = fo .names .prov-lt callee service provided in
+          three-i (isProvided L l callee service) (aidOk l at) (eqb (numberAt L l at) n)
+          (three-i (ltb callee n) (ltb service m) (bit (provRow L l callee) service)
+          (lt→ltb callee n h) (lt→ltb service m c) (subst T (prov-is L lf l bytes len callee service h c) provided)) ok absent
+
+    waiting-ok : (early : Bool) → In (grant-row early) (t .waiting) → writeGrant L (t .provides) (t .tok) early (grant-row early) ≡ partAt l at (rowSize early WaitingGrants)
+        → ((T early → ⊥) → (k : ℕ) × T (t .provides callee k) × (t .tok callee k ≡ grant-row early .tok)) → T (rowOk L l early WaitingGrants at)
+    unfolding rowOk
+    waiting-ok true has back own =
+        let v = grant-row true in
+        let f = fo .waiting in
+        token-row WaitingGrants at fill ok (f .wait-used v has) (f .wait-other v has) (ru .waiting v has)
+        (λ c q h e. f .wait-off v has c q (same-used L lf l bytes len (fo .names) filled at fill (f .wait-valid v has) c h e) (aid-same L lf l bytes len (fo .names) filled at fill c h e))
+    waiting-ok false has back own = let o = own (λ x. x) in number-row has back (o .0) (o .1) (o .2)
+
+  waitings-ok : T (listOk L l (L .early) WaitingGrants)
+  unfolding decode
+  waitings-ok = list-ok WaitingGrants (readWaiting L (t .tok)) (λ v. v .caller) (λ v. v .callee ∷ cond (L .early) (writeTok (v .tok)) (numberWith L (t .provides (v .callee)) (t .tok (v .callee)) (v .tok) ∷ []))
+      (λ p. refl) (length-waiting L (t .provides) (t .tok)) (fi .waiting-fits) (fo .waiting .wait-valid) (fo .waiting .wait-once) (parts .2)
+      (λ at has back fill ok.
+      let e = grant-at l at (t .tok) (L .early) in
+      let i = subst (λ (z : Waiting). In z (t .waiting)) e has in
+      waiting-ok at fill ok (L .early) i (ap (writeGrant L (t .provides) (t .tok) (L .early)) (sym e) ∙ back) (λ late. ru .own late (grant-row at fill ok (L .early)) i))
+
+  pub passes : T (packagesOk L l) × T (linesOk L l) × T (listOk L l (L .early) UnmetCalls) × T (listOk L l (L .early) WaitingGrants)
   unfolding packagesOk linesOk lineOk
   passes = (
     in-below (packageOk L l) n package-ok,

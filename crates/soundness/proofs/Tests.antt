@@ -1,27 +1,29 @@
 -- What the code's loops and branches have shown, as tests: `search tests` at each need.
 use Prim.Native.Nat.{ℕ, _+_, _*_, _-_, _^_, _≤_, _<_}
 use native.Mathlib.Omega.{arith}
-use native.Mathlib.Nat.{add-sub-cancel-left, add-sub-of-le, add-mul, mul-le-mul-left}
+use native.Mathlib.Nat.{add-sub-cancel-left, add-sub-of-le, add-mul}
 use native.Mathlib.Numerals.{add-one}
-use mathlib.Core.Path.{_≡_, refl, sym, ap, ap₂, _∙_}
+use mathlib.Core.Path.{_≡_, refl, sym, ap, ap₂, _∙_, subst}
 use mathlib.Core.Logic.{inl, inr}
 use mathlib.Core.Bool.{Bool, true, false, not, _&&_, _||_, cond, and-true}
 use mathlib.Core.List.{List, [], _∷_, _++_}
-use lib.Dec.{eqb, leb, ltb}
+use lib.Dec.{T, eqb, leb, ltb, ltb→lt}
 use lib.ListN.{length, getD, take, drop}
 use lib.Seq.{take-suc, take-all}
 use borrow.Author.Tests.{not-true, not-false, lt-ltb, le-ltb, le-leb, lt-leb, eq-eqb, ne-eqb}
 use Rattle.policy.specs.Lists.{every, upto, eqBytes}
-use Rattle.policy.specs.Layout.{size}
+use Rattle.policy.specs.Layout.{Layout, narrow, waitingAt, size}
+use Rattle.policy.specs.Tables.{bit}
+use Rattle.policy.proofs.Sets.{false-T, and-l}
 use Rattle.policy.proofs.Pieces.{row-ends}
 use Rattle.bits.proofs.Loops.{every-append, early}
 use Rattle.geometry.specs.declared.Card.{Card}
 use Rattle.geometry.specs.declared.Card.the-variants.{Small}
-use Rattle.geometry.specs.Geometry.{layoutOf, tokAt}
-use Rattle.geometry.proofs.Bounds.{geo, layout-ok, limits, head-len, unmet-in, waiting-in}
-use Rattle.soundness.specs.declared.Kept.{Kept}
-use Rattle.soundness.specs.declared.Kept.the-variants.{Unmet, Waiting}
-use Rattle.soundness.specs.Check.{isZero, zerosAt, listAt, rowSize, placeAt, numberAt}
+use Rattle.geometry.specs.Geometry.{layoutOf, tokAt, listAt, rowSize as rowSizeOf, numberIn, tokensIn}
+use Rattle.geometry.proofs.Bounds.{row-wide, front}
+use Rattle.geometry.specs.declared.Kept.{Kept}
+use Rattle.geometry.specs.declared.Kept.the-variants.{UnmetCalls, WaitingGrants}
+use Rattle.soundness.specs.Check.{isZero, zerosAt, rowSize, listEnd, numbered, usedRow, numberAt, isUsed}
 use Rattle.soundness.proofs.Lookup.{number-is, NumberIs}
 
 -- ---- what a branch tells of r, which a call ensures to be b
@@ -115,57 +117,79 @@ one-service Small = omega arith
 pub methods-top : (c : Card) → 256 * layoutOf c .methods ≡ 2 ^ 15
 methods-top Small = refl
 
-pub tokens-len : (c : Card) (j n a s : ℕ) → n ≡ size (layoutOf c) → a ≡ tokAt (layoutOf c) j 0 → s ≡ layoutOf c .services → j < layoutOf c .packages → a + s * 2 ≤ n
-tokens-len c j n a s e p q h = rw (q) (let i = row-ends j (layoutOf c .packages) (layoutOf c .services * 2) h in omega arith)
+pub toks-len : (c : Card) (j n a s : ℕ) → waitingAt (layoutOf c) ≤ n → a ≡ tokAt (layoutOf c) j 0 → s ≡ layoutOf c .services → j < layoutOf c .packages → a + s * 2 ≤ n
+toks-len c j n a s e p q h = rw (q) (let i = row-ends j (layoutOf c .packages) (layoutOf c .services * 2) h in omega arith)
 
 -- ---- rows of the lists
-pub list-low : (c : Card) (k : Kept) → listAt (layoutOf c) k < 4096
-list-low c Unmet = let e = limits c in omega arith
-list-low c Waiting = let e = limits c in omega arith
+pub row-low : (early : Bool) (k : Kept) → (19 ≤ rowSize early k) × (rowSize early k ≤ 20)
+row-low early UnmetCalls = omega arith
+row-low true WaitingGrants = omega arith
+row-low false WaitingGrants = omega arith
 
-pub row-low : (k : Kept) → (19 ≤ rowSize k) × (rowSize k ≤ 20)
-row-low Unmet = omega arith
-row-low Waiting = omega arith
+pub row-least : (early : Bool) (k : Kept) (w : ℕ) → w ≡ rowSize early k → 16 ≤ w
+row-least early k w e = let h = row-low early k in omega arith
 
-pub list-in : (c : Card) (k : Kept) → listAt (layoutOf c) k + (1 + layoutOf c .capacity * rowSize k) ≤ size (layoutOf c)
-list-in c Unmet = omega arith
-list-in c Waiting = omega arith
+pub row-most : (early : Bool) (k : Kept) (w : ℕ) → w ≡ rowSize early k → w ≤ 20
+row-most early k w e = let h = row-low early k in omega arith
 
-pub row-in : (c : Card) (k : Kept) (r : ℕ) → r < layoutOf c .capacity → placeAt (layoutOf c) k r + rowSize k ≤ size (layoutOf c)
-row-in c Unmet r h = unmet-in c r h
-row-in c Waiting r h = waiting-in c r h
+-- the code's sizes, of a card in force and of version 01
+module _ (c : Card) {r : Bool} {w : ℕ} where
+  pub size-tokens : (early : Bool) (k : Kept) → r ≡ numbered early k → r ≡ false → w ≡ rowSizeOf (layoutOf c) k → w ≡ rowSize early k
+  size-tokens early UnmetCalls e f h = h
+  size-tokens true WaitingGrants e f h = h ∙ row-wide c WaitingGrants
+  size-tokens false WaitingGrants e f h = absurd (false-T (sym e ∙ f) tt)
 
-pub row-least : (k : Kept) (w : ℕ) → w ≡ rowSize k → 16 ≤ w
-row-least k w e = let h = row-low k in omega arith
+  pub size-number : (early : Bool) (k : Kept) → r ≡ numbered early k → r ≡ true → w ≡ rowSizeOf narrow k → w ≡ rowSize early k
+  size-number early UnmetCalls e f h = h
+  size-number true WaitingGrants e f h = absurd (false-T (sym f ∙ e) tt)
+  size-number false WaitingGrants e f h = h
 
-pub row-most : (k : Kept) (w : ℕ) → w ≡ rowSize k → w ≤ 24
-row-most k w e = let h = row-low k in omega arith
+-- what stands in a row at at, in an image of n bytes
+pub aid-len : (early : Bool) (k : Kept) (at n : ℕ) → at + rowSize early k ≤ n → at + 17 ≤ n
+aid-len early k at n h = omega (arith, row-low early k)
 
-pub list-len : (c : Card) (k : Kept) (n a : ℕ) → n ≡ size (layoutOf c) → a ≡ listAt (layoutOf c) k → a < n
-list-len c k n a e p = let h = list-in c k in omega arith
+pub number-len : (early : Bool) (k : Kept) (at n a : ℕ) → at + rowSize early k ≤ n → a ≡ numberIn k → at + a < n
+number-len early UnmetCalls at n a h e = omega arith
+number-len early WaitingGrants at n a h e = omega (arith, row-low early WaitingGrants)
 
-pub row-len : (c : Card) (k : Kept) (r n a w : ℕ) → n ≡ size (layoutOf c) → a ≡ placeAt (layoutOf c) k r → w ≡ rowSize k → r < layoutOf c .capacity → a + w ≤ n
-row-len c k r n a w e p q h = let i = row-in c k r h in omega arith
+pub tokens-len : (k : Kept) (at n a : ℕ) → at + rowSize true k ≤ n → a ≡ tokensIn k → at + a + 2 ≤ n
+tokens-len UnmetCalls at n a h e = omega arith
+tokens-len WaitingGrants at n a h e = omega arith
 
-pub unmet-row : (c : Card) (r n a : ℕ) → n ≡ size (layoutOf c) → a ≡ placeAt (layoutOf c) Unmet r → r < layoutOf c .capacity → a + 20 ≤ n
-unmet-row c r n a e p h = let i = row-in c Unmet r h in omega arith
+-- a row that has tokens has room for them
+pub token-row : (early : Bool) (k : Kept) (at n : ℕ) {r : Bool} → r ≡ numbered early k → r ≡ false → at + rowSize early k ≤ n → at + rowSize true k ≤ n
+token-row early UnmetCalls at n e f h = h
+token-row true WaitingGrants at n e f h = h
+token-row false WaitingGrants at n e f h = absurd (false-T (sym e ∙ f) tt)
 
-pub waiting-row : (c : Card) (r n a : ℕ) → n ≡ size (layoutOf c) → a ≡ placeAt (layoutOf c) Waiting r → r < layoutOf c .capacity → a + 19 ≤ n
-waiting-row c r n a e p h = let i = row-in c Waiting r h in omega arith
+-- an image that has a list has all that stands before the waiting grants
+pub front-len : (c : Card) (early : Bool) (k : Kept) (n : ℕ) → listEnd (layoutOf c) early k ≤ n → waitingAt (layoutOf c) ≤ n
+front-len c early UnmetCalls n h = h
+front-len c early WaitingGrants n h = omega arith
 
--- a place of a list is no large number
-pub place-low : (c : Card) (k : Kept) (r s : ℕ) → s ≡ rowSize k → r ≤ layoutOf c .capacity → r * s ≤ 640
-place-low c k r s e h = let i : r * s ≤ r * 20 = mul-le-mul-left r (let w = row-low k in omega arith) in let m = limits c in omega arith
+pub count-len : (c : Card) (early : Bool) (k : Kept) (n a : ℕ) → listEnd (layoutOf c) early k ≤ n → a ≡ listAt (layoutOf c) k → a < n
+count-len c early k n a e p = omega arith
+
+pub row-len : (c : Card) (early : Bool) (k : Kept) (r n a w : ℕ) → listEnd (layoutOf c) early k ≤ n → a ≡ listAt (layoutOf c) k → w ≡ rowSize early k → r < layoutOf c .capacity
+    → a + (1 + r * w) + w ≤ n
+row-len c early k r n a w e p q h = rw (q) (let i = row-ends r (layoutOf c .capacity) (rowSize early k) h in omega arith)
 
 -- what is left of a list past row r
-pub rest-len : (c : Card) (k : Kept) (r n a p s : ℕ) → n ≡ size (layoutOf c) → a ≡ placeAt (layoutOf c) k r → p ≡ layoutOf c .capacity → s ≡ rowSize k → r ≤ layoutOf c .capacity → a + (p - r) * s ≤ n
-rest-len c k r n a p s e b q w h =
-    let i = list-in c k in
-    let j : layoutOf c .capacity * rowSize k ≡ r * rowSize k + (layoutOf c .capacity - r) * rowSize k =
-    ap (λ (x : ℕ). x * rowSize k) (sym (add-sub-of-le h)) ∙ add-mul r (layoutOf c .capacity - r) (rowSize k) in
-    rw (q, w) (omega arith)
+pub rest-len : (c : Card) (early : Bool) (k : Kept) (r n a m w : ℕ) → listEnd (layoutOf c) early k ≤ n → a ≡ listAt (layoutOf c) k → m ≡ layoutOf c .capacity → w ≡ rowSize early k
+    → r ≤ layoutOf c .capacity → a + (1 + r * w) + (m - r) * w ≤ n
+rest-len c early k r n a m w e p q s h =
+    let j : layoutOf c .capacity * rowSize early k ≡ r * rowSize early k + (layoutOf c .capacity - r) * rowSize early k =
+    ap (λ (x : ℕ). x * rowSize early k) (sym (add-sub-of-le h)) ∙ add-mul r (layoutOf c .capacity - r) (rowSize early k) in
+    rw (q, s) (omega arith)
 
--- ---- what was found is a package, or the number of packages
+-- an image ends with its waiting grants
+pub end-is : (c : Card) {n : ℕ} → n ≡ size (layoutOf c) → n ≡ listEnd (layoutOf c) true WaitingGrants
+end-is Small e = e
+
+-- ---- what is used is a package; what was found is one, or the number of packages
+pub used-in : (L : Layout) (l : List ℕ) (n : ℕ) {r : Bool} → r ≡ isUsed L l n → not r ≡ false → n < L .packages
+used-in L l n e h = ltb→lt n (L .packages) (and-l (ltb n (L .packages)) (bit (usedRow L l) n) (subst T (held e h) tt))
+
 pub number-in : (c : Card) (l : List ℕ) (at : ℕ) {m : ℕ} → m ≡ numberAt (layoutOf c) l at → m ≤ layoutOf c .packages
 number-in c l at {m} e = go (number-is (layoutOf c) l at)
   where
@@ -174,7 +198,7 @@ number-in c l at {m} e = go (number-is (layoutOf c) l at)
     go (inr b) = let h = b .0 in omega arith
 
 -- ---- the header, byte by byte
-head-is : (l h : List ℕ) → 3 ≤ length l → length h ≡ 3 → eqb (getD l 0 0) (getD h 0 0) && eqb (getD l 1 0) (getD h 1 0) && eqb (getD l 2 0) (getD h 2 0) ≡ eqBytes (take 3 l) h
+pub head-is : (l h : List ℕ) → 3 ≤ length l → length h ≡ 3 → eqb (getD l 0 0) (getD h 0 0) && eqb (getD l 1 0) (getD h 1 0) && eqb (getD l 2 0) (getD h 2 0) ≡ eqBytes (take 3 l) h
 head-is (a ∷ b ∷ c ∷ l) (x ∷ y ∷ z ∷ []) i e = three (eqb a x) (eqb b y) (eqb c z)
   where
     three : (p q r : Bool) → p && q && r ≡ p && (q && (r && true))
@@ -190,11 +214,7 @@ head-is (a ∷ b ∷ c ∷ l) (x ∷ []) i e = absurd (omega arith)
 head-is (a ∷ b ∷ c ∷ l) (x ∷ y ∷ []) i e = absurd (omega arith)
 head-is (a ∷ b ∷ c ∷ l) (x ∷ y ∷ z ∷ w ∷ h) i e = absurd (omega arith)
 
-pub head-of : (c : Card) (l h : List ℕ) → length l ≡ size (layoutOf c) → h ≡ layoutOf c .header
-    → eqb (getD l 0 0) (getD h 0 0) && eqb (getD l 1 0) (getD h 1 0) && eqb (getD l 2 0) (getD h 2 0) ≡ eqBytes (take 3 l) (layoutOf c .header)
-head-of c l h e p = head-is l h (head-len c 2 (length l) e (omega arith)) (ap length p ∙ layout-ok c .header-size) ∙ ap (eqBytes (take 3 l)) p
-
-pub ruleset places = (tokens-len, list-len, row-len, rest-len, row-least, row-most, unmet-row, waiting-row, geo)
+pub ruleset places = (toks-len, row-least, row-most, aid-len, number-len, tokens-len, front-len, count-len, row-len, rest-len, front)
 
 pub ruleset tests = (and-fell, and-rest, and-held, or-held, or-rest, cond-held, cond-fell, not-held, not-fell, not-is, leb-held, leb-fell, ltb-held, ltb-fell, eqb-held, eqb-fell, eqb-is, fell, held, took, left)
 

@@ -11,9 +11,9 @@ use Rattle.policy.specs.Tables.{Tables, writeAid, writeTok, writeUnmet, writeWa
 use Rattle.policy.proofs.Bits.{length-bits, writeLine, length-line, length-lines}
 use Rattle.policy.proofs.Pieces.{length-table, row-ends}
 use Rattle.geometry.specs.Geometry.{aidAt, tokAt, provAt}
-use Rattle.soundness.specs.declared.Kept.{Kept}
-use Rattle.soundness.specs.declared.Kept.the-variants.{Unmet as Unmets, Waiting as Waitings}
-use Rattle.soundness.specs.Check.{partAt, listAt, rowSize}
+use Rattle.geometry.specs.declared.Kept.{Kept}
+use Rattle.geometry.specs.declared.Kept.the-variants.{UnmetCalls, WaitingGrants}
+use Rattle.soundness.specs.Check.{partAt, listEnd}
 use Rattle.soundness.proofs.Parts.{part-length}
 use Rattle.soundness.proofs.Decoded.{used-read, tok-read, prov-read, table-read}
 use Rattle.soundness.proofs.Encoded.{Bytes, part-bytes, bits-back, tok-back, join, split, flat-part, part-flat}
@@ -27,9 +27,9 @@ pub record Full (L : Layout) : Type 0 where
   pub some-methods : 0 < L .methods
 
 -- a list ends in the image
-pub list-end : (L : Layout) (l : List ℕ) → length l ≡ size L → (k : Kept) → listAt L k + (1 + L .capacity * rowSize k) ≤ length l
-list-end L l len Unmets = omega arith
-list-end L l len Waitings = omega arith
+pub list-end : (L : Layout) (l : List ℕ) → length l ≡ size L → (k : Kept) → listEnd L (L .early) k ≤ length l
+list-end L l len UnmetCalls = omega arith
+list-end L l len WaitingGrants = omega arith
 
 module _ (L : Layout) (lf : Full L) (l : List ℕ) (bytes : Bytes l) (len : length l ≡ size L) where
   abbrev n : ℕ
@@ -77,20 +77,20 @@ module _ (L : Layout) (lf : Full L) (l : List ℕ) (bytes : Bytes l) (len : leng
   unmets = writeList L writeUnmet unmetSize (t .unmet)
 
   abbrev pub waitings : List ℕ
-  waitings = writeList L writeWaiting waitingSize (t .waiting)
+  waitings = writeList L (writeWaiting L (t .provides) (t .tok)) (waitingSize L) (t .waiting)
 
   abbrev pub Parts : Type 0
-  Parts = ((i : ℕ) → i < n → writeAid (t .aid i) ≡ partAt l (aidAt L i) aidSize) × (unmets ≡ partAt l (unmetAt L) (1 + L .capacity * unmetSize)) × (waitings ≡ partAt l (waitingAt L) (1 + L .capacity * waitingSize))
+  Parts = ((i : ℕ) → i < n → writeAid (t .aid i) ≡ partAt l (aidAt L i) aidSize) × (unmets ≡ partAt l (unmetAt L) (1 + L .capacity * unmetSize)) × (waitings ≡ partAt l (waitingAt L) (1 + L .capacity * waitingSize L))
 
   pub encode-back : take 3 l ≡ L .header → Parts → encode L t ≡ l
   unfolding encode decode
   encode-back h p =
-      let past : length l ≤ waitingAt L + (1 + L .capacity * waitingSize) = omega arith in
+      let past : length l ≤ waitingAt L + (1 + L .capacity * waitingSize L) = omega arith in
       join l (L .header) _ 0 3 (sym h) (join l _ _ (usedAt L) w used-part (join l _ _ (aidsAt L) (n * aidSize) (flat-part l _ aidSize n (aidsAt L) (p .0))
       (join l _ _ (tokensAt L) (n * (m * 2)) toks-part (join l _ _ (providesAt L) (n * w) provs-part
       (join l _ _ (callsAt L) (n * (n * w)) (table-part (callsAt L) (omega arith)) (join l _ _ (grantsAt L) (n * (n * w)) (table-part (grantsAt L) (omega arith))
       (join l _ _ (needsAt L) (n * (n * w)) (table-part (needsAt L) (omega arith)) (join l _ _ (unmetAt L) (1 + L .capacity * unmetSize) (p .1)
-      (sym (append-nil waitings) ∙ join l waitings [] (waitingAt L) (1 + L .capacity * waitingSize) (p .2) (sym (drop-of-length-le l past)))))))))))
+      (sym (append-nil waitings) ∙ join l waitings [] (waitingAt L) (1 + L .capacity * waitingSize L) (p .2) (sym (drop-of-length-le l past)))))))))))
 
   pub encode-parts : encode L t ≡ l → ((i : ℕ) → i < n → length (writeAid (t .aid i)) ≡ aidSize) → length unmets ≡ 1 + L .capacity * unmetSize → Parts
   unfolding encode decode
@@ -106,5 +106,5 @@ module _ (L : Layout) (lf : Full L) (l : List ℕ) (bytes : Bytes l) (len : leng
       let p7 = split l (writeTable L (t .grants)) _ (grantsAt L) (n * (n * w)) (length-lines L (t .grants)) (p6 .1) in
       let p8 = split l (writeTable L (t .needs)) _ (needsAt L) (n * (n * w)) (length-lines L (t .needs)) (p7 .1) in
       let p9 = split l unmets waitings (unmetAt L) (1 + L .capacity * unmetSize) u (p8 .1) in
-      let past : length (drop (waitingAt L) l) ≤ 1 + L .capacity * waitingSize = rw length-drop (omega arith) in
-      (part-flat l (λ i. writeAid (t .aid i)) aidSize n (aidsAt L) a (p3 .0), p9 .0, p9 .1 ∙ sym (take-all (1 + L .capacity * waitingSize) (drop (waitingAt L) l) past))
+      let past : length (drop (waitingAt L) l) ≤ 1 + L .capacity * waitingSize L = rw length-drop (omega arith) in
+      (part-flat l (λ i. writeAid (t .aid i)) aidSize n (aidsAt L) a (p3 .0), p9 .0, p9 .1 ∙ sym (take-all (1 + L .capacity * waitingSize L) (drop (waitingAt L) l) past))

@@ -46,6 +46,15 @@ module _ (l : List ℕ) where
   pub pair-is : (at : ℕ) → at + 2 ≤ length l → byteAt l at + 256 * byteAt l (at + 1) ≡ little (partAt l at 2)
   pair-is at h = let e = little-cons at 1 h in let p = byte-is (at + 1) (omega arith) in omega arith
 
+  pub quad-is : (at : ℕ) → at + 4 ≤ length l → {p q : ℕ} → p ≡ little (partAt l at 2) → q ≡ little (partAt l (at + 2) 2) → p + 65536 * q ≡ little (partAt l at 4)
+  quad-is at h e f =
+      let a = little-cons at 3 h in
+      let b = little-cons (at + 1) 2 (omega arith) in
+      let c = pair-is at (omega arith) in
+      let s : at + 1 + 1 ≡ at + 2 = omega arith in
+      let d = ap (λ (x : ℕ). little (partAt l x 2)) s in
+      omega arith
+
   -- a word from its back, w of the bytes from the k-th on: one byte more, and all
   module _ (at : ℕ) (h : at + 8 ≤ length l) where
     pub word-turn : (k : ℕ) {w : ℕ} → 0 < k → k ≤ 8 → w ≡ little (partAt l (at + k) (8 - k)) → w * 256 + byteAt l (at + (k - 1)) ≡ little (partAt l (at + (k - 1)) (8 - (k - 1)))
@@ -104,7 +113,7 @@ module _ (l : List ℕ) (bytes : Bytes l) where
   same-number a b n h i e f =
       (λ z. eqb (e z) (f z)) ∙ little-eq (partAt l a n) (partAt l b n) (part-bytes l bytes a n) (part-bytes l bytes b n) (part-length l a n h ∙ sym (part-length l b n i))
 
-  -- two words, two words and a byte, and two words with a last one that may begin in them
+  -- two words, two words and a byte, and two words with a last four bytes that may begin in them
   module _ (a b : ℕ) {p q r s : ℕ} (ep : p ≡ little (partAt l a 8)) (eq : q ≡ little (partAt l b 8)) (er : r ≡ little (partAt l (a + 8) 8)) (es : s ≡ little (partAt l (b + 8) 8)) where
     words-same : a + 16 ≤ length l → b + 16 ≤ length l → eqb p q && eqb r s ≡ sameAt l a b 16
     words-same h i =
@@ -115,13 +124,13 @@ module _ (l : List ℕ) (bytes : Bytes l) where
         ap₂ _&&_ (words-same (omega arith) (omega arith))
         (same-number (a + 16) (b + 16) 1 (omega arith) (omega arith) (byte-is l (a + 16) (omega arith)) (byte-is l (b + 16) (omega arith))) ∙ sym (same-split l a b 17 16 16 (omega arith) (omega arith))
 
-    pub row-same : (n : ℕ) {t u : ℕ} → 16 ≤ n → n ≤ 24 → a + n ≤ length l → b + n ≤ length l → t ≡ little (partAt l (a + (n - 8)) 8) → u ≡ little (partAt l (b + (n - 8)) 8)
+    pub row-same : (n : ℕ) {t u : ℕ} → 16 ≤ n → n ≤ 20 → a + n ≤ length l → b + n ≤ length l → t ≡ little (partAt l (a + (n - 4)) 4) → u ≡ little (partAt l (b + (n - 4)) 4)
         → eqb t u && eqb p q && eqb r s ≡ sameAt l a b n
     row-same n {t} {u} g m h i et eu =
-        let e : 8 ≡ n - (n - 8) = omega arith in
+        let e : 4 ≡ n - (n - 4) = omega arith in
         turn (eqb t u) (eqb p q) (eqb r s)
-        ∙ ap₂ _&&_ (words-same (omega arith) (omega arith)) (same-number (a + (n - 8)) (b + (n - 8)) 8 (omega arith) (omega arith) et eu ∙ ap (sameAt l (a + (n - 8)) (b + (n - 8))) e)
-        ∙ sym (same-split l a b n 16 (n - 8) (omega arith) (omega arith))
+        ∙ ap₂ _&&_ (words-same (omega arith) (omega arith)) (same-number (a + (n - 4)) (b + (n - 4)) 4 (omega arith) (omega arith) et eu ∙ ap (sameAt l (a + (n - 4)) (b + (n - 4))) e)
+        ∙ sym (same-split l a b n 16 (n - 4) (omega arith) (omega arith))
       where
         turn : (x y z : Bool) → x && y && z ≡ y && z && x
         turn true true true = refl

@@ -1,16 +1,16 @@
--- The check of an image of the right length, as code makes it: tests of its bytes, for the items of document 01, 'An image is sound when'.
+-- The check of an image, as code makes it: tests of its bytes, for the items of document 01, 'An image is sound when'.
 use Prim.Native.Nat.{ℕ, _+_, _*_, _-_}
-use mathlib.Core.Bool.{Bool, not, _&&_, _||_, cond}
+use mathlib.Core.Bool.{Bool, false, not, _&&_, _||_, cond}
 use mathlib.Core.List.{List, [], _∷_}
 use lib.Dec.{eqb, leb, ltb}
-use lib.ListN.{getD, take, drop}
+use lib.ListN.{length, getD, take, drop}
 use Rattle.policy.specs.Lists.{implies, every, first, upto, orElse, eqBytes}
-use Rattle.policy.specs.Layout.{Layout, aidSize, unmetSize, waitingSize, usedAt, unmetAt, waitingAt}
+use Rattle.policy.specs.Layout.{Layout, narrow, ahead, aidSize, unmetSize, waitingSize, usedAt, size}
 use Rattle.policy.specs.Tables.{bit, readNumber}
-use Rattle.geometry.specs.Geometry.{aidAt, tokAt, provAt, entryAt}
+use Rattle.geometry.specs.Geometry.{aidAt, tokAt, provAt, entryAt, listAt, numberIn, tokensIn}
 use Rattle.geometry.specs.declared.Table.the-variants.{Calls, Grants, Needs}
-use Rattle.soundness.specs.declared.Kept.{Kept}
-use Rattle.soundness.specs.declared.Kept.the-variants.{Unmet, Waiting}
+use Rattle.geometry.specs.declared.Kept.{Kept}
+use Rattle.geometry.specs.declared.Kept.the-variants.{UnmetCalls, WaitingGrants}
 
 -- ---- bytes
 abbrev pub byteAt : List ℕ → ℕ → ℕ
@@ -38,17 +38,38 @@ little (b ∷ bs) = b + 256 * little bs
 unfoldable pub aidOk : List ℕ → ℕ → Bool
 aidOk l at = leb 5 (byteAt l at) && leb (byteAt l at) 16 && zerosAt l (at + (1 + byteAt l at)) (16 - byteAt l at)
 
--- a list, the bytes of its rows, and row r
-abbrev pub listAt : Layout → Kept → ℕ
-listAt L Unmet = unmetAt L
-listAt L Waiting = waitingAt L
+-- the bytes of a list's rows, by whether R-2's rules are in force
+abbrev pub rowSize : Bool → Kept → ℕ
+rowSize early UnmetCalls = unmetSize
+rowSize early WaitingGrants = cond early (waitingSize ahead) (waitingSize narrow)
 
-abbrev pub rowSize : Kept → ℕ
-rowSize Unmet = unmetSize
-rowSize Waiting = waitingSize
+-- a row has a service number and no tokens
+abbrev pub numbered : Bool → Kept → Bool
+numbered early UnmetCalls = false
+numbered early WaitingGrants = not early
 
-abbrev pub placeAt : Layout → Kept → ℕ → ℕ
-placeAt L k r = listAt L k + (1 + r * rowSize k)
+-- row r of a list at at, of rows of w bytes
+abbrev pub placeOf : ℕ → ℕ → ℕ → ℕ
+placeOf at w r = at + (1 + r * w)
+
+-- no row before row r is the same
+abbrev pub otherRow : List ℕ → ℕ → ℕ → ℕ → ℕ → Bool
+otherRow l at w r q = not (sameAt l (placeOf at w r) (placeOf at w q) w)
+
+unfoldable pub newRow : List ℕ → ℕ → ℕ → ℕ → Bool
+newRow l at w r = every (otherRow l at w r) (upto r)
+
+-- row r of a card's list, and where its last place ends
+abbrev pub placeAt : Layout → Bool → Kept → ℕ → ℕ
+placeAt L early k r = placeOf (listAt L k) (rowSize early k) r
+
+abbrev pub listEnd : Layout → Bool → Kept → ℕ
+listEnd L early k = placeAt L early k (L .capacity)
+
+-- the package that a row's service would be of: the package n with the row's AID, or the row's own
+abbrev pub server : Kept → ℕ → ℕ → ℕ
+server UnmetCalls n own = n
+server WaitingGrants n own = own
 
 -- each bit of row a is one of row b
 abbrev pub within : ℕ → ℕ → Bool
@@ -128,45 +149,48 @@ module _ (L : Layout) (l : List ℕ) where
   unfoldable pub linesOk : Bool
   linesOk = every lineOk (upto (L .packages))
 
-  -- ---- 'every unmet call has a valid AID other than its caller's, a used caller and no such service on the card'
+  -- ---- rows of the lists with tokens: 'every unmet call has a valid AID other than its caller's, a used caller and no such service on the card';
+  -- R-2: 'A sound row is a grant that waits, of a used callee to another valid AID'
   abbrev pub isUsed : ℕ → Bool
   isUsed n = ltb n (L .packages) && bit usedRow n
 
-  -- package n, the callee where it is installed, is not the caller and has no service with the tokens at at
-  abbrev pub unserved : ℕ → ℕ → ℕ → Bool
-  unserved at caller n = eqb n (L .packages) || (not (eqb n caller) && newTok (L .services) at n)
+  -- package n is not installed, or it is not the row's own and there is no service with the tokens at at
+  abbrev pub unserved : Kept → ℕ → ℕ → ℕ → Bool
+  unserved k at own n = eqb n (L .packages) || (not (eqb n own) && newTok (L .services) at (server k n own))
 
-  unfoldable pub unmetOk : ℕ → Bool
-  unmetOk at = isUsed (byteAt l (at + 19)) && aidOk l at && methodOk (at + 17) && unserved (at + 17) (byteAt l (at + 19)) (numberAt at)
+  unfoldable pub tokenRowOk : Kept → ℕ → Bool
+  tokenRowOk k at =
+      isUsed (byteAt l (at + numberIn k)) && aidOk l at && methodOk (at + tokensIn k) && unserved k (at + tokensIn k) (byteAt l (at + numberIn k)) (numberAt at)
 
-  -- ---- 'every waiting grant has a valid AID that is not installed, a used callee and a provided service'
+  -- ---- rows with a service number, before R-2: 'every waiting grant has a valid AID that is not installed, a used callee and a provided service'
   abbrev pub isProvided : ℕ → ℕ → Bool
   isProvided j k = ltb j (L .packages) && ltb k (L .services) && bit (provRow j) k
 
-  unfoldable pub waitingOk : ℕ → Bool
-  waitingOk at = isProvided (byteAt l (at + 17)) (byteAt l (at + 18)) && aidOk l at && eqb (numberAt at) (L .packages)
+  unfoldable pub numberRowOk : ℕ → Bool
+  numberRowOk at = isProvided (byteAt l (at + numberIn WaitingGrants)) (byteAt l (at + tokensIn WaitingGrants)) && aidOk l at && eqb (numberAt at) (L .packages)
 
   -- ---- 'list counts are at most 16; no list row repeats'; and the places past the count are zero
+  unfoldable pub rowOk : Bool → Kept → ℕ → Bool
+  rowOk early k at = cond (numbered early k) (numberRowOk at) (tokenRowOk k at)
+
   abbrev pub countOf : Kept → ℕ
   countOf k = byteAt l (listAt L k)
 
-  unfoldable pub rowOk : Kept → ℕ → Bool
-  rowOk Unmet at = unmetOk at
-  rowOk Waiting at = waitingOk at
+  module _ (early : Bool) (k : Kept) where
+    abbrev pub placeOk : ℕ → Bool
+    placeOk r = rowOk early k (placeAt L early k r) && newRow l (listAt L k) (rowSize early k) r
 
-  abbrev pub otherRow : Kept → ℕ → ℕ → Bool
-  otherRow k r q = not (sameAt l (placeAt L k r) (placeAt L k q) (rowSize k))
+    unfoldable pub listOk : Bool
+    listOk =
+        leb (countOf k) (L .capacity) && every placeOk (upto (countOf k))
+        && zerosAt l (placeAt L early k (countOf k)) ((L .capacity - countOf k) * rowSize early k)
 
-  unfoldable pub newRow : Kept → ℕ → Bool
-  newRow k r = every (otherRow k r) (upto r)
+  -- ---- the whole, by its version's first bytes and rules; its length too; and by those of L
+  unfoldable pub checkBy : List ℕ → Bool → Bool
+  checkBy head early = eqBytes (take 3 l) head && packagesOk && linesOk && listOk early UnmetCalls && listOk early WaitingGrants
 
-  abbrev pub placeOk : Kept → ℕ → Bool
-  placeOk k r = rowOk k (placeAt L k r) && newRow k r
+  abbrev pub sizedOk : ℕ → List ℕ → Bool → Bool
+  sizedOk long head early = eqb (length l) long && checkBy head early
 
-  unfoldable pub listOk : Kept → Bool
-  listOk k =
-      leb (countOf k) (L .capacity) && every (placeOk k) (upto (countOf k)) && zerosAt l (placeAt L k (countOf k)) ((L .capacity - countOf k) * rowSize k)
-
-  -- ---- the whole
-  unfoldable pub checkOk : Bool
-  checkOk = eqBytes (take 3 l) (L .header) && packagesOk && linesOk && listOk Unmet && listOk Waiting
+  abbrev pub checkOk : Bool
+  checkOk = sizedOk (size L) (L .header) (L .early)

@@ -47,13 +47,21 @@ pub fn pair(img: &[u8], at: usize) -> u16
     img[at] as u16 + 256 * img[at + 1] as u16
 }
 
-// The n bytes from a on are those from b on: the last 8, the first 8, and the 8 after these, which may overlap the last.
+// The 4 bytes from at on, as a number.
+fn quad(img: &[u8], at: usize) -> u32
+    requires { ⌜ at + 4 ≤ length (now img) ⌝ }
+    ensures { λ r. ⌜ r ≡ little (partAt (now (img .entry)) at 4) ⌝ }
+{
+    pair(img, at) as u32 + 65536 * pair(img, at + 2) as u32
+}
+
+// The n bytes from a on are those from b on: the last 4, which may begin in the 16 before them, and the first 16 as two words.
 pub fn same_row(img: &[u8], a: usize, b: usize, n: usize) -> bool
-    requires { ⌜ (16 ≤ n) × (n ≤ 24) × (a + n ≤ length (now img)) × (b + n ≤ length (now img)) ⌝ }
+    requires { ⌜ (16 ≤ n) × (n ≤ 20) × (a + n ≤ length (now img)) × (b + n ≤ length (now img)) ⌝ }
     ensures { λ r. ⌜ r ≡ sameAt (now (img .entry)) a b n ⌝ }
 {
-    let end = n - 8;
-    (word(img, a + end) == word(img, b + end))
+    let end = n - 4;
+    (quad(img, a + end) == quad(img, b + end))
         & (word(img, a) == word(img, b))
         & (word(img, a + 8) == word(img, b + 8))
 }

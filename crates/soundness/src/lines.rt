@@ -1,8 +1,8 @@
 // Calls, grants and needs: rows of bits by caller and callee.
 ghost use mathlib.Core.Path.{_≡_};
-ghost use Prim.Native.Nat.{_<_};
+ghost use Prim.Native.Nat.{_≤_, _<_};
 ghost use lib.ListN.{length};
-ghost use Rattle.policy.specs.Layout.{size as sizeOf};
+ghost use Rattle.policy.specs.Layout.{waitingAt};
 ghost use Rattle.geometry.specs.Geometry.{layoutOf, entryAt};
 ghost use Rattle.soundness.specs.Check.{rowAt, grantOk, pairOk, lineOk, linesOk};
 use crate::packages;
@@ -10,7 +10,7 @@ use geometry::Card;
 use geometry::Table;
 
 fn entry(img: &[u8], c: Card, t: Table, i: usize, j: usize) -> u16
-    requires { ⌜ (length (now img) ≡ sizeOf (layoutOf c)) × (i < layoutOf c .packages) × (j < layoutOf c .packages) ⌝ }
+    requires { ⌜ (waitingAt (layoutOf c) ≤ length (now img)) × (i < layoutOf c .packages) × (j < layoutOf c .packages) ⌝ }
     ensures { λ r. ⌜ r ≡ rowAt (layoutOf c) (now (img .entry)) (entryAt (layoutOf c) t i j) ⌝ }
 {
     geometry::row_at(img, c, geometry::entry_at(c, t, i, j))
@@ -18,7 +18,7 @@ fn entry(img: &[u8], c: Card, t: Table, i: usize, j: usize) -> u16
 
 // Grants g of callee j to caller i: to another, a used package, of services that the callee provides.
 fn grant_ok(img: &[u8], c: Card, g: u16, i: usize, j: usize) -> bool
-    requires { ⌜ (length (now img) ≡ sizeOf (layoutOf c)) × (i < layoutOf c .packages) × (j < layoutOf c .packages) ⌝ }
+    requires { ⌜ (waitingAt (layoutOf c) ≤ length (now img)) × (i < layoutOf c .packages) × (j < layoutOf c .packages) ⌝ }
     ensures { λ r. ⌜ r ≡ grantOk (layoutOf c) (now (img .entry)) g i j ⌝ }
 {
     if g == 0 {
@@ -35,7 +35,7 @@ fn grant_ok(img: &[u8], c: Card, g: u16, i: usize, j: usize) -> bool
 
 // Needs are among the calls, calls among the grants.
 fn pair_ok(img: &[u8], c: Card, i: usize, j: usize) -> bool
-    requires { ⌜ (length (now img) ≡ sizeOf (layoutOf c)) × (i < layoutOf c .packages) × (j < layoutOf c .packages) ⌝ }
+    requires { ⌜ (waitingAt (layoutOf c) ≤ length (now img)) × (i < layoutOf c .packages) × (j < layoutOf c .packages) ⌝ }
     ensures { λ r. ⌜ r ≡ pairOk (layoutOf c) (now (img .entry)) i j ⌝ }
 {
     let call = entry(img, c, Table::Calls, i, j);
@@ -50,7 +50,7 @@ fn pair_ok(img: &[u8], c: Card, i: usize, j: usize) -> bool
 }
 
 fn line_ok(img: &[u8], c: Card, i: usize) -> bool
-    requires { ⌜ (length (now img) ≡ sizeOf (layoutOf c)) × (i < layoutOf c .packages) ⌝ }
+    requires { ⌜ (waitingAt (layoutOf c) ≤ length (now img)) × (i < layoutOf c .packages) ⌝ }
     ensures { λ r. ⌜ r ≡ lineOk (layoutOf c) (now (img .entry)) i ⌝ }
 {
     let n = geometry::packages(c);
@@ -63,7 +63,7 @@ fn line_ok(img: &[u8], c: Card, i: usize) -> bool
 }
 
 pub fn lines_ok(img: &[u8], c: Card) -> bool
-    requires { ⌜ length (now img) ≡ sizeOf (layoutOf c) ⌝ }
+    requires { ⌜ waitingAt (layoutOf c) ≤ length (now img) ⌝ }
     ensures { λ r. ⌜ r ≡ linesOk (layoutOf c) (now (img .entry)) ⌝ }
 {
     let n = geometry::packages(c);

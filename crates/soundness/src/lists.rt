@@ -1,15 +1,17 @@
 // The lists of unmet calls and waiting grants: counts, rows, and zeros past the count.
 ghost use mathlib.Core.Path.{_≡_};
-ghost use Prim.Native.Nat.{_+_, _≤_, _<_};
+ghost use mathlib.Core.Bool.{true, false};
+ghost use Prim.Native.Nat.{_+_, _*_, _-_, _≤_, _<_};
 ghost use lib.ListN.{length, getD};
 ghost use Rattle.policy.specs.Lists.{every, upto};
-ghost use Rattle.policy.specs.Layout.{size as sizeOf};
+ghost use Rattle.policy.specs.Layout.{waitingAt};
 ghost use Rattle.geometry.specs.Geometry.{layoutOf};
-ghost use Rattle.soundness.specs.Check.{isUsed, unserved as unservedBy, unmetOk, isProvided, waitingOk, listAt, rowSize, placeAt, countOf, rowOk, newRow, placeOk, listOk};
-use crate::Kept;
+ghost use Rattle.geometry.specs.declared.Kept.the-variants.{WaitingGrants};
+ghost use Rattle.soundness.specs.Check.{zerosAt, rowSize, numbered as isNumbered, placeAt, listEnd, isUsed, unserved as unservedBy, tokenRowOk, isProvided, numberRowOk, rowOk, newRow, placeOk, listOk};
 use crate::bytes;
 use crate::packages;
 use geometry::Card;
+use geometry::Kept;
 
 fn byte(img: &[u8], at: usize) -> usize
     requires { ⌜ at < length (now img) ⌝ }
@@ -20,7 +22,7 @@ fn byte(img: &[u8], at: usize) -> usize
 
 // Number n is that of a used package.
 fn is_used(img: &[u8], c: Card, n: usize) -> bool
-    requires { ⌜ length (now img) ≡ sizeOf (layoutOf c) ⌝ }
+    requires { ⌜ waitingAt (layoutOf c) ≤ length (now img) ⌝ }
     ensures { λ r. ⌜ r ≡ isUsed (layoutOf c) (now (img .entry)) n ⌝ }
 {
     if geometry::packages(c) <= n {
@@ -29,44 +31,47 @@ fn is_used(img: &[u8], c: Card, n: usize) -> bool
     packages::used(img, c, n)
 }
 
-// Package n, where it is one, is not the caller and has no service with the tokens at at.
-fn unserved(img: &[u8], c: Card, at: usize, caller: usize, n: usize) -> bool
-    requires { ⌜ (length (now img) ≡ sizeOf (layoutOf c)) × (at + 2 ≤ length (now img)) × (n ≤ layoutOf c .packages) ⌝ }
-    ensures { λ r. ⌜ r ≡ unservedBy (layoutOf c) (now (img .entry)) at caller n ⌝ }
+// Package n, which has a row's AID, is not installed; or it is not the row's own, and there is no service with the tokens at at.
+fn unserved(img: &[u8], c: Card, k: Kept, at: usize, own: usize, n: usize) -> bool
+    requires { ⌜ (waitingAt (layoutOf c) ≤ length (now img)) × (at + 2 ≤ length (now img)) × (own < layoutOf c .packages) × (n ≤ layoutOf c .packages) ⌝ }
+    ensures { λ r. ⌜ r ≡ unservedBy (layoutOf c) (now (img .entry)) k at own n ⌝ }
 {
     if n == geometry::packages(c) {
         return true;
     }
-    if n == caller {
+    if n == own {
         return false;
     }
     let m = geometry::services(c);
-    packages::new_tok(img, c, m, at, n)
+    match k {
+        Kept::UnmetCalls => packages::new_tok(img, c, m, at, n),
+        Kept::WaitingGrants => packages::new_tok(img, c, m, at, own),
+    }
 }
 
-// A row of unmet calls.
-fn unmet_ok(img: &[u8], c: Card, at: usize) -> bool
-    requires { ⌜ (length (now img) ≡ sizeOf (layoutOf c)) × (at + 20 ≤ length (now img)) ⌝ }
-    ensures { λ r. ⌜ r ≡ unmetOk (layoutOf c) (now (img .entry)) at ⌝ }
+// A row with tokens: an unmet call, or a waiting grant.
+fn token_row_ok(img: &[u8], c: Card, k: Kept, at: usize) -> bool
+    requires { ⌜ (waitingAt (layoutOf c) ≤ length (now img)) × (at + rowSize true k ≤ length (now img)) ⌝ }
+    ensures { λ r. ⌜ r ≡ tokenRowOk (layoutOf c) (now (img .entry)) k at ⌝ }
 {
-    let caller = byte(img, at + 19);
-    if !is_used(img, c, caller) {
+    let n = packages::number_of(img, c, at);
+    let own = byte(img, at + geometry::number_in(k));
+    if !is_used(img, c, own) {
         return false;
     }
     if !bytes::aid_ok(img, at) {
         return false;
     }
-    let toks = at + 17;
+    let toks = at + geometry::tokens_in(k);
     if geometry::methods(c) <= img[toks + 1] {
         return false;
     }
-    let n = packages::number_of(img, c, at);
-    unserved(img, c, toks, caller, n)
+    unserved(img, c, k, toks, own, n)
 }
 
 // Package j provides service k, if there are such numbers.
 fn is_provided(img: &[u8], c: Card, j: usize, k: usize) -> bool
-    requires { ⌜ length (now img) ≡ sizeOf (layoutOf c) ⌝ }
+    requires { ⌜ waitingAt (layoutOf c) ≤ length (now img) ⌝ }
     ensures { λ r. ⌜ r ≡ isProvided (layoutOf c) (now (img .entry)) j k ⌝ }
 {
     if geometry::packages(c) <= j {
@@ -78,13 +83,13 @@ fn is_provided(img: &[u8], c: Card, j: usize, k: usize) -> bool
     packages::provides(img, c, j, k)
 }
 
-// A row of waiting grants.
-fn waiting_ok(img: &[u8], c: Card, at: usize) -> bool
-    requires { ⌜ (length (now img) ≡ sizeOf (layoutOf c)) × (at + 19 ≤ length (now img)) ⌝ }
-    ensures { λ r. ⌜ r ≡ waitingOk (layoutOf c) (now (img .entry)) at ⌝ }
+// A waiting grant before R-2, with a service number in place of tokens.
+fn number_row_ok(img: &[u8], c: Card, at: usize) -> bool
+    requires { ⌜ (waitingAt (layoutOf c) ≤ length (now img)) × (at + rowSize false WaitingGrants ≤ length (now img)) ⌝ }
+    ensures { λ r. ⌜ r ≡ numberRowOk (layoutOf c) (now (img .entry)) at ⌝ }
 {
-    let callee = byte(img, at + 17);
-    let service = byte(img, at + 18);
+    let callee = byte(img, at + geometry::number_in(Kept::WaitingGrants));
+    let service = byte(img, at + geometry::tokens_in(Kept::WaitingGrants));
     if !is_provided(img, c, callee, service) {
         return false;
     }
@@ -95,100 +100,96 @@ fn waiting_ok(img: &[u8], c: Card, at: usize) -> bool
     packages::number_of(img, c, at) == n
 }
 
-fn list_at(c: Card, k: Kept) -> usize
-    ensures { λ r. ⌜ r ≡ listAt (layoutOf c) k ⌝ }
+// A row has a service number and no tokens.
+fn numbered(k: Kept, early: bool) -> bool
+    ensures { λ r. ⌜ r ≡ isNumbered early k ⌝ }
 {
     match k {
-        Kept::Unmet => geometry::unmet_at(c),
-        Kept::Waiting => geometry::waiting_at(c),
+        Kept::UnmetCalls => false,
+        Kept::WaitingGrants => !early,
     }
 }
 
-fn row_size(k: Kept) -> usize
-    ensures { λ r. ⌜ r ≡ rowSize k ⌝ }
+// Bytes of a row.
+fn row_size(c: Card, k: Kept, early: bool) -> usize
+    ensures { λ r. ⌜ r ≡ rowSize early k ⌝ }
 {
-    match k {
-        Kept::Unmet => 20,
-        Kept::Waiting => 19,
+    if numbered(k, early) {
+        return geometry::old_row_size(k);
     }
+    geometry::row_size(c, k)
 }
 
-// Where row r of a list stands, and where the list ends after r rows.
-fn place_at(c: Card, k: Kept, r: usize) -> usize
-    requires { ⌜ r ≤ layoutOf c .capacity ⌝ }
-    ensures { λ x. ⌜ x ≡ placeAt (layoutOf c) k r ⌝ }
+fn row_ok(img: &[u8], c: Card, k: Kept, early: bool, at: usize) -> bool
+    requires { ⌜ (waitingAt (layoutOf c) ≤ length (now img)) × (at + rowSize early k ≤ length (now img)) ⌝ }
+    ensures { λ r. ⌜ r ≡ rowOk (layoutOf c) (now (img .entry)) early k at ⌝ }
 {
-    let at = list_at(c, k);
-    let size = row_size(k);
-    at + (1 + r * size)
-}
-
-fn row_ok(img: &[u8], c: Card, k: Kept, r: usize) -> bool
-    requires { ⌜ (length (now img) ≡ sizeOf (layoutOf c)) × (r < layoutOf c .capacity) ⌝ }
-    ensures { λ x. ⌜ x ≡ rowOk (layoutOf c) (now (img .entry)) k (placeAt (layoutOf c) k r) ⌝ }
-{
-    match k {
-        Kept::Unmet => unmet_ok(img, c, place_at(c, Kept::Unmet, r)),
-        Kept::Waiting => waiting_ok(img, c, place_at(c, Kept::Waiting, r)),
+    if numbered(k, early) {
+        return number_row_ok(img, c, at);
     }
+    token_row_ok(img, c, k, at)
 }
 
-// No row before r is the same as row r.
-fn new_row(img: &[u8], c: Card, k: Kept, r: usize) -> bool
-    requires { ⌜ (length (now img) ≡ sizeOf (layoutOf c)) × (r < layoutOf c .capacity) ⌝ }
-    ensures { λ x. ⌜ x ≡ newRow (layoutOf c) (now (img .entry)) k r ⌝ }
+// No row before r, of those of w bytes after the count at at, is the same as row r.
+fn new_row(img: &[u8], at: usize, w: usize, r: usize) -> bool
+    requires { ⌜ (16 ≤ w) × (w ≤ 20) × (at + (1 + r * w) + w ≤ length (now img)) ⌝ }
+    ensures { λ x. ⌜ x ≡ newRow (now (img .entry)) at w r ⌝ }
 {
+    let row = at + (1 + r * w);
     for q in 0..r {
-        if bytes::same_row(img, place_at(c, k, r), place_at(c, k, q), row_size(k)) {
+        if bytes::same_row(img, row, at + (1 + q * w), w) {
             return false;
         }
     }
     true
 }
 
-fn place_ok(img: &[u8], c: Card, k: Kept, r: usize) -> bool
-    requires { ⌜ (length (now img) ≡ sizeOf (layoutOf c)) × (r < layoutOf c .capacity) ⌝ }
-    ensures { λ x. ⌜ x ≡ placeOk (layoutOf c) (now (img .entry)) k r ⌝ }
+fn place_ok(img: &[u8], c: Card, k: Kept, early: bool, r: usize) -> bool
+    requires { ⌜ (listEnd (layoutOf c) early k ≤ length (now img)) × (r < layoutOf c .capacity) ⌝ }
+    ensures { λ x. ⌜ x ≡ placeOk (layoutOf c) (now (img .entry)) early k r ⌝ }
 {
-    if !row_ok(img, c, k, r) {
+    let at = geometry::list_at(c, k);
+    let w = row_size(c, k, early);
+    if !row_ok(img, c, k, early, at + (1 + r * w)) {
         return false;
     }
-    new_row(img, c, k, r)
+    new_row(img, at, w, r)
 }
 
 // Each of the first n rows.
-fn places_ok(img: &[u8], c: Card, k: Kept, n: usize) -> bool
-    requires { ⌜ (length (now img) ≡ sizeOf (layoutOf c)) × (n ≤ layoutOf c .capacity) ⌝ }
-    ensures { λ x. ⌜ x ≡ every (placeOk (layoutOf c) (now (img .entry)) k) (upto n) ⌝ }
+fn places_ok(img: &[u8], c: Card, k: Kept, early: bool, n: usize) -> bool
+    requires { ⌜ (listEnd (layoutOf c) early k ≤ length (now img)) × (n ≤ layoutOf c .capacity) ⌝ }
+    ensures { λ x. ⌜ x ≡ every (placeOk (layoutOf c) (now (img .entry)) early k) (upto n) ⌝ }
 {
     for r in 0..n {
-        if !place_ok(img, c, k, r) {
+        if !place_ok(img, c, k, early, r) {
             return false;
         }
     }
     true
 }
 
-// How many rows a list has.
-fn count_of(img: &[u8], c: Card, k: Kept) -> usize
-    requires { ⌜ length (now img) ≡ sizeOf (layoutOf c) ⌝ }
-    ensures { λ x. ⌜ x ≡ countOf (layoutOf c) (now (img .entry)) k ⌝ }
+// Past the first n rows there are zeros.
+fn rest_ok(img: &[u8], c: Card, k: Kept, early: bool, n: usize) -> bool
+    requires { ⌜ (listEnd (layoutOf c) early k ≤ length (now img)) × (n ≤ layoutOf c .capacity) ⌝ }
+    ensures { λ x. ⌜ x ≡ zerosAt (now (img .entry)) (placeAt (layoutOf c) early k n) ((layoutOf c .capacity - n) * rowSize early k) ⌝ }
 {
-    byte(img, list_at(c, k))
+    let at = geometry::list_at(c, k);
+    let w = row_size(c, k, early);
+    let rest = geometry::capacity(c) - n;
+    bytes::zeros_at(img, at + (1 + n * w), rest * w)
 }
 
-pub fn list_ok(img: &[u8], c: Card, k: Kept) -> bool
-    requires { ⌜ length (now img) ≡ sizeOf (layoutOf c) ⌝ }
-    ensures { λ x. ⌜ x ≡ listOk (layoutOf c) (now (img .entry)) k ⌝ }
+pub fn list_ok(img: &[u8], c: Card, k: Kept, early: bool) -> bool
+    requires { ⌜ listEnd (layoutOf c) early k ≤ length (now img) ⌝ }
+    ensures { λ x. ⌜ x ≡ listOk (layoutOf c) (now (img .entry)) early k ⌝ }
 {
-    let n = count_of(img, c, k);
-    let most = geometry::capacity(c);
-    if most < n {
+    let n = byte(img, geometry::list_at(c, k));
+    if geometry::capacity(c) < n {
         return false;
     }
-    if !places_ok(img, c, k, n) {
+    if !places_ok(img, c, k, early, n) {
         return false;
     }
-    let rest = (most - n) * row_size(k);
-    bytes::zeros_at(img, place_at(c, k, n), rest)
+    rest_ok(img, c, k, early, n)
 }

@@ -2,7 +2,7 @@
 ghost use mathlib.Core.Path.{_≡_};
 ghost use Prim.Native.Nat.{_+_, _≤_, _<_};
 ghost use lib.ListN.{length};
-ghost use Rattle.policy.specs.Layout.{size as sizeOf};
+ghost use Rattle.policy.specs.Layout.{waitingAt};
 ghost use Rattle.policy.specs.Tables.{bit};
 ghost use Rattle.geometry.specs.Geometry.{layoutOf};
 ghost use Rattle.soundness.specs.Check.{otherTok, numberAt, newTok, methodsOk, tokOk, toksOk, blankOk, packageOk, packagesOk, usedRow, provRow};
@@ -11,7 +11,7 @@ use geometry::Card;
 
 // Package n is used.
 pub fn used(img: &[u8], c: Card, n: usize) -> bool
-    requires { ⌜ (length (now img) ≡ sizeOf (layoutOf c)) × (n < layoutOf c .packages) ⌝ }
+    requires { ⌜ (waitingAt (layoutOf c) ≤ length (now img)) × (n < layoutOf c .packages) ⌝ }
     ensures { λ r. ⌜ r ≡ bit (usedRow (layoutOf c) (now (img .entry))) n ⌝ }
 {
     bits::has_bit(geometry::row_at(img, c, 3), n)
@@ -19,7 +19,7 @@ pub fn used(img: &[u8], c: Card, n: usize) -> bool
 
 // The provided services of package j.
 pub fn prov_row(img: &[u8], c: Card, j: usize) -> u16
-    requires { ⌜ (length (now img) ≡ sizeOf (layoutOf c)) × (j < layoutOf c .packages) ⌝ }
+    requires { ⌜ (waitingAt (layoutOf c) ≤ length (now img)) × (j < layoutOf c .packages) ⌝ }
     ensures { λ r. ⌜ r ≡ provRow (layoutOf c) (now (img .entry)) j ⌝ }
 {
     geometry::row_at(img, c, geometry::prov_at(c, j))
@@ -27,7 +27,7 @@ pub fn prov_row(img: &[u8], c: Card, j: usize) -> u16
 
 // Package j provides service k.
 pub fn provides(img: &[u8], c: Card, j: usize, k: usize) -> bool
-    requires { ⌜ (length (now img) ≡ sizeOf (layoutOf c)) × (j < layoutOf c .packages) × (k < layoutOf c .services) ⌝ }
+    requires { ⌜ (waitingAt (layoutOf c) ≤ length (now img)) × (j < layoutOf c .packages) × (k < layoutOf c .services) ⌝ }
     ensures { λ r. ⌜ r ≡ bit (provRow (layoutOf c) (now (img .entry)) j) k ⌝ }
 {
     bits::has_bit(prov_row(img, c, j), k)
@@ -35,7 +35,7 @@ pub fn provides(img: &[u8], c: Card, j: usize, k: usize) -> bool
 
 // The lowest package that has the AID at at; the number of packages where none has.
 pub fn number_of(img: &[u8], c: Card, at: usize) -> usize
-    requires { ⌜ (length (now img) ≡ sizeOf (layoutOf c)) × (at + 17 ≤ length (now img)) ⌝ }
+    requires { ⌜ (waitingAt (layoutOf c) ≤ length (now img)) × (at + 17 ≤ length (now img)) ⌝ }
     ensures { λ r. ⌜ r ≡ numberAt (layoutOf c) (now (img .entry)) at ⌝ }
 {
     let n = geometry::packages(c);
@@ -49,7 +49,7 @@ pub fn number_of(img: &[u8], c: Card, at: usize) -> usize
 
 // Service k of package j has not the tokens at at.
 fn other_tok(img: &[u8], c: Card, at: usize, j: usize, k: usize) -> bool
-    requires { ⌜ (length (now img) ≡ sizeOf (layoutOf c)) × (at + 2 ≤ length (now img)) × (j < layoutOf c .packages) × (k < layoutOf c .services) ⌝ }
+    requires { ⌜ (waitingAt (layoutOf c) ≤ length (now img)) × (at + 2 ≤ length (now img)) × (j < layoutOf c .packages) × (k < layoutOf c .services) ⌝ }
     ensures { λ r. ⌜ r ≡ otherTok (layoutOf c) (now (img .entry)) at j k ⌝ }
 {
     if !provides(img, c, j, k) {
@@ -60,7 +60,7 @@ fn other_tok(img: &[u8], c: Card, at: usize, j: usize, k: usize) -> bool
 
 // None of the first n services of package j has the tokens at at.
 pub fn new_tok(img: &[u8], c: Card, n: usize, at: usize, j: usize) -> bool
-    requires { ⌜ (length (now img) ≡ sizeOf (layoutOf c)) × (n ≤ layoutOf c .services) × (at + 2 ≤ length (now img)) × (j < layoutOf c .packages) ⌝ }
+    requires { ⌜ (waitingAt (layoutOf c) ≤ length (now img)) × (n ≤ layoutOf c .services) × (at + 2 ≤ length (now img)) × (j < layoutOf c .packages) ⌝ }
     ensures { λ r. ⌜ r ≡ newTok (layoutOf c) (now (img .entry)) n at j ⌝ }
 {
     for k in 0..n {
@@ -73,7 +73,7 @@ pub fn new_tok(img: &[u8], c: Card, n: usize, at: usize, j: usize) -> bool
 
 // Tokens are new where the service is provided, and zero where it is not.
 fn tok_ok(img: &[u8], c: Card, j: usize, k: usize) -> bool
-    requires { ⌜ (length (now img) ≡ sizeOf (layoutOf c)) × (j < layoutOf c .packages) × (k < layoutOf c .services) ⌝ }
+    requires { ⌜ (waitingAt (layoutOf c) ≤ length (now img)) × (j < layoutOf c .packages) × (k < layoutOf c .services) ⌝ }
     ensures { λ r. ⌜ r ≡ tokOk (layoutOf c) (now (img .entry)) j k ⌝ }
 {
     let at = geometry::tok_at(c, j, k);
@@ -84,7 +84,7 @@ fn tok_ok(img: &[u8], c: Card, j: usize, k: usize) -> bool
 }
 
 fn toks_ok(img: &[u8], c: Card, j: usize) -> bool
-    requires { ⌜ (length (now img) ≡ sizeOf (layoutOf c)) × (j < layoutOf c .packages) ⌝ }
+    requires { ⌜ (waitingAt (layoutOf c) ≤ length (now img)) × (j < layoutOf c .packages) ⌝ }
     ensures { λ r. ⌜ r ≡ toksOk (layoutOf c) (now (img .entry)) j ⌝ }
 {
     let n = geometry::services(c);
@@ -98,7 +98,7 @@ fn toks_ok(img: &[u8], c: Card, j: usize) -> bool
 
 // The method tokens of package j are below the card's limit. The limit is a power of 2, so a number in which all tokens are gathered is below it where each is.
 fn methods_ok(img: &[u8], c: Card, j: usize) -> bool
-    requires { ⌜ (length (now img) ≡ sizeOf (layoutOf c)) × (j < layoutOf c .packages) ⌝ }
+    requires { ⌜ (waitingAt (layoutOf c) ≤ length (now img)) × (j < layoutOf c .packages) ⌝ }
     ensures { λ r. ⌜ r ≡ methodsOk (layoutOf c) (now (img .entry)) j ⌝ }
 {
     let n = geometry::services(c);
@@ -112,7 +112,7 @@ fn methods_ok(img: &[u8], c: Card, j: usize) -> bool
 
 // An unused package has no AID, no services and no tokens.
 fn blank_ok(img: &[u8], c: Card, n: usize) -> bool
-    requires { ⌜ (length (now img) ≡ sizeOf (layoutOf c)) × (n < layoutOf c .packages) ⌝ }
+    requires { ⌜ (waitingAt (layoutOf c) ≤ length (now img)) × (n < layoutOf c .packages) ⌝ }
     ensures { λ r. ⌜ r ≡ blankOk (layoutOf c) (now (img .entry)) n ⌝ }
 {
     if !bytes::zeros_at(img, geometry::aid_at(c, n), 17) {
@@ -126,7 +126,7 @@ fn blank_ok(img: &[u8], c: Card, n: usize) -> bool
 }
 
 fn package_ok(img: &[u8], c: Card, n: usize) -> bool
-    requires { ⌜ (length (now img) ≡ sizeOf (layoutOf c)) × (n < layoutOf c .packages) ⌝ }
+    requires { ⌜ (waitingAt (layoutOf c) ≤ length (now img)) × (n < layoutOf c .packages) ⌝ }
     ensures { λ r. ⌜ r ≡ packageOk (layoutOf c) (now (img .entry)) n ⌝ }
 {
     if !used(img, c, n) {
@@ -146,7 +146,7 @@ fn package_ok(img: &[u8], c: Card, n: usize) -> bool
 }
 
 pub fn packages_ok(img: &[u8], c: Card) -> bool
-    requires { ⌜ length (now img) ≡ sizeOf (layoutOf c) ⌝ }
+    requires { ⌜ waitingAt (layoutOf c) ≤ length (now img) ⌝ }
     ensures { λ r. ⌜ r ≡ packagesOk (layoutOf c) (now (img .entry)) ⌝ }
 {
     let n = geometry::packages(c);

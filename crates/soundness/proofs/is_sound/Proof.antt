@@ -1,9 +1,8 @@
 -- `is_sound` meets its contract.
-use mathlib.Core.Path.{sym, _∙_}
 use borrow.Author.Needs.{needs}
 use denote.Ref.{now}
-use Rattle.geometry.specs.Geometry.{layoutOf}
-use Rattle.soundness.proofs.Agree.{unsized, sound-of}
+use Rattle.soundness.proofs.Agree.{sound-of}
+use Rattle.soundness.proofs.Tests.{end-is}
 use Rattle.soundness.proofs.is_sound.Statement.{statement}
 use Rattle.soundness.proofs.is_sound.Tie as tie
 
@@ -12,6 +11,6 @@ is-sound-spec =
     tie.close
     (tie.spec
     (λ c κs. search needs)
-    (λ c. let a = c .before .before .before .args in unsized (layoutOf (a .c)) (now (a .img)) (λ e. c .if1 .taken (e ∙ sym (c .before .size .ensures))))
     (λ c κs. search needs)
-    (λ c. let a = c .before .before .before .before .args in sound-of (a .c) (now (a .img)) (λ k. c .before .before .before .shared-slice-known .given k .fits) (c .before .if1 .left ∙ c .before .before .size .ensures) (c .check-ok .ensures)))
+    (λ c κs. end-is (c .before .before .before .args .c) (c .before .size .ensures))
+    (λ c. let a = c .before .before .before .before .args in sound-of (a .c) (now (a .img)) (λ k. c .before .before .before .shared-slice-known .given k .fits) (c .before .before .size .ensures) (c .before .header .ensures) (c .sized-ok .ensures)))

@@ -21,5 +21,5 @@ same-row-spec =
     (λ c κs. search needs)
     (λ c. let s = c .before .before .before .before .before .before .before in
     let a = s .args in
-    row-same (a .img .now) (λ k. c .before .before .before .before .before .before .shared-slice-known .given k .fits) (a .a) (a .b) (c .before .before .before .word3 .ensures) (c .before .before .word4 .ensures) (c .before .word5 .ensures) (c .word6 .ensures)
-    (a .n) (s .pre .0) (s .pre .1) (s .pre .2) (s .pre .3) (c .before .before .before .before .before .word .ensures) (c .before .before .before .before .word2 .ensures)))
+    row-same (a .img .now) (λ k. c .before .before .before .before .before .before .shared-slice-known .given k .fits) (a .a) (a .b) (c .before .before .before .word .ensures) (c .before .before .word2 .ensures) (c .before .word3 .ensures) (c .word4 .ensures)
+    (a .n) (s .pre .0) (s .pre .1) (s .pre .2) (s .pre .3) (c .before .before .before .before .before .quad .ensures) (c .before .before .before .before .quad2 .ensures)))

@@ -9,5 +9,5 @@ use Rattle.soundness.proofs.lists.places_ok.Tie as tie
 pub places-ok-spec : {M : Type 1} → statement M
 places-ok-spec =
     tie.close
-    (tie.spec (λ img c k n r₀ r. Shown (placeOk (layoutOf c) img k) n r) (λ img c k n r₀ r. n - r)
+    (tie.spec (λ img c k early n r₀ r. Shown (placeOk (layoutOf c) img early k) n r) (λ img c k early n r₀ r. n - r)
     (λ c. search turns) (λ c κs. search turns) (λ c. search turns) (λ c. search turns) (λ c. search turns) (λ c. search turns) (λ c. search turns))

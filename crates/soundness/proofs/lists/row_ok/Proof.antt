@@ -1,6 +1,7 @@
 -- `lists::row_ok` meets its contract.
+use native.Mathlib.Omega.{arith}
 use Rattle.soundness.specs.Check.{rowOk}
-use Rattle.soundness.proofs.Tests.{places}
+use Rattle.soundness.proofs.Tests.{places, tests, row-low, token-row}
 use Rattle.soundness.proofs.lists.row_ok.Statement.{statement}
 use Rattle.soundness.proofs.lists.row_ok.Tie as tie
 
@@ -9,11 +10,8 @@ unfolding rowOk
 row-ok-spec =
     tie.close
     (tie.spec
-    (λ c. search places)
     (λ c κs. search places)
-    (λ c κs. search places)
-    (λ c. search places)
-    (λ c κs. search places)
-    (λ c κs. search places)
-    (λ c. rw (c .before .before .enum-told .given .1, ← c .before .place-at .ensures) (c .unmet-ok .ensures))
-    (λ c. rw (c .before .before .enum-told2 .given .1, ← c .before .place-at2 .ensures) (c .waiting-ok .ensures)))
+    (λ c κs. let s = c .before .before .before in (s .pre .0, omega (arith, s .pre .1, row-low (s .args .early) (s .args .k))))
+    (λ c. search tests)
+    (λ c κs. search (token-row, places))
+    (λ c. search tests))

@@ -11,8 +11,20 @@ unserved-spec =
     tie.close
     (tie.spec
     (λ c κs. search places)
-    (λ c. let a = c .before .before .before .args in let h : a .n ≡ layoutOf (a .c) .packages = omega arith in search tests)
-    (λ c. let a = c .before .before .before .before .args in let h : a .n ≡ layoutOf (a .c) .packages → ⊥ = λ e. c .before .if1 .left (e ∙ sym (c .before .before .packages .ensures)) in search tests)
+    (λ c. let a = c .before .before .before .args in
+    let h : a .n ≡ layoutOf (a .c) .packages = omega arith in search tests)
+    (λ c. let a = c .before .before .before .before .args in
+    let h : a .n ≡ layoutOf (a .c) .packages → ⊥ = λ e. c .before .if1 .left (e ∙ sym (c .before .before .packages .ensures)) in search tests)
     (λ c κs. search places)
+    (λ c. search places)
     (λ c κs. search places)
-    (λ c. let a = c .before .before .before .before .before .before .args in let h : a .n ≡ layoutOf (a .c) .packages → ⊥ = λ e. c .before .before .before .if1 .left (e ∙ sym (c .before .before .before .before .packages .ensures)) in let e = rw (c .before .services .ensures) at (c .new-tok .ensures) in search tests))
+    (λ c. search places)
+    (λ c κs. search places)
+    (λ c. let a = c .before .before .before .before .before .before .before .before .args in
+    let h : a .n ≡ layoutOf (a .c) .packages → ⊥ = λ e. c .before .before .before .before .before .if1 .left (e ∙ sym (c .before .before .before .before .before .before .packages .ensures)) in
+    let e = rw (c .before .before .before .services .ensures) at (c .new-tok .ensures) in
+    rw (c .before .enum-told .given .1) (search tests))
+    (λ c. let a = c .before .before .before .before .before .before .before .before .args in
+    let h : a .n ≡ layoutOf (a .c) .packages → ⊥ = λ e. c .before .before .before .before .before .if1 .left (e ∙ sym (c .before .before .before .before .before .before .packages .ensures)) in
+    let e = rw (c .before .before .before .services .ensures) at (c .new-tok2 .ensures) in
+    rw (c .before .enum-told2 .given .1) (search tests)))

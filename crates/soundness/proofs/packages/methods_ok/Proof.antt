@@ -7,7 +7,6 @@ use borrow.Author.Needs.{needs}
 use borrow.Author.Tests.{lt-ltb}
 use Rattle.policy.specs.Lists.{every, upto}
 use Rattle.geometry.specs.Geometry.{layoutOf, tokAt}
-use Rattle.geometry.proofs.Bounds.{geo}
 use Rattle.soundness.specs.Check.{methodOk, methodsOk}
 use Rattle.soundness.proofs.Words.{Gathered, gather}
 use Rattle.soundness.proofs.Tests.{methods-top, places}

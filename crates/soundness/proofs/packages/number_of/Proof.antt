@@ -5,7 +5,7 @@ use Prim.Native.Nat.{_≤_, _-_}
 use Rattle.policy.specs.Lists.{first, upto}
 use Rattle.bits.proofs.Loops.{early}
 use Rattle.geometry.specs.Geometry.{layoutOf}
-use Rattle.geometry.proofs.Bounds.{geo}
+use Rattle.geometry.proofs.Bounds.{front}
 use Rattle.soundness.specs.Check.{isAid, numberAt}
 use Rattle.soundness.proofs.packages.number_of.Statement.{statement}
 use Rattle.soundness.proofs.packages.number_of.Tie as tie
@@ -21,12 +21,12 @@ unfolding numberAt
 number-of-spec =
     tie.close
     (tie.spec Inv-loop μ-loop
-    (λ c κs. search (early, geo))
-    (λ c. search (early, geo))
-    (λ c κs. search (early, geo))
-    (λ c κs. search (early, geo))
-    (λ c. let e = rw (c .before .before .aid-at .ensures) at (c .before .same-aid .ensures) in search (early, geo))
-    (λ c. search (early, geo))
-    (λ c. search (early, geo))
-    (λ c. let e = rw (c .before .before .aid-at .ensures) at (c .before .same-aid .ensures) in search (early, geo))
-    (λ c. search (early, geo)))
+    (λ c κs. search (early, front))
+    (λ c. search (early, front))
+    (λ c κs. search (early, front))
+    (λ c κs. search (early, front))
+    (λ c. let e = rw (c .before .before .aid-at .ensures) at (c .before .same-aid .ensures) in search (early, front))
+    (λ c. search (early, front))
+    (λ c. search (early, front))
+    (λ c. let e = rw (c .before .before .aid-at .ensures) at (c .before .same-aid .ensures) in search (early, front))
+    (λ c. search (early, front)))
