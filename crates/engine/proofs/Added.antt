@@ -1,76 +1,105 @@
--- The plan of kind 3 by what its searches found. Assumes nothing.
+-- The plan of kind 3 by what its searches and checks found. Assumes nothing.
 use Prim.Native.Nat.{ℕ, _+_, _≤_, _<_}
 use native.Mathlib.Omega.{arith}
-use mathlib.Core.Path.{_≡_, sym, ap, _∙_}
-use mathlib.Core.Bool.{Bool, true, false, cond}
+use mathlib.Core.Path.{_≡_, sym, ap, _∙_, subst}
+use mathlib.Core.Bool.{Bool, true, false, not, _&&_, cond}
 use mathlib.Core.List.{List}
 use mathlib.Core.Option.{Option}
-use lib.ListN.{length}
+use lib.Dec.{T, leb}
 use borrow.Author.Needs.{needs}
 use borrow.Author.Tests.{not-true, not-false}
 use Rattle.policy.specs.Lists.{every, orElse}
 use Rattle.policy.specs.Contract.{Aid, Tok}
 use Rattle.policy.specs.Layout.{Layout}
-use Rattle.policy.specs.Tables.{Tables}
+use Rattle.policy.specs.Tables.{Tables, Unmet, Waiting, decode}
 use Rattle.policy.specs.Lookup.{numberOf, serviceOf, freeService}
-use Rattle.policy.specs.ShortCheck.{count, fits, notInstalled}
-use Rattle.image.specs.Read.{numberOr}
+use Rattle.policy.specs.Sound.{sound}
+use Rattle.policy.specs.Draft.{installedAid}
+use Rattle.policy.specs.ShortCheck.{count, shortAddService}
+use Rattle.policy.proofs.Formed.{Formed}
+use Rattle.policy.proofs.Found.{NumberIs, number-is}
+use Rattle.policy.proofs.SoundFacts.{sound-formed}
+use Rattle.image.specs.Read.{maskOf, numberOr}
 use Rattle.image.proofs.Laid.{sound-laid}
 use Rattle.image.proofs.Numbers.{package-none, package-some, service-none, service-some, free-service-none, free-service-some}
-use Rattle.engine.specs.Services.{rowGranted, addingPlan}
+use Rattle.engine.specs.Services.{asks, ofService, isLone, byCallers, dueMask, addingAt, addingPlan}
 use Rattle.engine.specs.declared.services.Adding.{Adding}
 use Rattle.engine.specs.declared.services.Adding.the-variants.{Refuse, Add}
 use Rattle.engine.proofs.Remove.{in-range}
+use Rattle.engine.proofs.Settling.{granted-is, room-is}
 
+-- ---- the searches
 module _ (L : Layout) (t : Tables) (a : Aid) (s : Tok) (l : List Aid) where
-  abbrev byLook : ℕ → ℕ → Bool → Bool → Adding
-  byLook j k g f = cond g (cond f (Add j k) (Refuse 11)) (Refuse 8)
-
-  abbrev granted : Bool
-  granted = every (rowGranted L t a s l) (t .unmet)
-
-  abbrev room : Bool
-  room = fits L t (length (t .waiting) + count (notInstalled L t) l)
-
   abbrev byFree : ℕ → Option ℕ → Adding
-  byFree j o = orElse o (Refuse 7) (λ k. byLook j k granted room)
+  byFree j o = orElse o (Refuse 7) (addingAt L t s l j)
 
   abbrev byService : ℕ → Option ℕ → Adding
   byService j o = orElse o (byFree j (freeService L t j)) (λ k. Refuse 6)
 
   module _ (n m j : ℕ) (en : n ≡ L .packages) (em : m ≡ L .services) (p : j ≡ numberOr (L .packages) (numberOf L t a)) where
-    pub plan-absent : n ≤ j → Refuse 5 ≡ addingPlan L t a s l
+    pub plan-absent : n ≤ j → Refuse 5 ≡ addingPlan L t s l a
     plan-absent h = sym (ap (λ (o : Option ℕ). orElse o (Refuse 5) (λ i. byService i (serviceOf L t i s))) (package-none L t a j p (omega arith)))
 
     module _ (h : j < n) (had : ℕ) (q : had ≡ numberOr (L .services) (serviceOf L t j s)) where
-      at-package : byService j (serviceOf L t j s) ≡ addingPlan L t a s l
+      at-package : byService j (serviceOf L t j s) ≡ addingPlan L t s l a
       at-package = sym (ap (λ (o : Option ℕ). orElse o (Refuse 5) (λ i. byService i (serviceOf L t i s))) (package-some L t a j p (omega arith)))
 
-      pub plan-had : had < m → Refuse 6 ≡ addingPlan L t a s l
+      pub plan-had : had < m → Refuse 6 ≡ addingPlan L t s l a
       plan-had g = sym (ap (byService j) (service-some L t j s had q (omega arith))) ∙ at-package
 
       module _ (g : m ≤ had) (k : ℕ) (e : k ≡ numberOr (L .services) (freeService L t j)) where
-        at-free : byFree j (freeService L t j) ≡ addingPlan L t a s l
+        at-free : byFree j (freeService L t j) ≡ addingPlan L t s l a
         at-free = sym (ap (byService j) (service-none L t j s had q (omega arith))) ∙ at-package
 
-        pub plan-full : m ≤ k → Refuse 7 ≡ addingPlan L t a s l
+        pub plan-full : m ≤ k → Refuse 7 ≡ addingPlan L t s l a
         plan-full f = sym (ap (byFree j) (free-service-none L t j k e (omega arith))) ∙ at-free
 
-        module _ (f : k < m) (b : Bool) (x : b ≡ granted) where
-          at-look : byLook j k b room ≡ addingPlan L t a s l
-          at-look = ap (λ (z : Bool). byLook j k z room) x ∙ sym (ap (byFree j) (free-service-some L t j k e (omega arith))) ∙ at-free
+        pub plan-at : (r : Adding) → k < m → r ≡ addingAt L t s l j k → r ≡ addingPlan L t s l a
+        plan-at r f x = x ∙ sym (ap (byFree j) (free-service-some L t j k e (omega arith))) ∙ at-free
 
-          pub plan-ungranted : b ≡ false → Refuse 8 ≡ addingPlan L t a s l
-          plan-ungranted y = sym (ap (λ (z : Bool). byLook j k z room) y) ∙ at-look
+-- the AID of the package that was found
+pub asked-of : (L : Layout) (img : List ℕ) (a : Aid) (s : Tok) → T (sound L img) → (n m j : ℕ) → n ≡ L .packages → j ≡ numberOr (L .packages) (numberOf L (decode L img) a) → j < n
+    → m ≡ maskOf (asks a s) (decode L img .unmet) → m ≡ maskOf (asks (decode L img .aid j) s) (decode L img .unmet)
+asked-of L img a s ok n m j en p h e =
+    let t = decode L img in
+    let q : t .aid j ≡ a = subst (NumberIs t a) (package-some L t a j p (omega arith)) (number-is L t (sound-formed L img ok .names) a) .1 in
+    e ∙ ap (λ (b : Aid). maskOf (asks b s) (t .unmet)) (sym q)
 
-          module _ (y : b ≡ true) (d : Bool) (z : d ≡ room) where
-            at-room : byLook j k true d ≡ addingPlan L t a s l
-            at-room = ap (byLook j k true) z ∙ sym (ap (λ (z : Bool). byLook j k z room) y) ∙ at-look
+pub ruleset adding = (sound-laid, in-range, asked-of, plan-absent, plan-had, plan-full, plan-at, needs)
 
-            pub plan-crowded : d ≡ false → Refuse 11 ≡ addingPlan L t a s l
-            plan-crowded w = sym (ap (byLook j k true) w) ∙ at-room
+-- ---- the checks, on package j with its new service number k
+module _ (L : Layout) (img : List ℕ) (ok : T (sound L img)) (j k : ℕ) (s : Tok) (l : List Aid) (asking granting due : ℕ) (ea : asking ≡ maskOf (asks (decode L img .aid j) s) (decode L img .unmet))
+    (eg : granting ≡ maskOf (ofService j s) (decode L img .waiting))
+    (ed : (f : Waiting → Bool) → granting ≡ maskOf f (decode L img .waiting) → due ≡ maskOf (λ w. f w && installedAid L (decode L img) (w .caller)) (decode L img .waiting))
+    (b : Bool) (eb : (f : Unmet → Bool) → asking ≡ maskOf f (decode L img .unmet) → b ≡ every (byCallers L (decode L img) l due f) (decode L img .unmet)) where
+  abbrev t : Tables
+  t = decode L img
 
-            pub plan-add : d ≡ true → Add j k ≡ addingPlan L t a s l
-            plan-add w = sym (ap (byLook j k true) w) ∙ at-room
+  formed : Formed L t
+  formed = sound-formed L img ok
 
-pub ruleset adding = (sound-laid, in-range, plan-absent, plan-had, plan-full, plan-ungranted, plan-crowded, plan-add, not-true, not-false, needs)
+  due-is : due ≡ dueMask L t s j
+  due-is = ed (ofService j s) eg
+
+  abbrev byLook : Bool → Bool → ℕ → Adding
+  byLook g f d = cond g (cond f (Add j k d) (Refuse 11)) (Refuse 8)
+
+  rights-are : b ≡ shortAddService L t j s l .granted
+  rights-are = eb (asks (t .aid j) s) ea ∙ granted-is L t formed j s due due-is l
+
+  pub lists-ungranted : not b ≡ true → Refuse 8 ≡ addingAt L (decode L img) s l j k
+  lists-ungranted h = ap (λ (g : Bool). byLook g (shortAddService L t j s l .waitingFits) (dueMask L t s j)) (sym (not-true b h) ∙ rights-are)
+
+  module _ (h : not b ≡ false) (room : ℕ) (er : (f : Waiting → Bool) → due ≡ maskOf f (decode L img .waiting) → count (λ w. not (f w)) (decode L img .waiting) + room ≡ L .capacity)
+      (d : Bool) (x : d ≡ leb (count (isLone L granting (decode L img)) l) room) where
+    room-so : d ≡ shortAddService L t j s l .waitingFits
+    room-so = x ∙ room-is L t formed j s l granting room eg (er (λ w. ofService j s w && installedAid L t (w .caller)) due-is)
+
+    at-look : {r : Adding} (e : Bool) → d ≡ e → r ≡ byLook true e due → r ≡ addingAt L t s l j k
+    at-look e q z = z ∙ (λ i. byLook ((sym (not-false b h) ∙ rights-are) i) ((sym q ∙ room-so) i) (due-is i))
+
+    pub lists-crowded : not d ≡ true → Refuse 11 ≡ addingAt L (decode L img) s l j k
+    lists-crowded y = at-look false (not-true d y) (λ i. Refuse 11)
+
+    pub lists-add : not d ≡ false → Add j k due ≡ addingAt L (decode L img) s l j k
+    lists-add y = at-look true (not-false d y) (λ i. Add j k due)

@@ -10,6 +10,9 @@ use Rattle.policy.specs.Tables.{Tables, decode}
 use Rattle.policy.specs.Judge.{Out}
 use Rattle.policy.specs.Settled.{settled, Gives}
 use Rattle.policy.proofs.SoundFacts.{sound-formed}
+use Rattle.geometry.specs.Geometry.{layoutOf}
+use Rattle.geometry.specs.declared.Card.{Card}
+use Rattle.geometry.proofs.Bounds.{early}
 use Rattle.engine.specs.Asked.{Asked}
 use Rattle.engine.specs.Plans.{done, Inside, callPlan, grantPlan, addCallPlan, removeCallPlan, addNeedPlan, removeNeedPlan, addGrantPlan, removeGrantPlan}
 use Rattle.engine.specs.declared.plan.Plan.{Plan}
@@ -22,28 +25,30 @@ pub record Comes (L : Layout) (img : List ℕ) (r : Row) (o : Out) (q : Plan) : 
   pub outcome : o ≡ done L img r q
   pub inside : Inside L (decode L img) r q
 
-module _ (L : Layout) (img : List ℕ) (a : Aid) where
-  module _ (r : Row) where
-    abbrev t : Tables
-    t = decode L img
+module _ (c : Card) (img : List ℕ) (a : Aid) (r : Row) where
+  abbrev L : Layout
+  L = layoutOf c
 
-    pub add-call-comes : Asked L img a (addCall r) → Comes L img r (settled L img a (addCall r)) (callPlan L t (addCallPlan L t r) a r)
-    add-call-comes ask = record { outcome = add-call-planned L img a r ask; inside = add-call-inside L t (sound-formed L img (ask .is-sound)) a r (ask .within .0) }
+  abbrev t : Tables
+  t = decode L img
 
-    pub remove-call-comes : Asked L img a (removeCall r) → Comes L img r (settled L img a (removeCall r)) (callPlan L t (removeCallPlan L t r) a r)
-    remove-call-comes ask = record { outcome = remove-call-planned L img a r ask; inside = remove-call-inside L t (sound-formed L img (ask .is-sound)) a r (ask .within .0) }
+  pub add-call-comes : Asked L img a (addCall r) → Comes L img r (settled L img a (addCall r)) (callPlan L t (addCallPlan L t r) a r)
+  add-call-comes ask = record { outcome = add-call-planned L img a r ask; inside = add-call-inside L t (sound-formed L img (ask .is-sound)) a r (ask .within .0) }
 
-    pub add-grant-comes : Asked L img a (addGrant r) → Comes L img r (settled L img a (addGrant r)) (grantPlan L t (addGrantPlan L t r) a r)
-    add-grant-comes ask = record { outcome = add-grant-planned L img a r ask; inside = add-grant-inside L t (sound-formed L img (ask .is-sound)) a r (ask .within .0) }
+  pub remove-call-comes : Asked L img a (removeCall r) → Comes L img r (settled L img a (removeCall r)) (callPlan L t (removeCallPlan L t r) a r)
+  remove-call-comes ask = record { outcome = remove-call-planned L img a r ask; inside = remove-call-inside L t (sound-formed L img (ask .is-sound)) a r (ask .within .0) }
 
-    pub remove-grant-comes : Asked L img a (removeGrant r) → Comes L img r (settled L img a (removeGrant r)) (grantPlan L t (removeGrantPlan L t r) a r)
-    remove-grant-comes ask = record { outcome = remove-grant-planned L img a r ask; inside = remove-grant-inside L t (sound-formed L img (ask .is-sound)) a r (ask .within .0) }
+  pub add-grant-comes : Asked L img a (addGrant r) → Comes L img r (settled L img a (addGrant r)) (grantPlan L t (addGrantPlan L t r) a r)
+  add-grant-comes ask = record { outcome = add-grant-planned L img a r (early c) ask; inside = add-grant-inside L t (sound-formed L img (ask .is-sound)) a r (ask .within .0) }
 
-    pub add-need-comes : Asked L img a (addNeed r) → Comes L img r (settled L img a (addNeed r)) (callPlan L t (addNeedPlan L t r) a r)
-    add-need-comes ask = record { outcome = add-need-planned L img a r ask; inside = add-need-inside L t (sound-formed L img (ask .is-sound)) a r (ask .within .0) }
+  pub remove-grant-comes : Asked L img a (removeGrant r) → Comes L img r (settled L img a (removeGrant r)) (grantPlan L t (removeGrantPlan L t r) a r)
+  remove-grant-comes ask = record { outcome = remove-grant-planned L img a r ask; inside = remove-grant-inside L t (sound-formed L img (ask .is-sound)) a r (ask .within .0) }
 
-    pub remove-need-comes : Asked L img a (removeNeed r) → Comes L img r (settled L img a (removeNeed r)) (callPlan L t (removeNeedPlan L t r) a r)
-    remove-need-comes ask = record { outcome = remove-need-planned L img a r ask; inside = remove-need-inside L t (sound-formed L img (ask .is-sound)) a r (ask .within .0) }
+  pub add-need-comes : Asked L img a (addNeed r) → Comes L img r (settled L img a (addNeed r)) (callPlan L t (addNeedPlan L t r) a r)
+  add-need-comes ask = record { outcome = add-need-planned L img a r ask; inside = add-need-inside L t (sound-formed L img (ask .is-sound)) a r (ask .within .0) }
+
+  pub remove-need-comes : Asked L img a (removeNeed r) → Comes L img r (settled L img a (removeNeed r)) (callPlan L t (removeNeedPlan L t r) a r)
+  remove-need-comes ask = record { outcome = remove-need-planned L img a r ask; inside = remove-need-inside L t (sound-formed L img (ask .is-sound)) a r (ask .within .0) }
 
 module _ (L : Layout) (img : List ℕ) (r : Row) (p q : Plan) where
   pub comes-inside : (o : Out) → p ≡ q → Comes L img r o q → Inside L (decode L img) r p

@@ -1,27 +1,26 @@
--- Kind 2: the tables that the writes leave are the draft's, and an accepted removal has room. Assumes nothing.
-use Prim.Native.Nat.{ℕ, _≤_}
-use native.Mathlib.Omega.{arith}
+-- Kinds 2 and 4: the tables that the writes leave are the draft's. Assumes nothing.
+use Prim.Native.Nat.{ℕ, _<_}
 use mathlib.Core.Path.{_≡_, sym, ap, _∙_}
-use mathlib.Core.Bool.{Bool, true, false, not, _&&_, _||_, cond}
-use mathlib.Core.List.{[], _++_}
-use lib.Dec.{T, eqb, leb→le}
+use mathlib.Core.Bool.{true, false, not, _&&_, _||_, cond}
+use mathlib.Core.List.{List, [], _++_, map}
+use lib.Dec.{eqb}
 use Rattle.policy.specs.Lists.{keep}
-use Rattle.policy.specs.Contract.{Aid}
+use Rattle.policy.specs.Contract.{Aid, eqTok}
 use Rattle.policy.specs.Layout.{Layout}
-use Rattle.policy.specs.Causes.{answer}
-use Rattle.policy.specs.Tables.{Tables, noTok, bit}
-use Rattle.policy.specs.Draft.{put, leftBy, removeAt}
-use Rattle.policy.specs.ShortCheck.{shortRemove}
-use Rattle.policy.specs.Judge.{lookCauses}
-use Rattle.engine.specs.Removals.{leftRows, waitRows, RoomWithout, listsWithout, tablesWithout}
-use Rattle.engine.proofs.Counts.{full, left-rows-are, wait-rows-are}
+use Rattle.policy.specs.Tables.{Tables, Waiting, noTok}
+use Rattle.policy.specs.Lookup.{numbers}
+use Rattle.policy.specs.Draft.{put, put2, removeAt, waitingWithout, removeServiceAt}
+use Rattle.geometry.specs.declared.Table.the-variants.{Calls, Grants}
+use Rattle.geometry.specs.declared.Kept.the-variants.{UnmetCalls, WaitingGrants}
+use Rattle.image.specs.Wrote.{inColumn, inRow}
+use Rattle.engine.specs.Removals.{leftRows, leftBits, listsWithout, tablesWithout, listsWithoutService, tablesWithoutService}
+use Rattle.engine.proofs.Counts.{calls-left, grants-left, service-calls-left, service-grants-left}
 
-module _ (L : Layout) (t : Tables) (n : ℕ) where
-  pub removed-is : L .services ≤ 16 → (a : Aid) → t .aid n ≡ a → tablesWithout n (listsWithout L t a n) ≡ removeAt L t n .tables
-  removed-is low a e =
-      let left : leftRows L t a n (bit 65535) ≡ leftBy L t (t .calls) n (λ k. true) =
-      ap (λ (x : Aid). leftRows L t x n (bit 65535)) (sym e) ∙ left-rows-are L t (bit 65535) (λ k. true) (λ k h. full k (omega arith)) n in
-      let waits = ap (λ (x : Aid). waitRows L t x n) (sym e) ∙ wait-rows-are L t (t .aid n) n in
+module _ (L : Layout) (t : Tables) where
+  pub removed-is : (n : ℕ) (a : Aid) → t .aid n ≡ a → tablesWithout n (listsWithout L t a n) ≡ removeAt L t n .tables
+  removed-is n a e =
+      let calls = ap (λ (x : Aid). leftRows L UnmetCalls t Calls x n) (sym e) ∙ calls-left L t n in
+      let grants = ap (λ (x : Aid). leftRows L WaitingGrants t Grants x n) (sym e) ∙ grants-left L t (t .aid n) n in
       λ z. record {
         used = put n false (t .used);
         aid = put n [] (t .aid);
@@ -30,18 +29,27 @@ module _ (L : Layout) (t : Tables) (n : ℕ) where
         calls = λ x y z. t .calls x y z && not (eqb x n || eqb y n);
         grants = λ x y z. t .grants x y z && not (eqb x n || eqb y n);
         needs = λ x y z. t .needs x y z && not (eqb x n || eqb y n);
-        unmet = keep (λ u. not (eqb (u .caller) n)) (t .unmet) ++ left z;
-        waiting = keep (λ w. not (eqb (w .callee) n)) (t .waiting) ++ waits z;
+        unmet = keep (λ u. not (eqb (u .caller) n)) (t .unmet) ++ calls z;
+        waiting = keep (λ w. not (eqb (w .callee) n)) (t .waiting) ++ grants z;
       }
 
-  pub removed-room : (m : ℕ) → m ≡ answer (lookCauses (shortRemove L t n)) → m ≡ 0 → RoomWithout L t n
-  removed-room m e z =
-      let k = shortRemove L t n in
-      let f = go (k .needed) (k .unmetFits) (k .waitingFits) (sym z ∙ e) in
-      (leb→le _ (L .capacity) (f .0), leb→le _ (L .capacity) (f .1))
-    where
-      go : (b u w : Bool) → 0 ≡ answer (lookCauses (record { granted = true; needed = b; unmetFits = u; waitingFits = w })) → T u × T w
-      go true true true h = (tt, tt)
-      go true true false h = absurd (omega arith)
-      go true false w h = absurd (omega arith)
-      go false u w h = absurd (omega arith)
+  -- R-2: the grants wait
+  module _ (ey : L .early ≡ true) (j k : ℕ) where
+    waiting-is : t .waiting ++ leftBits L WaitingGrants t Grants j k ≡ waitingWithout L t j k
+    waiting-is =
+        ap (λ (m : List Waiting). t .waiting ++ m) (service-grants-left L t j k)
+        ∙ (λ z. cond (sym ey z) (t .waiting ++ map (λ i. record { caller = t .aid i; callee = j; tok = t .tok j k }) (keep (λ i. t .grants j i k) (numbers L)))
+        (keep (λ w. not (eqb (w .callee) j && eqTok (w .tok) (t .tok j k))) (t .waiting)))
+
+    pub service-is : k < L .services → tablesWithoutService j k (listsWithoutService L t j k) ≡ removeServiceAt L t j k .tables
+    service-is h = λ z. record {
+      used = t .used;
+      aid = t .aid;
+      tok = put2 j k noTok (t .tok);
+      provides = put2 j k false (t .provides);
+      calls = inColumn j k (t .calls);
+      grants = inRow j k (t .grants);
+      needs = inColumn j k (t .needs);
+      unmet = t .unmet ++ service-calls-left L t j k h z;
+      waiting = waiting-is z;
+    }

@@ -10,22 +10,25 @@ use Rattle.policy.specs.Lists.{orElse}
 use Rattle.policy.specs.Contract.{Aid, Row, validAid}
 use Rattle.policy.specs.Layout.{Layout}
 use Rattle.policy.specs.Tables.{Tables}
-use Rattle.policy.specs.Lookup.{Place, numberOf, serviceOf, serverOf}
+use Rattle.policy.specs.Lookup.{Place, Spot, numberOf, serverOf, spotOf}
 use Rattle.policy.proofs.Sets.{and-r}
 use Rattle.policy.proofs.Formed.{Formed}
-use Rattle.policy.proofs.Found.{NumberIs, ServiceIs, ServerIs, number-is, service-is, server-is}
+use Rattle.policy.proofs.Found.{NumberIs, ServerIs, SpotIs, number-is, server-is, spot-is}
 use Rattle.geometry.specs.declared.Table.the-variants.{Calls, Grants, Needs}
-use Rattle.engine.specs.Plans.{Inside, CallIn, GrantIn, unmetMask, waitingMask, callAt, callSpot, grantAt, grantSpot, callPlan, grantPlan}
+use Rattle.geometry.specs.declared.Kept.{Kept}
+use Rattle.geometry.specs.declared.Kept.the-variants.{UnmetCalls, WaitingGrants}
+use Rattle.image.specs.Read.{itemsOf}
+use Rattle.engine.specs.Plans.{Inside, CallIn, GrantIn, rowMask, callAt, callSpot, grantIs, grantSpot, callPlan, grantPlan, addRow, dropRow}
 use Rattle.engine.specs.Plans.{addCallPlan, removeCallPlan, addNeedPlan, removeNeedPlan, addGrantPlan, removeGrantPlan}
 use Rattle.engine.specs.declared.plan.CallSpot.{CallSpot}
 use Rattle.engine.specs.declared.plan.CallSpot.the-variants.{Unserved, Served}
 use Rattle.engine.specs.declared.plan.CallSpot.the-variants as call
 use Rattle.engine.specs.declared.plan.GrantSpot.{GrantSpot}
-use Rattle.engine.specs.declared.plan.GrantSpot.the-variants.{Unprovided, Away, Installed}
+use Rattle.engine.specs.declared.plan.GrantSpot.the-variants.{Waits, Granted}
 use Rattle.engine.specs.declared.plan.GrantSpot.the-variants as grant
 use Rattle.engine.specs.declared.plan.Plan.{Plan}
 use Rattle.engine.specs.declared.plan.Plan.the-variants.{Refuse, Accept}
-use Rattle.engine.specs.declared.plan.Edit.the-variants.{Set, Clear, Uncall, AddUnmet, DropUnmet, AddWaiting, DropWaiting}
+use Rattle.engine.specs.declared.plan.Edit.the-variants.{Set, Clear, Uncall, Add, Drop}
 
 module _ (L : Layout) (t : Tables) (formed : Formed L t) (a : Aid) (r : Row) (va : T (validAid (r .aid))) where
   short : length (r .aid) ≤ 16
@@ -52,27 +55,28 @@ module _ (L : Layout) (t : Tables) (formed : Formed L t) (a : Aid) (r : Row) (va
   grant-in : GrantIn L (grantSpot L t a r)
   grant-in = go (numberOf L t a) (number-is L t (formed .names) a)
     where
-      by-caller : (j k : ℕ) → j < L .packages → k < L .services → (o : Option ℕ) → NumberIs t (r .aid) o → GrantIn L (grantAt L t a r j k o)
-      by-caller j k l m none s = (l, m)
-      by-caller j k l m (some i) s = (l, formed .names .used-lt i (s .0), m)
+      by-spot : (j : ℕ) → j < L .packages → (o : Option Spot) → SpotIs t j r o → GrantIn L (grantIs L t a r j o)
+      by-spot j l none s = l
+      by-spot j l (some p) s = (l, formed .names .used-lt (p .caller) (s .0), formed .names .prov-lt j (p .service) (s .2))
 
-      by-service : (j : ℕ) → j < L .packages → (o : Option ℕ) → ServiceIs t j (r .tok) o → GrantIn L (orElse o Unprovided (λ k. grantAt L t a r j k (numberOf L t (r .aid))))
-      by-service j l none s = tt
-      by-service j l (some k) s = by-caller j k l (formed .names .prov-lt j k (s .0)) (numberOf L t (r .aid)) (number-is L t (formed .names) (r .aid))
-
-      go : (o : Option ℕ) → NumberIs t a o
-          → GrantIn L (orElse o grant.Absent (λ j. orElse (serviceOf L t j (r .tok)) Unprovided (λ k. grantAt L t a r j k (numberOf L t (r .aid)))))
+      go : (o : Option ℕ) → NumberIs t a o → GrantIn L (orElse o grant.Absent (λ j. grantIs L t a r j (spotOf L t j r)))
       go none n = tt
-      go (some j) n = by-service j (formed .names .used-lt j (n .0)) (serviceOf L t j (r .tok)) (service-is L t (formed .names) j (r .tok))
+      go (some j) n = by-spot j (formed .names .used-lt j (n .0)) (spotOf L t j r) (spot-is L t (formed .names) j r)
 
   -- ---- so is each plan
+  add-row-inside : (l : Kept) (n full : ℕ) → n < L .packages → Inside L t r (addRow L t r l n full)
+  add-row-inside l n full h = by-test (eqb (rowMask l t n r) 0) _ (Refuse 6)
+      (λ e. by-test (ltb (length (itemsOf l t)) (L .capacity)) (Accept n (Add l)) (Refuse full) (λ e. (h, (ltb-true (length (itemsOf l t)) (L .capacity) e, (short, h)))) (λ e. tt)) (λ e. tt)
+
+  drop-row-inside : (l : Kept) (n : ℕ) → n < L .packages → Inside L t r (dropRow L t r l n)
+  drop-row-inside l n h = by-test (eqb (rowMask l t n r) 0) (Refuse 6) (Accept n (Drop l (rowMask l t n r))) (λ e. tt) (λ e. (h, tt))
+
   pub add-call-inside : Inside L t r (callPlan L t (addCallPlan L t r) a r)
   add-call-inside = go (callSpot L t a r) call-in
     where
       go : (s : CallSpot) → CallIn L s → Inside L t r (addCallPlan L t r s)
       go call.Absent h = tt
-      go (Unserved i) h = by-test (eqb (unmetMask t i r) 0) _ (Refuse 6)
-          (λ e. by-test (ltb (length (t .unmet)) (L .capacity)) (Accept i AddUnmet) (Refuse 10) (λ e. (h, (ltb-true (length (t .unmet)) (L .capacity) e, (short, h)))) (λ e. tt)) (λ e. tt)
+      go (Unserved i) h = add-row-inside UnmetCalls i 10 h
       go (Served i j k) h = by-test (t .calls i j k) (Refuse 6) _ (λ e. tt) (λ e. by-test (t .grants j i k) (Accept i (Set Calls j k)) (Refuse 8) (λ e. (h .0, h)) (λ e. tt))
 
   pub remove-call-inside : Inside L t r (callPlan L t (removeCallPlan L t r) a r)
@@ -80,7 +84,7 @@ module _ (L : Layout) (t : Tables) (formed : Formed L t) (a : Aid) (r : Row) (va
     where
       go : (s : CallSpot) → CallIn L s → Inside L t r (removeCallPlan L t r s)
       go call.Absent h = tt
-      go (Unserved i) h = by-test (eqb (unmetMask t i r) 0) (Refuse 6) (Accept i (DropUnmet (unmetMask t i r))) (λ e. tt) (λ e. (h, tt))
+      go (Unserved i) h = drop-row-inside UnmetCalls i h
       go (Served i j k) h = by-test (t .calls i j k) (Accept i (Uncall j k)) (Refuse 6) (λ e. (h .0, h)) (λ e. tt)
 
   pub add-grant-inside : Inside L t r (grantPlan L t (addGrantPlan L t r) a r)
@@ -88,26 +92,23 @@ module _ (L : Layout) (t : Tables) (formed : Formed L t) (a : Aid) (r : Row) (va
     where
       go : (s : GrantSpot) → GrantIn L s → Inside L t r (addGrantPlan L t r s)
       go grant.Absent h = tt
-      go Unprovided h = tt
-      go (Away j k) h = by-test (eqb (waitingMask t j k (r .aid)) 0) _ (Refuse 6)
-          (λ e. by-test (ltb (length (t .waiting)) (L .capacity)) (Accept j (AddWaiting k)) (Refuse 11) (λ e. (h .0, (ltb-true (length (t .waiting)) (L .capacity) e, (short, h)))) (λ e. tt)) (λ e. tt)
-      go (Installed j i k) h = by-test (t .grants j i k) (Refuse 6) (Accept j (Set Grants i k)) (λ e. tt) (λ e. (h .0, h))
+      go (Waits j) h = add-row-inside WaitingGrants j 11 h
+      go (Granted j i k) h = by-test (t .grants j i k) (Refuse 6) (Accept j (Set Grants i k)) (λ e. tt) (λ e. (h .0, h))
 
   pub remove-grant-inside : Inside L t r (grantPlan L t (removeGrantPlan L t r) a r)
   remove-grant-inside = go (grantSpot L t a r) grant-in
     where
       go : (s : GrantSpot) → GrantIn L s → Inside L t r (removeGrantPlan L t r s)
       go grant.Absent h = tt
-      go Unprovided h = tt
-      go (Away j k) h = by-test (eqb (waitingMask t j k (r .aid)) 0) (Refuse 6) (Accept j (DropWaiting (waitingMask t j k (r .aid)))) (λ e. tt) (λ e. (h .0, tt))
-      go (Installed j i k) h = by-test (t .grants j i k) _ (Refuse 6) (λ e. by-test (t .calls i j k) (Refuse 8) (Accept j (Clear Grants i k)) (λ e. tt) (λ e. (h .0, h))) (λ e. tt)
+      go (Waits j) h = drop-row-inside WaitingGrants j h
+      go (Granted j i k) h = by-test (t .grants j i k) _ (Refuse 6) (λ e. by-test (t .calls i j k) (Refuse 8) (Accept j (Clear Grants i k)) (λ e. tt) (λ e. (h .0, h))) (λ e. tt)
 
   pub add-need-inside : Inside L t r (callPlan L t (addNeedPlan L t r) a r)
   add-need-inside = go (callSpot L t a r) call-in
     where
       go : (s : CallSpot) → CallIn L s → Inside L t r (addNeedPlan L t r s)
       go call.Absent h = tt
-      go (Unserved i) h = by-test (eqb (unmetMask t i r) 0) (Refuse 6) (Refuse 9) (λ e. tt) (λ e. tt)
+      go (Unserved i) h = by-test (eqb (rowMask UnmetCalls t i r) 0) (Refuse 6) (Refuse 9) (λ e. tt) (λ e. tt)
       go (Served i j k) h = by-test (t .calls i j k) _ (Refuse 6) (λ e. by-test (t .needs i j k) (Refuse 6) (Accept i (Set Needs j k)) (λ e. tt) (λ e. (h .0, h))) (λ e. tt)
 
   pub remove-need-inside : Inside L t r (callPlan L t (removeNeedPlan L t r) a r)

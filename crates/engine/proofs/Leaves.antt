@@ -1,12 +1,13 @@
 -- Rows and counts gathered number by number: what a loop that appends or adds has done. Assumes nothing.
-use Prim.Native.Nat.{ℕ, zero, suc, _+_, _-_, _≤_, _<_}
+use Prim.Native.Nat.{ℕ, zero, suc, _+_, _*_, _-_, _≤_, _<_}
 use native.Mathlib.Omega.{arith}
 use native.Mathlib.Nat.{add-zero, zero-add, add-assoc}
 use mathlib.Core.Path.{_≡_, refl, sym, ap, ap₂, _∙_}
 use mathlib.Core.Bool.{Bool, true, false, not, cond}
 use mathlib.Core.List.{List, [], _∷_, _++_, map, append-nil}
-use mathlib.Core.List.{List·Memᴰ as In, List·Memᴰ·head as here, List·Memᴰ·tail as there}
 use lib.ListN.{length, length-append}
+use mir.Syntax.{w64}
+use mir.Val.{Fits}
 use Rattle.policy.specs.Lists.{keep, flat, upto}
 use Rattle.policy.specs.ShortCheck.{count, sum}
 use Rattle.policy.proofs.Sets.{flat-append, flat-ext, pairs}
@@ -50,19 +51,6 @@ only-keep {A} f g (x ∷ l) = go (f x) (only-keep f g l)
     go true e = ap (λ (z : List A). g x ∷ z) e
     go false e = e
 
--- ---- sums
-module _ (f : ℕ → ℕ) where
-  sum-append : (l m : List ℕ) → sum f (l ++ m) ≡ sum f l + sum f m
-  sum-append [] m = sym (zero-add (sum f m))
-  sum-append (x ∷ l) m = ap (λ (n : ℕ). f x + n) (sum-append l m) ∙ sym (add-assoc (f x) (sum f l) (sum f m))
-
-  pub sum-snoc : (i : ℕ) → sum f (upto (i + 1)) ≡ sum f (upto i) + f i
-  sum-snoc i = ap (sum f) (upto-split i 1) ∙ sum-append (upto i) (i ∷ []) ∙ ap (λ (n : ℕ). sum f (upto i) + n) (add-zero (f i))
-
-pub sum-ext : (f g : ℕ → ℕ) (l : List ℕ) → ((x : ℕ) → In x l → f x ≡ g x) → sum f l ≡ sum g l
-sum-ext f g [] e = refl
-sum-ext f g (x ∷ l) e = ap₂ (λ (a b : ℕ). a + b) (e x (here refl)) (sum-ext f g l (λ y m. e y (there m)))
-
 -- the rows of pairs of numbers, and how many they are
 module _ {A : Type 0} (g : ℕ → ℕ → A) (f : ℕ → ℕ → Bool) (l m : List ℕ) where
   pub only-pairs : flat (λ i. flat (λ k. only (f i k) (g i k)) l) m ≡ pairs g f l m
@@ -70,6 +58,52 @@ module _ {A : Type 0} (g : ℕ → ℕ → A) (f : ℕ → ℕ → Bool) (l m : 
 
   pub length-only : length (flat (λ i. flat (λ k. only (f i k) (g i k)) l) m) ≡ sum (λ i. count (f i) l) m
   length-only = ap length only-pairs ∙ length-pairs g f l m
+
+-- ---- sums
+module _ (f : ℕ → ℕ) where
+  sum-append : (l m : List ℕ) → sum f (l ++ m) ≡ sum f l + sum f m
+  sum-append [] m = sym (zero-add (sum f m))
+  sum-append (x ∷ l) m = ap (λ (n : ℕ). f x + n) (sum-append l m) ∙ sym (add-assoc (f x) (sum f l) (sum f m))
+
+  sum-snoc : (i : ℕ) → sum f (upto (i + 1)) ≡ sum f (upto i) + f i
+  sum-snoc i = ap (sum f) (upto-split i 1) ∙ sum-append (upto i) (i ∷ []) ∙ ap (λ (n : ℕ). sum f (upto i) + n) (add-zero (f i))
+
+-- the first i of n numbers have given the total, at most 16 each
+pub record Tally (f : ℕ → ℕ) (n i total : ℕ) : Type 0 where
+  pub within : i ≤ n
+  pub is : total ≡ sum f (upto i)
+  pub low : total ≤ i * 16
+
+module _ (f : ℕ → ℕ) where
+  pub tally-start : {n : ℕ} → Tally f n 0 0
+  tally-start = record { within = omega arith; is = refl; low = omega arith }
+
+  module _ {n i total : ℕ} (t : Tally f n i total) where
+    pub tally-less : i < n → n - (i + 1) < n - i
+    tally-less l = omega arith
+
+    pub tally-next : i < n → {m : ℕ} → n ≡ m → m ≤ 16 → Fits w64 (i + 1)
+    tally-next l e k = omega arith
+
+    -- q is what number i gives
+    module _ (l : i < n) (q : ℕ) (h : q ≤ 16) where
+      pub tally-fits : {m : ℕ} → n ≡ m → m ≤ 16 → Fits w64 (total + q)
+      tally-fits e k = omega (arith, t .low)
+
+      pub tally-turn : q ≡ f i → Tally f n (i + 1) (total + q)
+      tally-turn e = record { within = omega arith; is = ap₂ (λ (x y : ℕ). x + y) (t .is) e ∙ sym (sum-snoc f i); low = omega (arith, t .low) }
+
+    pub tally-end : {m : ℕ} → n ≡ m → n ≤ i → m ≤ 16 → (total ≡ sum f (upto m)) × (total ≤ 256)
+    tally-end {m} s l h = let w = t .within in let q : i ≡ m = omega arith in (t .is ∙ ap (λ (x : ℕ). sum f (upto x)) q, omega (arith, t .low))
+
+-- as many as pass
+pub sum-count : (g : ℕ → Bool) (l : List ℕ) → sum (λ i. cond (g i) 1 0) l ≡ count g l
+sum-count g [] = refl
+sum-count g (x ∷ l) = go (g x) (sum-count g l)
+  where
+    go : (b : Bool) → sum (λ i. cond (g i) 1 0) l ≡ count g l → cond b 1 0 + sum (λ i. cond (g i) 1 0) l ≡ length (cond b (x ∷ keep g l) (keep g l))
+    go true e = omega arith
+    go false e = omega arith
 
 -- those that do not pass, by those that do
 pub count-others : {A : Type 0} (f : A → Bool) (l : List A) → count (λ x. not (f x)) l + count f l ≡ length l

@@ -16,6 +16,7 @@ pub mod Gone
 pub mod Remove
 pub mod Clearing
 pub mod Service
+pub mod Settles
 pub mod Callers
 pub mod Added
 pub mod Marks

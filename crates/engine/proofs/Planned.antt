@@ -1,44 +1,45 @@
 -- The plan of a record of kinds 5 to 10 comes to its outcome. Assumes nothing.
 use Prim.Native.Nat.{ℕ, zero, suc}
 use mathlib.Core.Path.{_≡_, refl, sym, ap, _∙_, subst}
-use mathlib.Core.Bool.{Bool, true, false, not, _&&_, _||_, cond, and-assoc}
+use mathlib.Core.Bool.{Bool, true, false, not, _&&_, _||_, cond, and-comm}
 use mathlib.Core.List.{List, [], _∷_}
 use mathlib.Core.Option.{Option, none, some}
 use lib.Dec.{T, eqb, ltb}
 use lib.ListN.{length}
 use borrow.Author.Tests.{eq-eqb, ne-eqb}
 use Rattle.policy.specs.Lists.{exists, keep, isSome, orElse}
-use Rattle.policy.specs.Contract.{Aid, eqAid, Row, hasTok, hasRow}
+use Rattle.policy.specs.Contract.{Aid, eqAid, eqTok, Row, hasTok, hasRow}
 use Rattle.policy.specs.Layout.{Layout}
 use Rattle.policy.specs.Record.{Change, addCall, removeCall, addGrant, removeGrant, addNeed, removeNeed}
 use Rattle.policy.specs.Causes.{_when_, answer}
-use Rattle.policy.specs.Tables.{Tables, Unmet, Waiting, decode, encode}
-use Rattle.policy.specs.Lookup.{Place, numberOf, serviceOf, serverOf, freeNumber, contractAt}
+use Rattle.policy.specs.Tables.{Tables, Unmet, Waiting, decode}
+use Rattle.policy.specs.Lookup.{Place, Spot, numberOf, serverOf, spotOf, freeNumber, contractAt}
 use Rattle.policy.specs.Sound.{sound, eqUnmet, eqWaiting}
-use Rattle.policy.specs.Draft.{Draft, Look, kept, draft, numberFor, callRow, hasUnmet, hasWaiting}
+use Rattle.policy.specs.Draft.{Draft, Look, kept, draft, numberFor, callRow, grantRow, hasUnmet, hasWaiting}
 use Rattle.policy.specs.Draft.{addCallAt, removeCallAt, addGrantAt, removeGrantAt, addNeedAt, removeNeedAt}
 use Rattle.policy.specs.ShortCheck.{fine, shortLook, shortAddCall, shortAddGrant, shortRemoveGrant, shortAddNeed}
-use Rattle.policy.specs.Judge.{Out, tableCauses, lookCauses, judged, absent}
+use Rattle.policy.specs.Judge.{Out, tableCauses, lookCauses, judged, absent, holds}
 use Rattle.policy.specs.Settled.{settled}
 use Rattle.policy.proofs.Sets.{T-eq, true-T, false-T}
 use Rattle.policy.proofs.Equal.{eqUnmet→, eqUnmet-refl, eqWaiting→, eqWaiting-refl}
 use Rattle.policy.proofs.SoundFacts.{sound-formed}
-use Rattle.policy.proofs.HasRow.{has-tok-is, has-call-is, has-need-is, has-grant-is}
+use Rattle.policy.proofs.HasRow.{has-call-is, has-need-is, has-grant-is}
 use Rattle.policy.proofs.Settled.{settled-refused, settled-short, settled-accepted}
 use Rattle.rows.specs.Area.{keepRows}
 use Rattle.image.proofs.Masks.{mask-zero, zero-mask, keep-mask}
-use Rattle.image.specs.Laid.{withUnmet, withWaiting}
-use Rattle.image.specs.Read.{maskOf}
+use Rattle.image.specs.Laid.{withItems}
+use Rattle.image.specs.Read.{Item, itemsOf, item, itemAid, itemTok, itemNumber, maskOf}
 use Rattle.geometry.specs.declared.Table.the-variants.{Calls, Grants, Needs}
+use Rattle.geometry.specs.declared.Kept.{Kept}
+use Rattle.geometry.specs.declared.Kept.the-variants.{UnmetCalls, WaitingGrants}
 use Rattle.engine.specs.Asked.{Asked}
-use Rattle.engine.specs.Plans.{unmetMask, waitingMask, done, callAt, callPlan, grantAt, grantPlan, addCallPlan, removeCallPlan, addNeedPlan, removeNeedPlan, addGrantPlan, removeGrantPlan}
+use Rattle.engine.specs.Plans.{rowMask, edited, done, callAt, callPlan, grantIs, grantPlan, addRow, dropRow}
+use Rattle.engine.specs.Plans.{addCallPlan, removeCallPlan, addNeedPlan, removeNeedPlan, addGrantPlan, removeGrantPlan}
 use Rattle.engine.specs.declared.plan.CallSpot.the-variants as call
-use Rattle.engine.specs.declared.plan.GrantSpot.{GrantSpot}
 use Rattle.engine.specs.declared.plan.GrantSpot.the-variants as grant
-use Rattle.engine.specs.declared.plan.GrantSpot.the-variants.{Unprovided}
 use Rattle.engine.specs.declared.plan.Plan.{Plan}
 use Rattle.engine.specs.declared.plan.Plan.the-variants.{Refuse, Accept}
-use Rattle.engine.specs.declared.plan.Edit.the-variants.{Set, Clear, Uncall, AddUnmet, DropUnmet, AddWaiting, DropWaiting}
+use Rattle.engine.specs.declared.plan.Edit.the-variants.{Set, Clear, Uncall, Add, Drop}
 
 -- ---- masks of the rows that are one row
 module _ {A : Type 0} (eq : A → A → Bool) (x : A) (f : A → Bool) (same : f ≡ eq x) (l : List A) where
@@ -59,15 +60,37 @@ unmet-same u = λ z v. T-eq (eqUnmet v u) (eqUnmet u v) (flip v u) (flip u v) z
     flip : (v w : Unmet) → T (eqUnmet v w) → T (eqUnmet w v)
     flip v w h = subst (λ (z : Unmet). T (eqUnmet z v)) (eqUnmet→ v w h) (eqUnmet-refl v)
 
-pub waiting-same : (j k : ℕ) (a : Aid)
-    → (λ (w : Waiting). eqAid (w .caller) a && (eqb (w .callee) j && eqb (w .service) k)) ≡ eqWaiting (record { caller = a; callee = j; service = k })
-waiting-same j k a = λ z w. (sym (and-assoc (eqAid (w .caller) a) (eqb (w .callee) j) (eqb (w .service) k)) ∙ T-eq (eqWaiting w v) (eqWaiting v w) (flip w v) (flip v w)) z
+pub waiting-same : (w : Waiting) → (λ (v : Waiting). eqWaiting v w) ≡ eqWaiting w
+waiting-same w = λ z v. T-eq (eqWaiting v w) (eqWaiting w v) (flip v w) (flip w v) z
   where
-    v : Waiting
-    v = record { caller = a; callee = j; service = k }
-
     flip : (v w : Waiting) → T (eqWaiting v w) → T (eqWaiting w v)
     flip v w h = subst (λ (z : Waiting). T (eqWaiting z v)) (eqWaiting→ v w h) (eqWaiting-refl v)
+
+-- ---- the two lists alike: which items are the row r of package n
+abbrev pub eqItem : (l : Kept) → Item l → Item l → Bool
+eqItem UnmetCalls u v = eqUnmet u v
+eqItem WaitingGrants v w = eqWaiting v w
+
+abbrev pub isRow : (l : Kept) → ℕ → Row → Item l → Bool
+isRow l n r x = eqAid (itemAid l x) (r .aid) && eqTok (itemTok l x) (r .tok) && eqb (itemNumber l x) n
+
+pub row-same : (l : Kept) (n : ℕ) (r : Row) → isRow l n r ≡ eqItem l (item l (r .aid) (r .tok) n)
+row-same UnmetCalls n r = unmet-same (callRow n r)
+row-same WaitingGrants n r = (λ z w. swap (eqAid (w .caller) (r .aid)) (eqTok (w .tok) (r .tok)) (eqb (w .callee) n) z) ∙ waiting-same (grantRow n r)
+  where
+    swap : (a b c : Bool) → a && b && c ≡ a && c && b
+    swap false b c = refl
+    swap true b c = and-comm b c
+
+-- the list has the row r of package n
+abbrev pub hasItem : Kept → Tables → ℕ → Row → Bool
+hasItem l t n r = exists (eqItem l (item l (r .aid) (r .tok) n)) (itemsOf l t)
+
+pub row-none : (l : Kept) (t : Tables) (n : ℕ) (r : Row) → eqb (rowMask l t n r) 0 ≡ not (hasItem l t n r)
+row-none l t n r = mask-has (eqItem l) (item l (r .aid) (r .tok) n) (isRow l n r) (row-same l n r) (itemsOf l t)
+
+pub row-drops : (l : Kept) (t : Tables) (n : ℕ) (r : Row) → keepRows (rowMask l t n r) (itemsOf l t) ≡ keep (λ x. not (eqItem l (item l (r .aid) (r .tok) n) x)) (itemsOf l t)
+row-drops l t n r = mask-drops (eqItem l) (item l (r .aid) (r .tok) n) (isRow l n r) (row-same l n r) (itemsOf l t)
 
 -- the answer of causes 4 to 7, or that of causes 8 to 11 where it is 0
 abbrev pub firstOf : ℕ → ℕ → ℕ
@@ -109,43 +132,53 @@ module _ (L : Layout) (img : List ℕ) (a : Aid) (r : Row) where
         go none = ap (done L img r) (sym five)
         go (some i) = h i
 
-  -- ---- the rows of the lists
-  abbrev asked : ℕ → ℕ → Waiting
-  asked j k = record { caller = r .aid; callee = j; service = k }
+  -- ---- a row added to a list, and dropped from it
+  abbrev fitsIn : Kept → Bool → Look
+  fitsIn UnmetCalls f = record { granted = true; needed = true; unmetFits = f; waitingFits = true }
+  fitsIn WaitingGrants f = record { granted = true; needed = true; unmetFits = true; waitingFits = f }
 
-  unmet-none : (i : ℕ) → eqb (unmetMask t i r) 0 ≡ not (hasUnmet (callRow i r) (t .unmet))
-  unmet-none i = mask-has eqUnmet (callRow i r) (λ u. eqUnmet u (callRow i r)) (unmet-same (callRow i r)) (t .unmet)
+  -- the cause for a list that is full
+  abbrev fullIn : Kept → ℕ
+  fullIn UnmetCalls = 10
+  fullIn WaitingGrants = 11
 
-  waiting-none : (j k : ℕ) → eqb (waitingMask t j k (r .aid)) 0 ≡ not (hasWaiting (asked j k) (t .waiting))
-  waiting-none j k = mask-has eqWaiting (asked j k) (λ w. eqAid (w .caller) (r .aid) && (eqb (w .callee) j && eqb (w .service) k)) (waiting-same j k (r .aid)) (t .waiting)
+  abbrev room : Kept → Bool
+  room l = ltb (length (itemsOf l t)) (L .capacity)
 
-  unmet-drops : (i : ℕ) → keepRows (unmetMask t i r) (t .unmet) ≡ keep (λ u. not (eqUnmet (callRow i r) u)) (t .unmet)
-  unmet-drops i = mask-drops eqUnmet (callRow i r) (λ u. eqUnmet u (callRow i r)) (unmet-same (callRow i r)) (t .unmet)
+  add-row-at : (l : Kept) (n : ℕ) → outcome n (hasItem l t n r) (fitsIn l (room l)) (kept (edited t r n (Add l))) ≡ done L img r (addRow L t r l n (fullIn l))
+  add-row-at l n =
+      go l (hasItem l t n r) (room l) ∙ ap (λ (z : Bool). done L img r (cond z (cond (room l) (Accept n (Add l)) (Refuse (fullIn l))) (Refuse 6))) (sym (row-none l t n r))
+    where
+      go : (l : Kept) (b f : Bool) → outcome n b (fitsIn l f) (kept (edited t r n (Add l))) ≡ done L img r (cond (not b) (cond f (Accept n (Add l)) (Refuse (fullIn l))) (Refuse 6))
+      go l true f = refl
+      go UnmetCalls false true = refl
+      go UnmetCalls false false = refl
+      go WaitingGrants false true = refl
+      go WaitingGrants false false = refl
 
-  waiting-drops : (j k : ℕ) → keepRows (waitingMask t j k (r .aid)) (t .waiting) ≡ keep (λ w. not (eqWaiting (asked j k) w)) (t .waiting)
-  waiting-drops j k = mask-drops eqWaiting (asked j k) (λ w. eqAid (w .caller) (r .aid) && (eqb (w .callee) j && eqb (w .service) k)) (waiting-same j k (r .aid)) (t .waiting)
+  drop-row-at : (l : Kept) (n : ℕ)
+      → outcome n (not (hasItem l t n r)) fine (kept (withItems l (keep (λ x. not (eqItem l (item l (r .aid) (r .tok) n) x)) (itemsOf l t)) t)) ≡ done L img r (dropRow L t r l n)
+  drop-row-at l n =
+      ap (λ (m : List (Item l)). outcome n (not (hasItem l t n r)) fine (kept (withItems l m t))) (sym (row-drops l t n r)) ∙ go (hasItem l t n r)
+      ∙ ap (λ (z : Bool). done L img r (cond z (Refuse 6) (Accept n (Drop l (rowMask l t n r))))) (sym (row-none l t n r))
+    where
+      go : (b : Bool) → outcome n (not b) fine (kept (edited t r n (Drop l (rowMask l t n r)))) ≡ done L img r (cond (not b) (Refuse 6) (Accept n (Drop l (rowMask l t n r))))
+      go true = refl
+      go false = refl
 
-  -- ---- what cause 6 asks of a row, by where its service stands, or its caller
+  -- ---- what cause 6 asks of a row, by where it stands
   abbrev calledAt : ℕ → Option Place → Bool
   calledAt i o = orElse o (hasUnmet (callRow i r) (t .unmet)) (λ p. t .calls i (p .callee) (p .service))
 
   abbrev neededAt : ℕ → Option Place → Bool
   neededAt i o = orElse o false (λ p. t .needs i (p .callee) (p .service))
 
-  abbrev grantedAt : ℕ → Option ℕ → Option ℕ → Bool
-  grantedAt j s o = orElse s false (λ k. orElse o (hasWaiting (asked j k) (t .waiting)) (λ i. t .grants j i k))
+  abbrev grantedAt : ℕ → Option Spot → Bool
+  grantedAt j o = orElse o (hasWaiting (grantRow j r) (t .waiting)) (λ p. t .grants j (p .caller) (p .service))
 
   -- ---- kind 5
   add-call-at : (i : ℕ) (o : Option Place) → outcome i (calledAt i o) (shortAddCall L t i o) (addCallAt L t i r o) ≡ done L img r (addCallPlan L t r (callAt L t a r i o))
-  add-call-at i none =
-      go (hasUnmet (callRow i r) (t .unmet)) (ltb (length (t .unmet)) (L .capacity))
-      ∙ ap (λ (z : Bool). done L img r (cond z (cond (ltb (length (t .unmet)) (L .capacity)) (Accept i AddUnmet) (Refuse 10)) (Refuse 6))) (sym (unmet-none i))
-    where
-      go : (b f : Bool) → outcome i b (record { granted = true; needed = true; unmetFits = f; waitingFits = true }) (addCallAt L t i r none)
-          ≡ done L img r (cond (not b) (cond f (Accept i AddUnmet) (Refuse 10)) (Refuse 6))
-      go true f = refl
-      go false true = refl
-      go false false = refl
+  add-call-at i none = add-row-at UnmetCalls i
   add-call-at i (some p) = go (t .calls i (p .callee) (p .service)) (t .grants (p .callee) i (p .service))
     where
       go : (b g : Bool) → outcome i b (record { granted = g; needed = true; unmetFits = true; waitingFits = true }) (addCallAt L t i r (some p))
@@ -156,12 +189,7 @@ module _ (L : Layout) (img : List ℕ) (a : Aid) (r : Row) where
 
   -- ---- kind 6
   remove-call-at : (i : ℕ) (o : Option Place) → outcome i (not (calledAt i o)) fine (removeCallAt L t i r o) ≡ done L img r (removeCallPlan L t r (callAt L t a r i o))
-  remove-call-at i none =
-      go (hasUnmet (callRow i r) (t .unmet)) ∙ ap (λ (z : Bool). done L img r (cond z (Refuse 6) (Accept i (DropUnmet (unmetMask t i r))))) (sym (unmet-none i))
-    where
-      go : (b : Bool) → outcome i (not b) fine (removeCallAt L t i r none) ≡ done L img r (cond (not b) (Refuse 6) (Accept i (DropUnmet (unmetMask t i r))))
-      go true = ap (λ (l : List Unmet). record { answered = 0; second = i; bytes = encode L (withUnmet l t) }) (sym (unmet-drops i))
-      go false = refl
+  remove-call-at i none = drop-row-at UnmetCalls i
   remove-call-at i (some p) = go (t .calls i (p .callee) (p .service))
     where
       go : (b : Bool) → outcome i (not b) fine (removeCallAt L t i r (some p)) ≡ done L img r (cond b (Accept i (Uncall (p .callee) (p .service))) (Refuse 6))
@@ -170,7 +198,7 @@ module _ (L : Layout) (img : List ℕ) (a : Aid) (r : Row) where
 
   -- ---- kind 9
   add-need-at : (i : ℕ) (o : Option Place) → outcome i (not (calledAt i o) || neededAt i o) (shortAddNeed L t o) (addNeedAt L t i r o) ≡ done L img r (addNeedPlan L t r (callAt L t a r i o))
-  add-need-at i none = go (hasUnmet (callRow i r) (t .unmet)) ∙ ap (λ (z : Bool). done L img r (cond z (Refuse 6) (Refuse 9))) (sym (unmet-none i))
+  add-need-at i none = go (hasUnmet (callRow i r) (t .unmet)) ∙ ap (λ (z : Bool). done L img r (cond z (Refuse 6) (Refuse 9))) (sym (row-none UnmetCalls t i r))
     where
       go : (b : Bool) → outcome i (not b || false) (shortAddNeed L t none) (addNeedAt L t i r none) ≡ done L img r (cond (not b) (Refuse 6) (Refuse 9))
       go true = refl
@@ -192,43 +220,23 @@ module _ (L : Layout) (img : List ℕ) (a : Aid) (r : Row) where
       go true = refl
       go false = refl
 
-  -- ---- kind 7: s is the service's number, and o the caller's
-  abbrev grantOf : ℕ → Option ℕ → Option ℕ → GrantSpot
-  grantOf j s o = orElse s Unprovided (λ k. grantAt L t a r j k o)
-
-  add-grant-at : (j : ℕ) (s o : Option ℕ)
-      → outcome j (not (isSome s) || grantedAt j s o) (shortAddGrant L t o) (orElse s (kept t) (λ k. addGrantAt L t j (r .aid) k o)) ≡ done L img r (addGrantPlan L t r (grantOf j s o))
-  add-grant-at j none o = refl
-  add-grant-at j (some k) none =
-      go (hasWaiting (asked j k) (t .waiting)) (ltb (length (t .waiting)) (L .capacity))
-      ∙ ap (λ (z : Bool). done L img r (cond z (cond (ltb (length (t .waiting)) (L .capacity)) (Accept j (AddWaiting k)) (Refuse 11)) (Refuse 6))) (sym (waiting-none j k))
+  -- ---- kind 7
+  add-grant-at : (j : ℕ) (o : Option Spot) → outcome j (grantedAt j o) (shortAddGrant L t o) (addGrantAt L t j r o) ≡ done L img r (addGrantPlan L t r (grantIs L t a r j o))
+  add-grant-at j none = add-row-at WaitingGrants j
+  add-grant-at j (some p) = go (t .grants j (p .caller) (p .service))
     where
-      go : (b f : Bool) → outcome j b (record { granted = true; needed = true; unmetFits = true; waitingFits = f }) (addGrantAt L t j (r .aid) k none)
-          ≡ done L img r (cond (not b) (cond f (Accept j (AddWaiting k)) (Refuse 11)) (Refuse 6))
-      go true f = refl
-      go false true = refl
-      go false false = refl
-  add-grant-at j (some k) (some i) = go (t .grants j i k)
-    where
-      go : (b : Bool) → outcome j b fine (addGrantAt L t j (r .aid) k (some i)) ≡ done L img r (cond b (Refuse 6) (Accept j (Set Grants i k)))
+      go : (b : Bool) → outcome j b fine (addGrantAt L t j r (some p)) ≡ done L img r (cond b (Refuse 6) (Accept j (Set Grants (p .caller) (p .service))))
       go true = refl
       go false = refl
 
   -- ---- kind 8
-  remove-grant-at : (j : ℕ) (s o : Option ℕ)
-      → outcome j (not (grantedAt j s o)) (orElse s fine (λ k. shortRemoveGrant L t j k o)) (orElse s (kept t) (λ k. removeGrantAt L t j (r .aid) k o))
-      ≡ done L img r (removeGrantPlan L t r (grantOf j s o))
-  remove-grant-at j none o = refl
-  remove-grant-at j (some k) none =
-      go (hasWaiting (asked j k) (t .waiting)) ∙ ap (λ (z : Bool). done L img r (cond z (Refuse 6) (Accept j (DropWaiting (waitingMask t j k (r .aid)))))) (sym (waiting-none j k))
+  remove-grant-at : (j : ℕ) (o : Option Spot)
+      → outcome j (not (grantedAt j o)) (shortRemoveGrant L t j o) (removeGrantAt L t j r o) ≡ done L img r (removeGrantPlan L t r (grantIs L t a r j o))
+  remove-grant-at j none = drop-row-at WaitingGrants j
+  remove-grant-at j (some p) = go (t .grants j (p .caller) (p .service)) (t .calls (p .caller) j (p .service))
     where
-      go : (b : Bool) → outcome j (not b) fine (removeGrantAt L t j (r .aid) k none) ≡ done L img r (cond (not b) (Refuse 6) (Accept j (DropWaiting (waitingMask t j k (r .aid)))))
-      go true = ap (λ (l : List Waiting). record { answered = 0; second = j; bytes = encode L (withWaiting l t) }) (sym (waiting-drops j k))
-      go false = refl
-  remove-grant-at j (some k) (some i) = go (t .grants j i k) (t .calls i j k)
-    where
-      go : (b c : Bool) → outcome j (not b) (record { granted = not c; needed = true; unmetFits = true; waitingFits = true }) (removeGrantAt L t j (r .aid) k (some i))
-          ≡ done L img r (cond b (cond c (Refuse 8) (Accept j (Clear Grants i k))) (Refuse 6))
+      go : (b c : Bool) → outcome j (not b) (record { granted = not c; needed = true; unmetFits = true; waitingFits = true }) (removeGrantAt L t j r (some p))
+          ≡ done L img r (cond b (cond c (Refuse 8) (Accept j (Clear Grants (p .caller) (p .service)))) (Refuse 6))
       go true true = refl
       go true false = refl
       go false c = refl
@@ -241,10 +249,7 @@ module _ (L : Layout) (img : List ℕ) (a : Aid) (r : Row) where
     needed : (i : ℕ) → hasRow r (contractAt L t i .needs) ≡ neededAt i (serverOf L t r)
     needed i = has-need-is L t (sound-formed L img ok) i r
 
-    provided : (j : ℕ) → hasTok (r .tok) (contractAt L t j .provides) ≡ isSome (serviceOf L t j (r .tok))
-    provided j = has-tok-is L t (sound-formed L img ok) j (r .tok)
-
-    granted : (j : ℕ) → hasRow r (contractAt L t j .grants) ≡ grantedAt j (serviceOf L t j (r .tok)) (numberOf L t (r .aid))
+    granted : (j : ℕ) → hasRow r (contractAt L t j .grants) ≡ grantedAt j (spotOf L t j r)
     granted j = has-grant-is L t (sound-formed L img ok) j r
 
   pub add-call-planned : Asked L img a (addCall r) → settled L img a (addCall r) ≡ done L img r (callPlan L t (addCallPlan L t r) a r)
@@ -261,27 +266,21 @@ module _ (L : Layout) (img : List ℕ) (a : Aid) (r : Row) where
       (λ o. orElse o (kept t) (λ i. removeCallAt L t i r (serverOf L t r))) (λ o. removeCallPlan L t r (orElse o call.Absent (λ i. callAt L t a r i (serverOf L t r)))) refl refl refl refl
       (λ i. ap (λ (b : Bool). outcome i (not b) fine (removeCallAt L t i r (serverOf L t r))) (called (ask .is-sound) i) ∙ remove-call-at i (serverOf L t r))
 
-  pub add-grant-planned : Asked L img a (addGrant r) → settled L img a (addGrant r) ≡ done L img r (grantPlan L t (addGrantPlan L t r) a r)
+  -- R-2: no service is asked for
+  pub add-grant-planned : L .early ≡ true → Asked L img a (addGrant r) → settled L img a (addGrant r) ≡ done L img r (grantPlan L t (addGrantPlan L t r) a r)
   unfolding draft shortLook
-  add-grant-planned ask =
-      at-number (addGrant r) ask (λ o. not (orElse o false (λ j. hasTok (r .tok) (contractAt L t j .provides))) || orElse o false (λ j. hasRow r (contractAt L t j .grants)))
-      (λ o. shortAddGrant L t (numberOf L t (r .aid)))
-      (λ o. orElse o (kept t) (λ j. orElse (serviceOf L t j (r .tok)) (kept t) (λ k. addGrantAt L t j (r .aid) k (numberOf L t (r .aid)))))
-      (λ o. addGrantPlan L t r (orElse o grant.Absent (λ j. grantOf j (serviceOf L t j (r .tok)) (numberOf L t (r .aid))))) refl refl refl refl
-      (λ j. (λ z. outcome j (not (provided (ask .is-sound) j z) || granted (ask .is-sound) j z) (shortAddGrant L t (numberOf L t (r .aid)))
-      (orElse (serviceOf L t j (r .tok)) (kept t) (λ k. addGrantAt L t j (r .aid) k (numberOf L t (r .aid)))))
-      ∙ add-grant-at j (serviceOf L t j (r .tok)) (numberOf L t (r .aid)))
+  add-grant-planned early ask =
+      at-number (addGrant r) ask (λ o. orElse o false (λ j. hasRow r (contractAt L t j .grants))) (λ o. orElse o fine (λ j. shortAddGrant L t (spotOf L t j r)))
+      (λ o. orElse o (kept t) (λ j. addGrantAt L t j r (spotOf L t j r))) (λ o. addGrantPlan L t r (orElse o grant.Absent (λ j. grantIs L t a r j (spotOf L t j r))))
+      (ap (λ (b : Bool). 5 when absent L t a ∷ 6 when (not (b || holds L t a (λ k. hasTok (r .tok) (k .provides))) || holds L t a (λ k. hasRow r (k .grants))) ∷ []) early) refl refl refl
+      (λ j. ap (λ (b : Bool). outcome j b (shortAddGrant L t (spotOf L t j r)) (addGrantAt L t j r (spotOf L t j r))) (granted (ask .is-sound) j) ∙ add-grant-at j (spotOf L t j r))
 
   pub remove-grant-planned : Asked L img a (removeGrant r) → settled L img a (removeGrant r) ≡ done L img r (grantPlan L t (removeGrantPlan L t r) a r)
   unfolding draft shortLook
   remove-grant-planned ask =
-      at-number (removeGrant r) ask (λ o. not (orElse o false (λ j. hasRow r (contractAt L t j .grants))))
-      (λ o. orElse o fine (λ j. orElse (serviceOf L t j (r .tok)) fine (λ k. shortRemoveGrant L t j k (numberOf L t (r .aid)))))
-      (λ o. orElse o (kept t) (λ j. orElse (serviceOf L t j (r .tok)) (kept t) (λ k. removeGrantAt L t j (r .aid) k (numberOf L t (r .aid)))))
-      (λ o. removeGrantPlan L t r (orElse o grant.Absent (λ j. grantOf j (serviceOf L t j (r .tok)) (numberOf L t (r .aid))))) refl refl refl refl
-      (λ j. ap (λ (b : Bool). outcome j (not b) (orElse (serviceOf L t j (r .tok)) fine (λ k. shortRemoveGrant L t j k (numberOf L t (r .aid))))
-      (orElse (serviceOf L t j (r .tok)) (kept t) (λ k. removeGrantAt L t j (r .aid) k (numberOf L t (r .aid))))) (granted (ask .is-sound) j)
-      ∙ remove-grant-at j (serviceOf L t j (r .tok)) (numberOf L t (r .aid)))
+      at-number (removeGrant r) ask (λ o. not (orElse o false (λ j. hasRow r (contractAt L t j .grants)))) (λ o. orElse o fine (λ j. shortRemoveGrant L t j (spotOf L t j r)))
+      (λ o. orElse o (kept t) (λ j. removeGrantAt L t j r (spotOf L t j r))) (λ o. removeGrantPlan L t r (orElse o grant.Absent (λ j. grantIs L t a r j (spotOf L t j r)))) refl refl refl refl
+      (λ j. ap (λ (b : Bool). outcome j (not b) (shortRemoveGrant L t j (spotOf L t j r)) (removeGrantAt L t j r (spotOf L t j r))) (granted (ask .is-sound) j) ∙ remove-grant-at j (spotOf L t j r))
 
   pub add-need-planned : Asked L img a (addNeed r) → settled L img a (addNeed r) ≡ done L img r (callPlan L t (addNeedPlan L t r) a r)
   unfolding draft shortLook

@@ -45,7 +45,7 @@ module _ (L : Layout) (img : List ℕ) (a : Aid) {c : Change} (ask : Asked L img
   pub asked-short : length a ≤ 16
   asked-short = valid-short a (ask .first-valid)
 
-  pub aid-at : (n : ℕ) → numberOf L (decode L img) a ≡ some n → decode L img .aid n ≡ a
+  aid-at : (n : ℕ) → numberOf L (decode L img) a ≡ some n → decode L img .aid n ≡ a
   aid-at n at = subst (NumberIs (decode L img) a) at (number-is L (decode L img) (sound-formed L img (ask .is-sound) .names) a) .1
 
 module _ (L : Layout) (img : List ℕ) (a : Aid) (ask : Asked L img a remove) where
@@ -69,10 +69,10 @@ module _ (L : Layout) (img : List ℕ) (a : Aid) (ask : Asked L img a remove) wh
       says-refused ne number second v = gives-as number second (v .0) (v .1) (remove-refused L img a n at ask m e ne)
 
       -- the lists written, then the places
-      pub says-done : m ≡ 0 → L .services ≤ 16 → {img1 img2 : List ℕ} → Wrote L img1 (listsWithout L t a n) → Wrote L img2 (tablesWithout n (decode L img1))
+      pub says-done : m ≡ 0 → {img1 img2 : List ℕ} → Wrote L img1 (listsWithout L t a n) → Wrote L img2 (tablesWithout n (decode L img1))
           → (number second : ℕ) → (number ≡ 0) × (second ≡ n) → Gives (settled L img a remove) number second img2
-      says-done z low w1 w2 number second v =
-          gives-as number second (v .0) (v .1) (remove-done L img a n at ask m e z (wrote-as L (removed-is L t n low a aid-is) (wrote-then L (tablesWithout n) w1 w2)))
+      says-done z w1 w2 number second v =
+          gives-as number second (v .0) (v .1) (remove-done L img a n at ask m e z (wrote-as L (removed-is L t n a aid-is) (wrote-then L (tablesWithout n) w1 w2)))
 
 -- ---- what the code's tests say of a number that is below most: it is in range, and a package's is a byte
 pub in-range : (n most all : ℕ) → most ≡ all → n < most → n < all
@@ -81,7 +81,4 @@ in-range n most all e h = omega arith
 pub is-byte : (c : Card) (n most : ℕ) → most ≡ layoutOf c .packages → n < most → n < 256
 is-byte c n most e h = omega (arith, limits c)
 
-pub services-few : (c : Card) → layoutOf c .services ≤ 16
-services-few c = limits c .services-low
-
-pub ruleset removal = (asked-laid, asked-short, in-range, is-byte, services-few, says-absent, says-refused, says-done, needs)
+pub ruleset removal = (asked-laid, asked-short, in-range, is-byte, says-absent, says-refused, says-done, needs)

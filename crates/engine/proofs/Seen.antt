@@ -12,20 +12,22 @@ use Rattle.policy.specs.Lists.{orElse}
 use Rattle.policy.specs.Contract.{Aid, eqAid, eqTok, Row}
 use Rattle.policy.specs.Layout.{Layout}
 use Rattle.policy.specs.Tables.{Tables, bit, rowOf}
-use Rattle.policy.specs.Lookup.{Place as Found, numberOf, serviceOf, serverOf}
+use Rattle.policy.specs.Lookup.{Place as Found, Spot as SpotFound, numberOf, serverOf, spotOf}
 use Rattle.policy.proofs.Bits.{bit-rowOf}
+use Rattle.geometry.specs.declared.Kept.{Kept}
 use Rattle.image.specs.declared.read.Place.{Place}
-use Rattle.image.specs.Read.{numberOr, placeOr, maskOf}
-use Rattle.image.proofs.Numbers.{package-none, package-some, service-none, service-some, server-none, server-some}
+use Rattle.image.specs.declared.read.Spot.{Spot}
+use Rattle.image.specs.Read.{numberOr, placeOr, spotOr, itemsOf, itemAid, itemTok, itemNumber, maskOf}
+use Rattle.image.proofs.Numbers.{package-none, package-some, server-none, server-some, spot-none, spot-some}
 use Rattle.image.proofs.Masks.{mask-and}
-use Rattle.engine.specs.Plans.{BitAt, CallIn, GrantIn, CallFound, GrantFound, unmetMask, waitingMask, callAt, callSpot, grantAt, grantSpot, callPlan, grantPlan}
+use Rattle.engine.specs.Plans.{BitAt, CallIn, GrantIn, CallFound, GrantFound, rowMask, callAt, callSpot, grantIs, grantSpot, callPlan, grantPlan}
 use Rattle.engine.specs.declared.plan.CallSpot.{CallSpot}
 use Rattle.engine.specs.declared.plan.CallSpot.the-variants.{Unserved, Served}
 use Rattle.engine.specs.declared.plan.CallSpot.the-variants as call
 use Rattle.engine.specs.declared.plan.GrantSpot.{GrantSpot}
-use Rattle.engine.specs.declared.plan.GrantSpot.the-variants.{Unprovided, Away, Installed}
+use Rattle.engine.specs.declared.plan.GrantSpot.the-variants.{Waits, Granted}
 use Rattle.engine.specs.declared.plan.GrantSpot.the-variants as grant
-use Rattle.engine.specs.declared.plan.Edit.the-variants.{DropUnmet, DropWaiting}
+use Rattle.engine.specs.declared.plan.Edit.the-variants.{Drop}
 use Rattle.engine.specs.declared.plan.Plan.{Plan}
 use Rattle.engine.specs.declared.plan.Plan.the-variants.{Accept}
 
@@ -56,20 +58,13 @@ module _ {A : Type 0} (x y z : A) where
   when-full m n k l p q r h = when-false false (ltb k l) (sym (le-ltb k l (omega arith))) refl h
 
 -- ---- two masks of a list
-pub unmet-marked : (t : Tables) (i : ℕ) (r : Row) (m n : ℕ) → m ≡ maskOf (λ u. eqAid (u .callee) (r .aid) && eqTok (u .tok) (r .tok)) (t .unmet)
-    → n ≡ maskOf (λ u. eqb (u .caller) i) (t .unmet) → bitAnd m n ≡ unmetMask t i r
-unmet-marked t i r m n p q = ap₂ bitAnd p q ∙ mask-and (λ u. eqAid (u .callee) (r .aid) && eqTok (u .tok) (r .tok)) (λ u. eqb (u .caller) i) (t .unmet)
-
-pub waiting-marked : (t : Tables) (j k : ℕ) (a : Aid) (m n : ℕ) → m ≡ maskOf (λ w. eqAid (w .caller) a) (t .waiting)
-    → n ≡ maskOf (λ w. eqb (w .callee) j && eqb (w .service) k) (t .waiting) → bitAnd m n ≡ waitingMask t j k a
-waiting-marked t j k a m n p q = ap₂ bitAnd p q ∙ mask-and (λ w. eqAid (w .caller) a) (λ w. eqb (w .callee) j && eqb (w .service) k) (t .waiting)
+pub row-marked : (l : Kept) (t : Tables) (n : ℕ) (r : Row) (m k : ℕ) → m ≡ maskOf (λ x. eqAid (itemAid l x) (r .aid) && eqTok (itemTok l x) (r .tok)) (itemsOf l t)
+    → k ≡ maskOf (λ x. eqb (itemNumber l x) n) (itemsOf l t) → bitAnd m k ≡ rowMask l t n r
+row-marked l t n r m k p q = ap₂ bitAnd p q ∙ mask-and (λ x. eqAid (itemAid l x) (r .aid) && eqTok (itemTok l x) (r .tok)) (λ x. eqb (itemNumber l x) n) (itemsOf l t)
 
 -- the rows of a mask that was found
-pub unmet-dropped : (i m k : ℕ) → m ≡ k → Accept i (DropUnmet m) ≡ Accept i (DropUnmet k)
-unmet-dropped i m k e = ap (λ (z : ℕ). Accept i (DropUnmet z)) e
-
-pub waiting-dropped : (j m k : ℕ) → m ≡ k → Accept j (DropWaiting m) ≡ Accept j (DropWaiting k)
-waiting-dropped j m k e = ap (λ (z : ℕ). Accept j (DropWaiting z)) e
+pub row-dropped : (l : Kept) (n m k : ℕ) → m ≡ k → Accept n (Drop l m) ≡ Accept n (Drop l k)
+row-dropped l n m k e = ap (λ (z : ℕ). Accept n (Drop l z)) e
 
 -- ---- where a call or need stands: i is the number of its package, p the place of its service
 module _ (L : Layout) (t : Tables) (a : Aid) (r : Row) (n i : ℕ) (en : n ≡ L .packages) (ei : i ≡ numberOr (L .packages) (numberOf L t a)) where
@@ -91,33 +86,25 @@ module _ (L : Layout) (t : Tables) (a : Aid) (r : Row) (n i : ℕ) (en : n ≡ L
         let q = server-some L t r p ep (omega arith) in
         record { spot = by-server (some (record { callee = p .callee; service = p .service })) (q .0); inside = (omega arith, omega arith, q .1) }
 
--- ---- where a grant stands: j is the number of its package, k that of its service, i that of its caller
+-- ---- where a grant stands: j is the number of its package, p the numbers of its caller and its service
 module _ (L : Layout) (t : Tables) (a : Aid) (r : Row) (n j : ℕ) (en : n ≡ L .packages) (ej : j ≡ numberOr (L .packages) (numberOf L t a)) where
-  abbrev withService : ℕ → Option ℕ → GrantSpot
-  withService j s = orElse s Unprovided (λ k. grantAt L t a r j k (numberOf L t (r .aid)))
-
-  by-callee : (o : Option ℕ) → numberOf L t a ≡ o → orElse o grant.Absent (λ j. withService j (serviceOf L t j (r .tok))) ≡ grantSpot L t a r
-  by-callee o e = sym (ap (λ (o : Option ℕ). orElse o grant.Absent (λ j. withService j (serviceOf L t j (r .tok)))) e)
+  by-callee : (o : Option ℕ) → numberOf L t a ≡ o → orElse o grant.Absent (λ j. grantIs L t a r j (spotOf L t j r)) ≡ grantSpot L t a r
+  by-callee o e = sym (ap (λ (o : Option ℕ). orElse o grant.Absent (λ j. grantIs L t a r j (spotOf L t j r))) e)
 
   pub no-callee : n ≤ j → GrantFound L t a r grant.Absent
   no-callee h = record { spot = by-callee none (package-none L t a j ej (omega arith)); inside = tt }
 
-  module _ (h : j < n) (m k : ℕ) (em : m ≡ L .services) (ek : k ≡ numberOr (L .services) (serviceOf L t j (r .tok))) where
-    by-service : (s : Option ℕ) → serviceOf L t j (r .tok) ≡ s → withService j s ≡ grantSpot L t a r
-    by-service s e = ap (withService j) (sym e) ∙ by-callee (some j) (package-some L t a j ej (omega arith))
+  module _ (h : j < n) (p : Spot) (ep : p ≡ spotOr L (spotOf L t j r)) where
+    by-spot : (o : Option SpotFound) → spotOf L t j r ≡ o → grantIs L t a r j o ≡ grantSpot L t a r
+    by-spot o e = ap (grantIs L t a r j) (sym e) ∙ by-callee (some j) (package-some L t a j ej (omega arith))
 
-    pub no-service : m ≤ k → GrantFound L t a r Unprovided
-    no-service l = record { spot = by-service none (service-none L t j (r .tok) k ek (omega arith)); inside = tt }
+    pub waits : n ≤ p .caller → GrantFound L t a r (Waits j)
+    waits l = record { spot = by-spot none (spot-none L t j r p ep (omega arith)); inside = omega arith }
 
-    module _ (l : k < m) (i : ℕ) (ei : i ≡ numberOr (L .packages) (numberOf L t (r .aid))) where
-      by-number : (o : Option ℕ) → numberOf L t (r .aid) ≡ o → grantAt L t a r j k o ≡ grantSpot L t a r
-      by-number o e = ap (grantAt L t a r j k) (sym e) ∙ by-service (some k) (service-some L t j (r .tok) k ek (omega arith))
-
-      pub away : n ≤ i → GrantFound L t a r (Away j k)
-      away g = record { spot = by-number none (package-none L t (r .aid) i ei (omega arith)); inside = (omega arith, omega arith) }
-
-      pub installed : i < n → GrantFound L t a r (Installed j i k)
-      installed g = record { spot = by-number (some i) (package-some L t (r .aid) i ei (omega arith)); inside = (omega arith, omega arith, omega arith) }
+    pub granted : p .caller < n → GrantFound L t a r (Granted j (p .caller) (p .service))
+    granted l =
+        let q = spot-some L t j r p ep (omega arith) in
+        record { spot = by-spot (some (record { caller = p .caller; service = p .service })) (q .0); inside = (omega arith, omega arith, q .1) }
 
 -- ---- a spot that was found, s, is s′
 module _ (L : Layout) (t : Tables) (a : Aid) (r : Row) (s : CallSpot) (h : CallFound L t a r s) where
@@ -134,13 +121,13 @@ module _ (L : Layout) (t : Tables) (a : Aid) (r : Row) (s : GrantSpot) (h : Gran
   pub at-grant : (f : GrantSpot → Plan) (s′ : GrantSpot) → s ≡ s′ → (x : Plan) → x ≡ f s′ → x ≡ grantPlan L t f a r
   at-grant f s′ e x q = q ∙ ap f (sym e ∙ h .spot)
 
-  pub grant-in : (j i k : ℕ) → s ≡ Installed j i k → BitAt L j i k
+  pub grant-in : (j i k : ℕ) → s ≡ Granted j i k → BitAt L j i k
   grant-in j i k e = subst (GrantIn L) e (h .inside)
 
-  pub grant-called : (j i k : ℕ) → s ≡ Installed j i k → BitAt L i j k
+  pub grant-called : (j i k : ℕ) → s ≡ Granted j i k → BitAt L i j k
   grant-called j i k e = let b = grant-in j i k e in (b .1, b .0, b .2)
 
-pub ruleset spots = (no-caller, unserved, served, no-callee, no-service, away, installed, unmet-marked, waiting-marked, needs)
+pub ruleset spots = (no-caller, unserved, served, no-callee, waits, granted, row-marked, needs)
 
 pub ruleset plans = (
   when-true,
@@ -151,8 +138,7 @@ pub ruleset plans = (
   when-zero,
   when-room,
   when-full,
-  unmet-dropped,
-  waiting-dropped,
+  row-dropped,
   at-call,
   call-in,
   call-granted,

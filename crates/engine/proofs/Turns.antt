@@ -1,117 +1,133 @@
 -- The loops of kinds 2 and 4 over the rows of an image: their turns in the form in which the needs ask them. Assumes nothing.
-use Prim.Native.Nat.{ℕ, _+_, _*_, _≤_, _<_}
+use Prim.Native.Nat.{ℕ, _+_, _-_, _≤_, _<_}
 use native.Mathlib.Omega.{arith}
-use mathlib.Core.Path.{_≡_, refl, sym, ap, ap₂, _∙_}
-use mathlib.Core.Bool.{Bool, true, false, not, _&&_}
-use mathlib.Core.List.{List, [], _∷_, _++_, append-nil}
-use lib.ListN.{length, getD}
-use lib.Bits.{bitAnd}
+use mathlib.Core.Path.{_≡_, refl, sym, ap, _∙_}
+use mathlib.Core.Bool.{Bool, true, false, not, cond}
+use mathlib.Core.List.{List, [], _∷_}
+use lib.ListN.{length, getD, take, drop, replicate}
+use lib.Seq.{take-at}
+use mir.Val.{boolByte}
 use borrow.Author.Tests.{not-true, not-false}
-use Rattle.policy.specs.Lists.{keep, flat, upto}
-use Rattle.policy.specs.Contract.{Aid}
+use Rattle.policy.specs.Lists.{keep, upto}
+use Rattle.policy.specs.Contract.{Aid, Tok}
 use Rattle.policy.specs.Layout.{Layout}
-use Rattle.policy.specs.Tables.{Tables, Unmet, Waiting, bit, rowOf, decode}
-use Rattle.policy.specs.ShortCheck.{count, sum}
+use Rattle.policy.specs.Tables.{Tables, Unmet, Waiting, bit, rowOf, writeAid, decode}
+use Rattle.policy.specs.ShortCheck.{count}
 use Rattle.policy.proofs.Sets.{length-keep, keep-ext, flat-ext, length-from, upto-in}
 use Rattle.policy.proofs.Bits.{bit-rowOf, rowOf-lt}
-use Rattle.bits.proofs.Loops.{keep-narrow}
-use Rattle.bits.proofs.Row.{bit-and, bit-past}
+use Rattle.policy.proofs.Pieces.{length-aid}
+use Rattle.bits.proofs.Row.{keep-row}
 use Rattle.geometry.specs.declared.Card.{Card}
+use Rattle.geometry.specs.declared.Table.{Table}
+use Rattle.geometry.specs.declared.Table.the-variants.{Calls, Grants, Needs}
+use Rattle.geometry.specs.declared.Kept.{Kept}
+use Rattle.geometry.specs.declared.Kept.the-variants.{UnmetCalls, WaitingGrants}
 use Rattle.geometry.specs.Geometry.{layoutOf, tokAt}
-use Rattle.geometry.proofs.Bounds.{layout-ok, limits}
-use Rattle.image.specs.Laid.{Laid, withUnmet, withWaiting}
+use Rattle.geometry.proofs.Bounds.{layout-ok, early}
+use Rattle.image.specs.Read.{Item, item, tokensIn}
+use Rattle.image.specs.Laid.{Laid, tableOf, withUnmet, withWaiting}
 use Rattle.image.specs.Wrote.{Wrote}
 use Rattle.image.proofs.Access.{tok-itf, tok-mth}
-use Rattle.engine.specs.Removals.{only, leftOne, leftRow, waitOne}
-use Rattle.engine.proofs.Leaves.{sum-snoc}
-use Rattle.engine.proofs.Appends.{wrote-as}
+use Rattle.engine.specs.Removals.{only, byList, between, behind, leftOne, leftRow, leftBit}
+use Rattle.engine.proofs.Appends.{wrote-as, behind-none}
 
--- ---- a row of bits r of n services under a mask
-module _ (n : ℕ) (f : ℕ → Bool) (mask : ℕ) where
-  pub masked-bit : (r : ℕ) → r ≡ rowOf n f → (k : ℕ) → k < n → bit (bitAnd r mask) k ≡ f k && bit mask k
-  masked-bit r e k h = bit-and r mask k ∙ ap (λ (b : Bool). b && bit mask k) (ap (λ (x : ℕ). bit x k) e ∙ bit-rowOf n f k h)
+-- ---- a row of n bits that was read
+module _ (n : ℕ) (f : ℕ → Bool) (r : ℕ) (e : r ≡ rowOf n f) where
+  pub row-bit : (k : ℕ) → k < n → bit r k ≡ f k
+  row-bit k h = ap (λ (x : ℕ). bit x k) e ∙ bit-rowOf n f k h
 
-  masked-past : (r : ℕ) → r ≡ rowOf n f → (k : ℕ) → n ≤ k → bit (bitAnd r mask) k ≡ false
-  masked-past r e k h = bit-and r mask k ∙ ap (λ (b : Bool). b && bit mask k) (ap (λ (x : ℕ). bit x k) e ∙ bit-past n (rowOf n f) k (rowOf-lt n f) h)
+  -- how many it has
+  pub row-count : n ≤ 16 → (q : ℕ) → q ≡ length (keep (bit r) (upto 16)) → q ≡ count f (upto n)
+  row-count h q p =
+      p ∙ ap (λ (x : ℕ). length (keep (bit x) (upto 16))) e
+      ∙ ap length (keep-row n 16 (rowOf n f) h (rowOf-lt n f) ∙ keep-ext (bit (rowOf n f)) f (upto n) (λ k m. bit-rowOf n f k (upto-in n m)))
 
-  -- how many bits are left
-  pub masked-count : (r q : ℕ) → n ≤ 16 → r ≡ rowOf n f → q ≡ length (keep (bit (bitAnd r mask)) (upto 16)) → q ≡ count (λ k. f k && bit mask k) (upto n)
-  masked-count r q h e p =
-      p ∙ ap length (keep-narrow (bit (bitAnd r mask)) n 16 h (masked-past r e)
-      ∙ keep-ext (bit (bitAnd r mask)) (λ k. f k && bit mask k) (upto n) (λ k m. masked-bit r e k (upto-in n m)))
-
-count-le : (f : ℕ → Bool) (n : ℕ) → count f (upto n) ≤ n
+pub count-le : (f : ℕ → Bool) (n : ℕ) → count f (upto n) ≤ n
 count-le f n = let e = length-from 0 n in omega (arith, length-keep f (upto n))
 
--- ---- the loop of `column`: the total of the first i entries
-module _ (c : Card) (b : ℕ → ℕ → ℕ → Bool) (j mask : ℕ) where
-  abbrev pub inEntry : ℕ → ℕ
-  inEntry i = count (λ k. b i j k && bit mask k) (upto (layoutOf c .services))
+pub bits-low : (r q : ℕ) → q ≡ length (keep (bit r) (upto 16)) → q ≤ 16
+bits-low r q e = omega (arith, count-le (bit r) 16)
 
-  pub column-turn : (i total r q : ℕ) → total ≡ sum inEntry (upto i) → total ≤ i * 16 → r ≡ rowOf (layoutOf c .services) (b i j)
-      → q ≡ length (keep (bit (bitAnd r mask)) (upto 16)) → (total + q ≡ sum inEntry (upto (i + 1))) × (total + q ≤ (i + 1) * 16)
-  column-turn i total r q e h p z =
-      let s = limits c .services-low in
-      let v = masked-count (layoutOf c .services) (b i j) mask r q s p z in
-      let l = count-le (λ k. b i j k && bit mask k) (layoutOf c .services) in
-      (ap₂ (λ (x y : ℕ). x + y) e v ∙ sym (sum-snoc inEntry i), omega arith)
+pub bool-low : (b : Bool) → boolByte b ≤ 16
+bool-low true = omega arith
+bool-low false = omega arith
 
-  pub column-end : (i n total : ℕ) → total ≡ sum inEntry (upto i) → total ≤ i * 16 → i ≤ n → n ≤ i → n ≡ layoutOf c .packages
-      → (total ≡ sum inEntry (upto (layoutOf c .packages))) × (total ≤ 256)
-  column-end i n total e h l m p = let q : i ≡ layoutOf c .packages = omega arith in (e ∙ ap (λ (x : ℕ). sum inEntry (upto x)) q, omega (arith, limits c .packages-low))
+pub bool-is : (b c : Bool) → b ≡ c → boolByte b ≡ cond c 1 0
+bool-is b c e = ap boolByte e ∙ go c
+  where
+    go : (c : Bool) → boolByte c ≡ cond c 1 0
+    go true = refl
+    go false = refl
+
+-- ---- an AID in a copy of its place
+module _ (place : List ℕ) (a : Aid) (e : place ≡ writeAid a) (h : length a ≤ 16) where
+  pub place-low : getD place 0 0 ≤ 16
+  place-low = let q = ap (λ (l : List ℕ). getD l 0 0) e in omega arith
+
+  pub place-long : length place ≡ 17
+  place-long = ap length e ∙ length-aid a h
+
+  pub place-aid : take (getD place 0 0 + 1 - 1) (drop 1 place) ≡ a
+  place-aid =
+      let q : length a + 1 - 1 ≡ length a = omega arith in
+      ap (λ (l : List ℕ). take (getD l 0 0 + 1 - 1) (drop 1 l)) e ∙ take-at a (replicate (16 - length a) 0) (length a + 1 - 1) (sym q)
 
 -- ---- one row, where the row of bits has it
-module _ (c : Card) (img : List ℕ) (h : Laid (layoutOf c) img) where
-  abbrev t : Tables
-  t = decode (layoutOf c) img
-
-  pub left-none : (a : Aid) (j i row k : ℕ) (b : Bool) → b ≡ bit row k → not b ≡ true
-      → Wrote (layoutOf c) img (withUnmet (t .unmet ++ leftOne t a j i (bit row) k) t)
-  left-none a j i row k b e q = record { laid = h; tables = ap (λ (l : List Unmet). withUnmet l t) (sym (ap (λ (z : Bool). t .unmet ++ only z (record { callee = a; tok = t .tok j k; caller = i })) (sym e ∙ not-true b q) ∙ append-nil (t .unmet))) }
-
-  pub wait-none : (a : Aid) (j row k : ℕ) (b : Bool) → b ≡ bit row k → not b ≡ true
-      → Wrote (layoutOf c) img (withWaiting (t .waiting ++ waitOne a j (bit row) k) t)
-  wait-none a j row k b e q = record { laid = h; tables = ap (λ (l : List Waiting). withWaiting l t) (sym (ap (λ (z : Bool). t .waiting ++ only z (record { caller = a; callee = j; service = k })) (sym e ∙ not-true b q) ∙ append-nil (t .waiting))) }
-
 pub only-room : {A : Type 0} (b r : Bool) (x : A) (n most : ℕ) → r ≡ b → not r ≡ false → n + length (only b x) ≤ most → n < most
 only-room b r x n most e q h = let z : length (only b x) ≡ 1 = ap (λ (y : Bool). length (only y x)) (sym e ∙ not-false r q) in omega arith
 
-pub only-is : {A : Type 0} (b r : Bool) (x y : A) → r ≡ b → not r ≡ false → x ≡ y → (x ∷ []) ≡ only b y
-only-is {A} b r x y e q z = ap (λ (w : A). w ∷ []) z ∙ ap (λ (w : Bool). only w y) (sym (sym e ∙ not-false r q))
+module _ (c : Card) (l : Kept) (img : List ℕ) (h : Laid (layoutOf c) img) (a : Aid) (j i row k : ℕ) (b : Bool) (e : b ≡ bit row k) where
+  abbrev L : Layout
+  L = layoutOf c
 
-module _ (c : Card) (img : List ℕ) (h : Laid (layoutOf c) img) where
-  -- the tokens read at a
-  pub left-some : (a : Aid) (j i row k at : ℕ) (b : Bool) → b ≡ bit row k → not b ≡ false → j < layoutOf c .packages → k < layoutOf c .services → at ≡ tokAt (layoutOf c) j k
-      → {img′ : List ℕ} → Wrote (layoutOf c) img′ (withUnmet (decode (layoutOf c) img .unmet
-      ++ (record { callee = a; tok = record { itf = getD img at 0; mth = getD img (at + 1) 0 }; caller = i } ∷ [])) (decode (layoutOf c) img))
-      → Wrote (layoutOf c) img′ (withUnmet (decode (layoutOf c) img .unmet ++ leftOne (decode (layoutOf c) img) a j i (bit row) k) (decode (layoutOf c) img))
-  left-some a j i row k at b e q p l z w =
-      let t = decode (layoutOf c) img in
-      let x : Unmet = record { callee = a; tok = record { itf = getD img at 0; mth = getD img (at + 1) 0 }; caller = i } in
-      let y : Unmet = record { callee = a; tok = t .tok j k; caller = i } in
-      let itf : getD img at 0 ≡ t .tok j k .itf = ap (λ (v : ℕ). getD img v 0) z ∙ tok-itf (layoutOf c) (layout-ok c) h j k p l in
-      let mth : getD img (at + 1) 0 ≡ t .tok j k .mth = ap (λ (v : ℕ). getD img (v + 1) 0) z ∙ tok-mth (layoutOf c) (layout-ok c) h j k p l in
-      let same : x ≡ y = λ v. record { callee = a; tok = record { itf = itf v; mth = mth v }; caller = i } in
-      wrote-as (layoutOf c) (ap (λ (v : List Unmet). withUnmet (t .unmet ++ v) t) (only-is (bit row k) b x y (e) q same)) w
+  abbrev t : Tables
+  t = decode L img
 
-  pub wait-some : (a : Aid) (j row k : ℕ) (b : Bool) → b ≡ bit row k → not b ≡ false
-      → {img′ : List ℕ} → Wrote (layoutOf c) img′ (withWaiting (decode (layoutOf c) img .waiting ++ (record { caller = a; callee = j; service = k } ∷ [])) (decode (layoutOf c) img))
-      → Wrote (layoutOf c) img′ (withWaiting (decode (layoutOf c) img .waiting ++ waitOne a j (bit row) k) (decode (layoutOf c) img))
-  wait-some a j row k b e q w =
-      let t = decode (layoutOf c) img in
-      let x : Waiting = record { caller = a; callee = j; service = k } in
-      wrote-as (layoutOf c) (ap (λ (v : List Waiting). withWaiting (t .waiting ++ v) t) (only-is (bit row k) b x x e q refl)) w
+  abbrev rows : Bool → Tok → List (Item l)
+  rows z s = only z (item l a s i)
 
--- ---- a row of a table under a mask, read after rows were appended to a list, leaves the rows of its bits
-module _ (L : Layout) (t : Tables) (a : Aid) (j : ℕ) {now : Tables} where
-  pub left-masked : {l : List Unmet} → now ≡ withUnmet l t → (i mask r : ℕ) → r ≡ rowOf (L .services) (now .calls i j) → leftRow L t a j i (bit (bitAnd r mask)) ≡ leftRow L t a j i (λ k. t .calls i j k && bit mask k)
-  left-masked same i mask r e =
-      let q : r ≡ rowOf (L .services) (t .calls i j) = e ∙ ap (λ (z : Tables). rowOf (L .services) (z .calls i j)) same in
-      flat-ext (leftOne t a j i (bit (bitAnd r mask))) (leftOne t a j i (λ k. t .calls i j k && bit mask k)) (upto (L .services))
-      (λ k m. ap (λ (b : Bool). only b (record { callee = a; tok = t .tok j k; caller = i })) (masked-bit (L .services) (t .calls i j) mask r q k (upto-in (L .services) m)))
+  pub left-none : not b ≡ true → Wrote L img (behind l (leftOne l t a j i (bit row) k) t)
+  left-none q = record { laid = h; tables = sym (ap (λ (z : Bool). behind l (rows z (t .tok j k)) t) (sym e ∙ not-true b q) ∙ behind-none l t) }
 
-  pub wait-masked : {l : List Waiting} → now ≡ withWaiting l t → (n r : ℕ) → r ≡ rowOf (L .services) (now .grants j n) → flat (waitOne a j (bit r)) (upto (L .services)) ≡ flat (waitOne a j (t .grants j n)) (upto (L .services))
-  wait-masked same n r e =
-      let q : r ≡ rowOf (L .services) (t .grants j n) = e ∙ ap (λ (z : Tables). rowOf (L .services) (z .grants j n)) same in
-      flat-ext (waitOne a j (bit r)) (waitOne a j (t .grants j n)) (upto (L .services))
-      (λ k m. ap (λ (b : Bool). only b (record { caller = a; callee = j; service = k })) (ap (λ (x : ℕ). bit x k) q ∙ bit-rowOf (L .services) (t .grants j n) k (upto-in (L .services) m)))
+  -- the tokens stand at `at`
+  pub left-some : not b ≡ false → j < L .packages → k < L .services → (at : ℕ) → at ≡ tokAt L j k
+      → {img′ : List ℕ} → Wrote L img′ (behind l (item l a (tokensIn img at) i ∷ []) t) → Wrote L img′ (behind l (leftOne l t a j i (bit row) k) t)
+  left-some q p r at z w =
+      let same : tokensIn img at ≡ t .tok j k =
+      ap (tokensIn img) z ∙ (λ v. record { itf = tok-itf L (layout-ok c) (early c) h j k p r v; mth = tok-mth L (layout-ok c) (early c) h j k p r v }) in
+      let on : true ≡ bit row k = sym (not-false b q) ∙ e in
+      wrote-as L (λ v. behind l (rows (on v) (same v)) t) w
+
+-- ---- rows read from an image whose lists alone were changed
+pub table-apart : (tb : Table) (t : Tables) (u : List Unmet) (w : List Waiting) → tableOf tb (withUnmet u (withWaiting w t)) ≡ tableOf tb t
+table-apart Calls t u w = refl
+table-apart Grants t u w = refl
+table-apart Needs t u w = refl
+
+between-apart : (tb : Table) (t : Tables) (u : List Unmet) (w : List Waiting) → between tb (withUnmet u (withWaiting w t)) ≡ between tb t
+between-apart Calls t u w = refl
+between-apart Grants t u w = refl
+between-apart Needs t u w = refl
+
+pub by-list-in : (l : Kept) (x y n r : ℕ) → r ≡ byList l x y → x < n → y < n → r < n
+by-list-in UnmetCalls x y n r e p q = omega arith
+by-list-in WaitingGrants x y n r e p q = omega arith
+
+module _ (L : Layout) (l : Kept) (t : Tables) (tb : Table) where
+  -- the rows that turn i of `leave_rows` leaves: r are the bits that it reads, and j whose services they are of
+  module _ (a : Aid) (n i : ℕ) (now : Tables) (same : tableOf tb now ≡ tableOf tb t) (r j : ℕ) (e : r ≡ rowOf (L .services) (tableOf tb now i n)) (q : j ≡ byList l n i) where
+    pub row-left : (u : List Unmet) (w : List Waiting) → leftRow L l (withUnmet u (withWaiting w t)) a j i (bit r) ≡ leftRow L l t a (byList l n i) i (tableOf tb t i n)
+    row-left u w =
+        let p : r ≡ rowOf (L .services) (tableOf tb t i n) = e ∙ ap (λ (b : ℕ → ℕ → ℕ → Bool). rowOf (L .services) (b i n)) same in
+        flat-ext (leftOne l t a j i (bit r)) (leftOne l t a j i (tableOf tb t i n)) (upto (L .services))
+        (λ k h. ap (λ (b : Bool). only b (item l a (t .tok j k) i)) (row-bit (L .services) (tableOf tb t i n) r p k (upto-in (L .services) h)))
+        ∙ ap (λ (y : ℕ). leftRow L l t a y i (tableOf tb t i n)) q
+
+  -- the row of `leave_bit`, and turn i of `leave_bits`
+  module _ (j k i : ℕ) where
+    pub bit-left : (r m o : ℕ) → r ≡ rowOf (L .services) (between tb t j i) → m ≡ byList l j i → o ≡ byList l i j → k < L .services
+        → leftOne l t (t .aid m) j o (bit r) k ≡ leftBit L l t tb j k i
+    bit-left r m o e p q h = λ z. only (row-bit (L .services) (between tb t j i) r e k h z) (item l (t .aid (p z)) (t .tok j k) (q z))
+
+    pub bits-left : (u : List Unmet) (w : List Waiting) → leftBit L l (withUnmet u (withWaiting w t)) tb j k i ≡ leftBit L l t tb j k i
+    bits-left u w = ap (λ (b : ℕ → ℕ → ℕ → Bool). leftOne l t (t .aid (byList l j i)) j (byList l i j) (b j i) k) (between-apart tb t u w)

@@ -1,80 +1,76 @@
--- The writes of `leave_lists`, one after another. Assumes nothing.
+-- The writes to the lists, one after another, of kinds 2 and 4. Assumes nothing.
 use Prim.Native.Nat.{ℕ, _+_, _≤_}
 use native.Mathlib.Omega.{arith}
-use mathlib.Core.Path.{_≡_, ap, _∙_}
+use mathlib.Core.Path.{_≡_, sym, ap, _∙_, subst}
 use mathlib.Core.Bool.{Bool, not}
-use mathlib.Core.List.{List, _++_}
+use mathlib.Core.List.{List}
 use lib.Dec.{eqb}
 use lib.ListN.{length}
-use Rattle.policy.specs.Lists.{keep}
+use Rattle.policy.specs.Lists.{keep, flat}
 use Rattle.policy.specs.Contract.{Aid}
 use Rattle.policy.specs.Layout.{Layout}
-use Rattle.policy.specs.Tables.{Tables, Unmet, Waiting, bit, decode}
-use Rattle.policy.specs.ShortCheck.{count, ones}
+use Rattle.policy.specs.Tables.{Tables, decode}
+use Rattle.policy.specs.Lookup.{numbers}
 use Rattle.rows.specs.Area.{keepRows}
-use Rattle.image.specs.Laid.{withUnmet, withWaiting}
+use Rattle.geometry.specs.declared.Table.{Table}
+use Rattle.geometry.specs.declared.Table.the-variants.{Calls, Grants}
+use Rattle.geometry.specs.declared.Kept.{Kept}
+use Rattle.geometry.specs.declared.Kept.the-variants.{UnmetCalls, WaitingGrants}
+use Rattle.image.specs.Read.{Item, itemsOf, itemNumber, maskOf}
+use Rattle.image.specs.Laid.{withItems}
 use Rattle.image.specs.Wrote.{Wrote}
-use Rattle.image.specs.Read.{maskOf}
 use Rattle.image.proofs.Masks.{keep-mask}
 use Rattle.image.proofs.Clears.{wrote-then}
-use Rattle.engine.specs.Removals.{leftRows, waitRows, RoomWithout, listsWithout}
-use Rattle.engine.proofs.Appends.{wrote-as}
-use Rattle.engine.proofs.Counts.{left-length, wait-length}
-use Rattle.engine.proofs.Causes.{column-all}
+use Rattle.engine.specs.Removals.{byList, behind, RoomBehind, leftRow, leftRows, rowsWithout, listWithout, leftBits, rowsWithBits, RoomWithout, listsWithout, RoomWithoutService, listsWithoutService}
+use Rattle.engine.proofs.Appends.{wrote-as, items-are, apart, behind-items}
+use Rattle.engine.proofs.Turns.{table-apart}
+use Rattle.engine.proofs.Counts.{left-length, bits-length}
 
 sums : {x y u v m : ℕ} → x ≡ u → y ≡ v → u + v ≤ m → x + y ≤ m
 sums p q h = omega arith
 
-module _ (L : Layout) (low : L .services ≤ 16) (a : Aid) (n : ℕ) (img : List ℕ) where
+-- ---- `leave_list`: package n goes, whose AID is a
+module _ (L : Layout) (l : Kept) (tb : Table) (a : Aid) (n : ℕ) (img : List ℕ) where
   abbrev t : Tables
   t = decode L img
 
-  abbrev byOther : Unmet → Bool
-  byOther u = not (eqb (u .caller) n)
+  abbrev stay : List (Item l)
+  stay = keep (λ x. not (eqb (itemNumber l x) n)) (itemsOf l t)
 
-  abbrev ofOther : Waiting → Bool
-  ofOther w = not (eqb (w .callee) n)
+  -- its own rows dropped
+  pub own-dropped : (mask : ℕ) → mask ≡ maskOf (λ x. eqb (itemNumber l x) n) (itemsOf l t) → {img1 : List ℕ} → Wrote L img1 (withItems l (keepRows mask (itemsOf l t)) t) → Wrote L img1 (withItems l stay t)
+  own-dropped mask e w = wrote-as L (ap (λ (m : List (Item l)). withItems l m t) (ap (λ (m : ℕ). keepRows m (itemsOf l t)) e ∙ keep-mask (λ x. eqb (itemNumber l x) n) (itemsOf l t))) w
 
-  -- its own unmet calls dropped
-  abbrev first : Tables
-  first = withUnmet (keep byOther (t .unmet)) t
+  -- the tables with another list l leave the same
+  left-apart : leftRows L l (withItems l stay t) tb a n ≡ leftRows L l t tb a n
+  left-apart =
+      apart l stay t (λ z. leftRows L l z tb a n) (λ u w. ap (λ (b : ℕ → ℕ → ℕ → Bool). flat (λ i. leftRow L l t a (byList l n i) i (b i n)) (numbers L)) (table-apart tb t u w))
 
-  pub own-dropped : (mask : ℕ) → mask ≡ maskOf (λ u. eqb (u .caller) n) (t .unmet) → {img′ : List ℕ} → Wrote L img′ (withUnmet (keepRows mask (t .unmet)) t) → Wrote L img′ first
-  own-dropped mask e w = wrote-as L (ap (λ (l : List Unmet). withUnmet l t) (ap (λ (m : ℕ). keepRows m (t .unmet)) e ∙ keep-mask (λ u. eqb (u .caller) n) (t .unmet))) w
+  pub left-room : rowsWithout L l t tb n ≤ L .capacity → {img1 : List ℕ} → Wrote L img1 (withItems l stay t) → RoomBehind l L (leftRows L l (decode L img1) tb a n) (decode L img1)
+  left-room r {img1} w =
+      sums (ap (λ (z : Tables). length (itemsOf l z)) (w .tables) ∙ ap length (items-are l stay t))
+      (ap (λ (z : Tables). length (leftRows L l z tb a n)) (w .tables) ∙ ap length left-apart ∙ left-length L l t tb a n) r
 
-  pub calls-room : RoomWithout L t n → {img′ : List ℕ} → Wrote L img′ first
-      → length (decode L img′ .unmet) + length (leftRows L (decode L img′) a n (bit 65535)) ≤ L .capacity
-  calls-room r {img′} w =
-      let p : length (decode L img′ .unmet) ≡ count byOther (t .unmet) = ap (λ (z : Tables). length (z .unmet)) (w .tables) in
-      let q : length (leftRows L (decode L img′) a n (bit 65535)) ≡ ones L t (λ i k. t .calls i n k) =
-      ap (λ (z : Tables). length (leftRows L z a n (bit 65535))) (w .tables) ∙ left-length L t a n (bit 65535) ∙ column-all L t low (λ i k. t .calls i n k) in
-      sums p q (r .0)
+  pub list-left : {img1 img2 : List ℕ} → Wrote L img1 (withItems l stay t) → Wrote L img2 (behind l (leftRows L l (decode L img1) tb a n) (decode L img1)) → Wrote L img2 (listWithout L l t tb a n)
+  list-left w v =
+      wrote-as L (ap (λ (m : List (Item l)). behind l m (withItems l stay t)) left-apart ∙ behind-items l (leftRows L l t tb a n) stay t)
+      (wrote-then L (λ z. behind l (leftRows L l z tb a n) z) w v)
 
-  -- and the calls on it appended
-  abbrev second : Tables
-  second = withUnmet (keep byOther (t .unmet) ++ leftRows L t a n (bit 65535)) t
+-- ---- `leave_lists`
+module _ (L : Layout) (a : Aid) (n : ℕ) (img : List ℕ) {img1 : List ℕ} (w : Wrote L img1 (listWithout L UnmetCalls (decode L img) Calls a n)) where
+  pub waiting-room : RoomWithout L (decode L img) n → rowsWithout L WaitingGrants (decode L img1) Grants n ≤ L .capacity
+  waiting-room r = subst (λ (z : Tables). rowsWithout L WaitingGrants z Grants n ≤ L .capacity) (sym (w .tables)) (r .1)
 
-  pub calls-left : {img′ img″ : List ℕ} → Wrote L img′ first → Wrote L img″ (withUnmet (decode L img′ .unmet ++ leftRows L (decode L img′) a n (bit 65535)) (decode L img′)) → Wrote L img″ second
-  calls-left w v = wrote-then L (λ z. withUnmet (z .unmet ++ leftRows L z a n (bit 65535)) z) w v
+  pub lists-left : {img2 : List ℕ} → Wrote L img2 (listWithout L WaitingGrants (decode L img1) Grants a n) → Wrote L img2 (listsWithout L (decode L img) a n)
+  lists-left v = wrote-then L (λ z. listWithout L WaitingGrants z Grants a n) w v
 
-  abbrev third : Tables
-  third = withWaiting (keep ofOther (t .waiting)) second
+-- ---- `leave_service`: service k of package j goes
+pub bits-room : (L : Layout) (l : Kept) (t : Tables) (tb : Table) (j k : ℕ) → rowsWithBits L l t tb j k ≤ L .capacity → RoomBehind l L (leftBits L l t tb j k) t
+bits-room L l t tb j k r = let e = bits-length L l t tb j k in omega arith
 
-  pub given-dropped : (mask : ℕ) {img′ img″ : List ℕ} → Wrote L img′ second → mask ≡ maskOf (λ w. eqb (w .callee) n) (decode L img′ .waiting)
-      → Wrote L img″ (withWaiting (keepRows mask (decode L img′ .waiting)) (decode L img′)) → Wrote L img″ third
-  given-dropped mask w e v =
-      wrote-as L
-      (ap (λ (l : List Waiting). withWaiting l second) (ap (λ (m : ℕ). keepRows m (t .waiting)) (e ∙ ap (λ (z : Tables). maskOf (λ w. eqb (w .callee) n) (z .waiting)) (w .tables))
-      ∙ keep-mask (λ w. eqb (w .callee) n) (t .waiting)))
-      (wrote-then L (λ z. withWaiting (keepRows mask (z .waiting)) z) w v)
+module _ (L : Layout) (j k : ℕ) (img : List ℕ) {img1 : List ℕ} (w : Wrote L img1 (behind UnmetCalls (leftBits L UnmetCalls (decode L img) Calls j k) (decode L img))) where
+  pub grants-room : RoomWithoutService L (decode L img) j k → RoomBehind WaitingGrants L (leftBits L WaitingGrants (decode L img1) Grants j k) (decode L img1)
+  grants-room r = subst (λ (z : Tables). RoomBehind WaitingGrants L (leftBits L WaitingGrants z Grants j k) z) (sym (w .tables)) (bits-room L WaitingGrants (decode L img) Grants j k (r .1))
 
-  pub grants-room : RoomWithout L t n → {img′ : List ℕ} → Wrote L img′ third → length (decode L img′ .waiting) + length (waitRows L (decode L img′) a n) ≤ L .capacity
-  grants-room r {img′} w =
-      let p : length (decode L img′ .waiting) ≡ count ofOther (t .waiting) = ap (λ (z : Tables). length (z .waiting)) (w .tables) in
-      let q : length (waitRows L (decode L img′) a n) ≡ ones L t (λ j k. t .grants j n k) =
-      ap (λ (z : Tables). length (waitRows L z a n)) (w .tables) ∙ wait-length L t a n in
-      sums p q (r .1)
-
-  pub grants-left : {img′ img″ : List ℕ} → Wrote L img′ third → Wrote L img″ (withWaiting (decode L img′ .waiting ++ waitRows L (decode L img′) a n) (decode L img′))
-      → Wrote L img″ (listsWithout L t a n)
-  grants-left w v = wrote-then L (λ z. withWaiting (z .waiting ++ waitRows L z a n) z) w v
+  pub service-left : {img2 : List ℕ} → Wrote L img2 (behind WaitingGrants (leftBits L WaitingGrants (decode L img1) Grants j k) (decode L img1)) → Wrote L img2 (listsWithoutService L (decode L img) j k)
+  service-left v = wrote-then L (λ z. behind WaitingGrants (leftBits L WaitingGrants z Grants j k) z) w v

@@ -12,7 +12,7 @@ pub record Asked (L : Layout) (img : List ℕ) (a : Aid) (c : Change) : Type 0 w
   pub is-sound : T (sound L img)
   pub first-valid : T (validAid a)
   pub within : WithinChange L c
-  pub is-proper : T (proper a c)
+  pub is-proper : T (proper L a c)
 
 -- a row of AID a with the tokens x and y
 abbrev pub rowWith : Aid → ℕ → ℕ → Row

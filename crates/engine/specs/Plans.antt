@@ -7,38 +7,35 @@ use mathlib.Core.Option.{Option, none, some}
 use lib.Dec.{eqb, ltb}
 use lib.ListN.{length}
 use Rattle.policy.specs.Lists.{orElse}
-use Rattle.policy.specs.Contract.{Aid, eqAid, Row}
+use Rattle.policy.specs.Contract.{Aid, eqAid, eqTok, Row}
 use Rattle.policy.specs.Layout.{Layout}
 use Rattle.policy.specs.Tables.{Tables, decode, encode}
-use Rattle.policy.specs.Lookup.{Place, numberOf, serviceOf, serverOf}
-use Rattle.policy.specs.Sound.{eqUnmet}
-use Rattle.policy.specs.Draft.{callRow, put3}
+use Rattle.policy.specs.Lookup.{Place, Spot, numberOf, serverOf, spotOf}
+use Rattle.policy.specs.Draft.{put3}
 use Rattle.policy.specs.Judge.{Out, refusal}
 use Rattle.rows.specs.Area.{keepRows}
 use Rattle.geometry.specs.declared.Table.{Table}
 use Rattle.geometry.specs.declared.Table.the-variants.{Calls, Grants, Needs}
-use Rattle.image.specs.Laid.{tableOf, withTable, withUnmet, withWaiting}
-use Rattle.image.specs.Read.{maskOf}
+use Rattle.geometry.specs.declared.Kept.{Kept}
+use Rattle.geometry.specs.declared.Kept.the-variants.{UnmetCalls, WaitingGrants}
+use Rattle.image.specs.Laid.{tableOf, withTable, withItems}
+use Rattle.image.specs.Read.{itemsOf, item, itemAid, itemTok, itemNumber, maskOf}
 use Rattle.engine.specs.declared.plan.CallSpot.{CallSpot}
 use Rattle.engine.specs.declared.plan.CallSpot.the-variants.{Unserved, Served}
 use Rattle.engine.specs.declared.plan.CallSpot.the-variants as call
 use Rattle.engine.specs.declared.plan.GrantSpot.{GrantSpot}
-use Rattle.engine.specs.declared.plan.GrantSpot.the-variants.{Unprovided, Away, Installed}
+use Rattle.engine.specs.declared.plan.GrantSpot.the-variants.{Waits, Granted}
 use Rattle.engine.specs.declared.plan.GrantSpot.the-variants as grant
 use Rattle.engine.specs.declared.plan.Plan.{Plan}
 use Rattle.engine.specs.declared.plan.Plan.the-variants.{Refuse, Accept}
 use Rattle.engine.specs.declared.plan.Edit.{Edit}
-use Rattle.engine.specs.declared.plan.Edit.the-variants.{Set, Clear, Uncall, AddUnmet, DropUnmet, AddWaiting, DropWaiting}
+use Rattle.engine.specs.declared.plan.Edit.the-variants.{Set, Clear, Uncall, Add, Drop}
+
+-- which rows of a list are the row r of package n
+abbrev pub rowMask : Kept → Tables → ℕ → Row → ℕ
+rowMask l t n r = maskOf (λ x. eqAid (itemAid l x) (r .aid) && eqTok (itemTok l x) (r .tok) && eqb (itemNumber l x) n) (itemsOf l t)
 
 module _ (t : Tables) where
-  -- which unmet calls are the row r of package i
-  abbrev pub unmetMask : ℕ → Row → ℕ
-  unmetMask i r = maskOf (λ u. eqUnmet u (callRow i r)) (t .unmet)
-
-  -- which waiting grants are of service k of package j to the AID a
-  abbrev pub waitingMask : ℕ → ℕ → Aid → ℕ
-  waitingMask j k a = maskOf (λ w. eqAid (w .caller) a && (eqb (w .callee) j && eqb (w .service) k)) (t .waiting)
-
   -- bit z of entry x, y changed to v
   abbrev pub withBit : Table → ℕ → ℕ → ℕ → Bool → Tables
   withBit tb x y z v = withTable tb (put3 x y z v (tableOf tb t)) t
@@ -53,13 +50,13 @@ module _ (L : Layout) (t : Tables) (a : Aid) (r : Row) where
   abbrev pub callSpot : CallSpot
   callSpot = orElse (numberOf L t a) call.Absent (λ i. callAt i (serverOf L t r))
 
-  -- a grant: by the number of its package, that of its service, and that of its caller
-  abbrev pub grantAt : ℕ → ℕ → Option ℕ → GrantSpot
-  grantAt j k none = Away j k
-  grantAt j k (some i) = Installed j i k
+  -- a grant: by the number of its package, and where it stands as a bit
+  abbrev pub grantIs : ℕ → Option Spot → GrantSpot
+  grantIs j none = Waits j
+  grantIs j (some p) = Granted j (p .caller) (p .service)
 
   abbrev pub grantSpot : GrantSpot
-  grantSpot = orElse (numberOf L t a) grant.Absent (λ j. orElse (serviceOf L t j (r .tok)) Unprovided (λ k. grantAt j k (numberOf L t (r .aid))))
+  grantSpot = orElse (numberOf L t a) grant.Absent (λ j. grantIs j (spotOf L t j r))
 
 -- bit z of entry x, y is there
 abbrev pub BitAt : Layout → ℕ → ℕ → ℕ → Type 0
@@ -72,9 +69,8 @@ CallIn L (Served i j k) = BitAt L i j k
 
 abbrev pub GrantIn : Layout → GrantSpot → Type 0
 GrantIn L grant.Absent = Unit {0}
-GrantIn L Unprovided = Unit {0}
-GrantIn L (Away j k) = (j < L .packages) × (k < L .services)
-GrantIn L (Installed j i k) = BitAt L j i k
+GrantIn L (Waits j) = j < L .packages
+GrantIn L (Granted j i k) = BitAt L j i k
 
 -- s is where the row stands, and its numbers are in range
 pub record CallFound (L : Layout) (t : Tables) (a : Aid) (r : Row) (s : CallSpot) : Type 0 where
@@ -87,31 +83,36 @@ pub record GrantFound (L : Layout) (t : Tables) (a : Aid) (r : Row) (s : GrantSp
 
 -- ---- what the record comes to
 module _ (L : Layout) (t : Tables) (r : Row) where
+  -- a row added to a list, where it is not there and the list has room; a row dropped from it
+  abbrev pub addRow : Kept → ℕ → ℕ → Plan
+  addRow l n full = cond (eqb (rowMask l t n r) 0) (cond (ltb (length (itemsOf l t)) (L .capacity)) (Accept n (Add l)) (Refuse full)) (Refuse 6)
+
+  abbrev pub dropRow : Kept → ℕ → Plan
+  dropRow l n = cond (eqb (rowMask l t n r) 0) (Refuse 6) (Accept n (Drop l (rowMask l t n r)))
+
   abbrev pub addCallPlan : CallSpot → Plan
   addCallPlan call.Absent = Refuse 5
-  addCallPlan (Unserved i) = cond (eqb (unmetMask t i r) 0) (cond (ltb (length (t .unmet)) (L .capacity)) (Accept i AddUnmet) (Refuse 10)) (Refuse 6)
+  addCallPlan (Unserved i) = addRow UnmetCalls i 10
   addCallPlan (Served i j k) = cond (t .calls i j k) (Refuse 6) (cond (t .grants j i k) (Accept i (Set Calls j k)) (Refuse 8))
 
   abbrev pub removeCallPlan : CallSpot → Plan
   removeCallPlan call.Absent = Refuse 5
-  removeCallPlan (Unserved i) = cond (eqb (unmetMask t i r) 0) (Refuse 6) (Accept i (DropUnmet (unmetMask t i r)))
+  removeCallPlan (Unserved i) = dropRow UnmetCalls i
   removeCallPlan (Served i j k) = cond (t .calls i j k) (Accept i (Uncall j k)) (Refuse 6)
 
   abbrev pub addGrantPlan : GrantSpot → Plan
   addGrantPlan grant.Absent = Refuse 5
-  addGrantPlan Unprovided = Refuse 6
-  addGrantPlan (Away j k) = cond (eqb (waitingMask t j k (r .aid)) 0) (cond (ltb (length (t .waiting)) (L .capacity)) (Accept j (AddWaiting k)) (Refuse 11)) (Refuse 6)
-  addGrantPlan (Installed j i k) = cond (t .grants j i k) (Refuse 6) (Accept j (Set Grants i k))
+  addGrantPlan (Waits j) = addRow WaitingGrants j 11
+  addGrantPlan (Granted j i k) = cond (t .grants j i k) (Refuse 6) (Accept j (Set Grants i k))
 
   abbrev pub removeGrantPlan : GrantSpot → Plan
   removeGrantPlan grant.Absent = Refuse 5
-  removeGrantPlan Unprovided = Refuse 6
-  removeGrantPlan (Away j k) = cond (eqb (waitingMask t j k (r .aid)) 0) (Refuse 6) (Accept j (DropWaiting (waitingMask t j k (r .aid))))
-  removeGrantPlan (Installed j i k) = cond (t .grants j i k) (cond (t .calls i j k) (Refuse 8) (Accept j (Clear Grants i k))) (Refuse 6)
+  removeGrantPlan (Waits j) = dropRow WaitingGrants j
+  removeGrantPlan (Granted j i k) = cond (t .grants j i k) (cond (t .calls i j k) (Refuse 8) (Accept j (Clear Grants i k))) (Refuse 6)
 
   abbrev pub addNeedPlan : CallSpot → Plan
   addNeedPlan call.Absent = Refuse 5
-  addNeedPlan (Unserved i) = cond (eqb (unmetMask t i r) 0) (Refuse 6) (Refuse 9)
+  addNeedPlan (Unserved i) = cond (eqb (rowMask UnmetCalls t i r) 0) (Refuse 6) (Refuse 9)
   addNeedPlan (Served i j k) = cond (t .calls i j k) (cond (t .needs i j k) (Refuse 6) (Accept i (Set Needs j k))) (Refuse 6)
 
   abbrev pub removeNeedPlan : CallSpot → Plan
@@ -131,10 +132,8 @@ abbrev pub edited : Tables → Row → ℕ → Edit → Tables
 edited t r n (Set tb y z) = withBit t tb n y z true
 edited t r n (Clear tb y z) = withBit t tb n y z false
 edited t r n (Uncall j k) = withBit (withBit t Needs n j k false) Calls n j k false
-edited t r n AddUnmet = withUnmet (t .unmet ++ (callRow n r ∷ [])) t
-edited t r n (DropUnmet m) = withUnmet (keepRows m (t .unmet)) t
-edited t r n (AddWaiting k) = withWaiting (t .waiting ++ (record { caller = r .aid; callee = n; service = k } ∷ [])) t
-edited t r n (DropWaiting m) = withWaiting (keepRows m (t .waiting)) t
+edited t r n (Add l) = withItems l (itemsOf l t ++ (item l (r .aid) (r .tok) n ∷ [])) t
+edited t r n (Drop l m) = withItems l (keepRows m (itemsOf l t)) t
 
 abbrev pub done : Layout → List ℕ → Row → Plan → Out
 done L img r (Refuse n) = refusal n 255 img
@@ -146,10 +145,8 @@ module _ (L : Layout) (t : Tables) (r : Row) where
   Fits n (Set tb y z) = BitAt L n y z
   Fits n (Clear tb y z) = BitAt L n y z
   Fits n (Uncall j k) = BitAt L n j k
-  Fits n AddUnmet = (length (t .unmet) < L .capacity) × ((length (r .aid) ≤ 16) × (n < L .packages))
-  Fits n (DropUnmet m) = Unit {0}
-  Fits n (AddWaiting k) = (length (t .waiting) < L .capacity) × ((length (r .aid) ≤ 16) × ((n < L .packages) × (k < L .services)))
-  Fits n (DropWaiting m) = Unit {0}
+  Fits n (Add l) = (length (itemsOf l t) < L .capacity) × ((length (r .aid) ≤ 16) × (n < L .packages))
+  Fits n (Drop l m) = Unit {0}
 
   abbrev pub Inside : Plan → Type 0
   Inside (Refuse n) = Unit {0}

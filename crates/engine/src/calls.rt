@@ -12,6 +12,7 @@ use crate::plan::CallSpot;
 use crate::plan::Edit;
 use crate::plan::Plan;
 use geometry::Card;
+use geometry::Kept;
 use geometry::Table;
 
 // What kind 5 comes to.
@@ -23,15 +24,16 @@ fn plan_add_call(img: &[u8], c: Card, aid: &[u8], other: &[u8], interface: u8, m
 {
     match crate::plan::seek_call(img, c, aid, other, interface, method) {
         CallSpot::Absent => Plan::Refuse(5),
-        CallSpot::Unserved(i) => {
-            if crate::plan::unmet_mask(img, c, i, other, interface, method) != 0 {
-                return Plan::Refuse(6);
-            }
-            if image::lists::unmet_count(img, c) < geometry::capacity(c) {
-                return Plan::Accept(i, Edit::AddUnmet);
-            }
-            Plan::Refuse(10)
-        }
+        CallSpot::Unserved(i) => crate::plan::add_row(
+            img,
+            c,
+            Kept::UnmetCalls,
+            i,
+            other,
+            interface,
+            method,
+            10,
+        ),
         CallSpot::Served(i, j, k) => {
             if crate::plan::has(img, c, Table::Calls, i, j, k) {
                 return Plan::Refuse(6);
@@ -60,13 +62,15 @@ fn plan_remove_call(
 {
     match crate::plan::seek_call(img, c, aid, other, interface, method) {
         CallSpot::Absent => Plan::Refuse(5),
-        CallSpot::Unserved(i) => {
-            let mask = crate::plan::unmet_mask(img, c, i, other, interface, method);
-            if mask == 0 {
-                return Plan::Refuse(6);
-            }
-            Plan::Accept(i, Edit::DropUnmet(mask))
-        }
+        CallSpot::Unserved(i) => crate::plan::drop_row(
+            img,
+            c,
+            Kept::UnmetCalls,
+            i,
+            other,
+            interface,
+            method,
+        ),
         CallSpot::Served(i, j, k) => {
             if crate::plan::has(img, c, Table::Calls, i, j, k) {
                 return Plan::Accept(i, Edit::Uncall(j, k));

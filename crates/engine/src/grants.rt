@@ -1,4 +1,4 @@
-// Kinds 7 and 8: a grant of a package to a caller, which is a bit where the caller is installed, else a waiting grant.
+// Kinds 7 and 8: a grant of a package to a caller, which is a bit where caller and service are on the card, else a waiting grant.
 ghost use mathlib.Core.Path.{_≡_};
 ghost use Rattle.policy.specs.Record.{addGrant, removeGrant};
 ghost use Rattle.policy.specs.Tables.{decode};
@@ -12,6 +12,7 @@ use crate::plan::Edit;
 use crate::plan::GrantSpot;
 use crate::plan::Plan;
 use geometry::Card;
+use geometry::Kept;
 use geometry::Table;
 
 // What kind 7 comes to.
@@ -23,17 +24,17 @@ fn plan_add_grant(img: &[u8], c: Card, aid: &[u8], other: &[u8], interface: u8, 
 {
     match crate::plan::seek_grant(img, c, aid, other, interface, method) {
         GrantSpot::Absent => Plan::Refuse(5),
-        GrantSpot::Unprovided => Plan::Refuse(6),
-        GrantSpot::Away(j, k) => {
-            if crate::plan::waiting_mask(img, c, j, k, other) != 0 {
-                return Plan::Refuse(6);
-            }
-            if image::lists::waiting_count(img, c) < geometry::capacity(c) {
-                return Plan::Accept(j, Edit::AddWaiting(k));
-            }
-            Plan::Refuse(11)
-        }
-        GrantSpot::Installed(j, i, k) => {
+        GrantSpot::Waits(j) => crate::plan::add_row(
+            img,
+            c,
+            Kept::WaitingGrants,
+            j,
+            other,
+            interface,
+            method,
+            11,
+        ),
+        GrantSpot::Granted(j, i, k) => {
             if crate::plan::has(img, c, Table::Grants, j, i, k) {
                 return Plan::Refuse(6);
             }
@@ -58,15 +59,16 @@ fn plan_remove_grant(
 {
     match crate::plan::seek_grant(img, c, aid, other, interface, method) {
         GrantSpot::Absent => Plan::Refuse(5),
-        GrantSpot::Unprovided => Plan::Refuse(6),
-        GrantSpot::Away(j, k) => {
-            let mask = crate::plan::waiting_mask(img, c, j, k, other);
-            if mask == 0 {
-                return Plan::Refuse(6);
-            }
-            Plan::Accept(j, Edit::DropWaiting(mask))
-        }
-        GrantSpot::Installed(j, i, k) => {
+        GrantSpot::Waits(j) => crate::plan::drop_row(
+            img,
+            c,
+            Kept::WaitingGrants,
+            j,
+            other,
+            interface,
+            method,
+        ),
+        GrantSpot::Granted(j, i, k) => {
             if !crate::plan::has(img, c, Table::Grants, j, i, k) {
                 return Plan::Refuse(6);
             }

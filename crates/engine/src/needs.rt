@@ -12,6 +12,7 @@ use crate::plan::CallSpot;
 use crate::plan::Edit;
 use crate::plan::Plan;
 use geometry::Card;
+use geometry::Kept;
 use geometry::Table;
 
 // What kind 9 comes to.
@@ -24,7 +25,7 @@ fn plan_add_need(img: &[u8], c: Card, aid: &[u8], other: &[u8], interface: u8, m
     match crate::plan::seek_call(img, c, aid, other, interface, method) {
         CallSpot::Absent => Plan::Refuse(5),
         CallSpot::Unserved(i) => {
-            if crate::plan::unmet_mask(img, c, i, other, interface, method) == 0 {
+            if crate::plan::row_mask(img, c, Kept::UnmetCalls, i, other, interface, method) == 0 {
                 return Plan::Refuse(6);
             }
             Plan::Refuse(9)

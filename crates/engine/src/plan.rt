@@ -6,9 +6,10 @@ ghost use Rattle.geometry.specs.Geometry.{layoutOf};
 ghost use Rattle.image.specs.Laid.{Laid, tableOf};
 ghost use Rattle.image.specs.Wrote.{Wrote};
 ghost use Rattle.engine.specs.Asked.{rowWith};
-ghost use Rattle.engine.specs.Plans.{CallFound, GrantFound, unmetMask, waitingMask, BitAt, edited, Fits, Inside, done};
+ghost use Rattle.engine.specs.Plans.{CallFound, GrantFound, rowMask, addRow, dropRow, BitAt, edited, Fits, Inside, done};
 use crate::Verdict;
 use geometry::Card;
+use geometry::Kept;
 use geometry::Table;
 
 // Where a call or need stands: package number `caller`; then callee and service number where its service is on the card.
@@ -18,12 +19,11 @@ pub enum CallSpot {
     Served(usize, usize, usize),
 }
 
-// Where a grant stands: package and service number; the number of the caller between them where it is installed.
+// Where a grant stands: package number; then the caller's and the service number where both are on the card.
 pub enum GrantSpot {
     Absent,
-    Unprovided,
-    Away(usize, usize),
-    Installed(usize, usize, usize),
+    Waits(usize),
+    Granted(usize, usize, usize),
 }
 
 // One change of the tables, for the package of the record: a bit of its row in a table, by column and service; or a row of a list.
@@ -32,11 +32,9 @@ pub enum Edit {
     Clear(Table, usize, usize),
     // a call and the need on it, by callee and service
     Uncall(usize, usize),
-    AddUnmet,
-    DropUnmet(u32),
-    // by service
-    AddWaiting(usize),
-    DropWaiting(u32),
+    Add(Kept),
+    // by a mask
+    Drop(Kept, u32),
 }
 
 // A refusal by its cause, or an acceptance: the package number and the change.
@@ -98,35 +96,74 @@ pub fn seek_grant(
     if j >= n {
         return GrantSpot::Absent;
     }
-    let k = image::read::find_service(img, c, j, interface, method);
-    if k >= geometry::services(c) {
-        return GrantSpot::Unprovided;
-    }
-    let i = image::read::find_package(img, c, other);
+    let p = image::read::find_spot(img, c, j, other, interface, method);
+    let i = p.caller;
+    let k = p.service;
     if i < n {
-        return GrantSpot::Installed(j, i, k);
+        return GrantSpot::Granted(j, i, k);
     }
-    GrantSpot::Away(j, k)
+    GrantSpot::Waits(j)
 }
 
-// Which unmet calls are the row of package number i with the AID `other` and these tokens.
-pub fn unmet_mask(img: &[u8], c: Card, i: usize, other: &[u8], interface: u8, method: u8) -> u32
+// Which rows of a list are that of package number n with the AID `other` and these tokens.
+pub fn row_mask(
+    img: &[u8],
+    c: Card,
+    l: Kept,
+    n: usize,
+    other: &[u8],
+    interface: u8,
+    method: u8,
+) -> u32
     requires { ⌜ Laid (layoutOf c) (now img) ⌝ }
-    ensures { λ m. ⌜ m ≡ unmetMask (decode (layoutOf c) (now (img .entry))) i (rowWith (now (other .entry)) interface method) ⌝ }
+    ensures { λ m. ⌜ m ≡ rowMask l (decode (layoutOf c) (now (img .entry))) n (rowWith (now (other .entry)) interface method) ⌝ }
 {
-    let asking = image::lists::asking(img, c, other, interface, method);
-    let calling = image::lists::calling(img, c, i);
-    asking & calling
+    let alike = image::lists::with_row(img, c, l, other, interface, method);
+    let own = image::lists::with_number(img, c, l, n);
+    alike & own
 }
 
-// Which waiting grants are of service k of package number j to the AID `other`.
-pub fn waiting_mask(img: &[u8], c: Card, j: usize, k: usize, other: &[u8]) -> u32
+// A row of package number n more in a list, where it is not there yet; `full` is the cause where the list has no room.
+pub fn add_row(
+    img: &[u8],
+    c: Card,
+    l: Kept,
+    n: usize,
+    other: &[u8],
+    interface: u8,
+    method: u8,
+    full: u8,
+) -> Plan
     requires { ⌜ Laid (layoutOf c) (now img) ⌝ }
-    ensures { λ m. ⌜ m ≡ waitingMask (decode (layoutOf c) (now (img .entry))) j k (now (other .entry)) ⌝ }
+    ensures { λ r. ⌜ r ≡ addRow (layoutOf c) (decode (layoutOf c) (now (img .entry))) (rowWith (now (other .entry)) interface method) l n full ⌝ }
 {
-    let waiting = image::lists::waiting_for(img, c, other);
-    let granting = image::lists::granting(img, c, j, k);
-    waiting & granting
+    if row_mask(img, c, l, n, other, interface, method) != 0 {
+        return Plan::Refuse(6);
+    }
+    if image::lists::count(img, c, l) < geometry::capacity(c) {
+        return Plan::Accept(n, Edit::Add(l));
+    }
+    Plan::Refuse(full)
+}
+
+// A row of package number n less, where it is there.
+pub fn drop_row(
+    img: &[u8],
+    c: Card,
+    l: Kept,
+    n: usize,
+    other: &[u8],
+    interface: u8,
+    method: u8,
+) -> Plan
+    requires { ⌜ Laid (layoutOf c) (now img) ⌝ }
+    ensures { λ r. ⌜ r ≡ dropRow (layoutOf c) (decode (layoutOf c) (now (img .entry))) (rowWith (now (other .entry)) interface method) l n ⌝ }
+{
+    let mask = row_mask(img, c, l, n, other, interface, method);
+    if mask == 0 {
+        return Plan::Refuse(6);
+    }
+    Plan::Accept(n, Edit::Drop(l, mask))
 }
 
 // Makes the change; a row that is added to a list has the AID `other`, and these tokens.
@@ -156,10 +193,8 @@ fn apply(img: &mut [u8], c: Card, owner: usize, other: &[u8], interface: u8, met
             image::write::clear_bit(img, c, Table::Needs, owner, callee, service);
             image::write::clear_bit(img, c, Table::Calls, owner, callee, service);
         }
-        Edit::AddUnmet => image::write::append_unmet(img, c, other, interface, method, owner),
-        Edit::DropUnmet(mask) => image::write::drop_unmet(img, c, mask),
-        Edit::AddWaiting(service) => image::write::append_waiting(img, c, other, owner, service),
-        Edit::DropWaiting(mask) => image::write::drop_waiting(img, c, mask),
+        Edit::Add(l) => image::write::append_row(img, c, l, other, interface, method, owner),
+        Edit::Drop(l, mask) => image::write::drop_rows(img, c, l, mask),
     }
 }
 

@@ -1,50 +1,61 @@
-// Kinds 2 and 4: a package goes, and a service.
+// Kinds 2 and 4: a package goes, and a service; bits on it become rows of the two lists.
 ghost use mathlib.Core.Path.{_≡_};
-ghost use mathlib.Core.Bool.{_&&_, not};
-ghost use mathlib.Core.List.{_++_};
-ghost use Prim.Native.Nat.{_+_, _≤_, _<_};
-ghost use lib.Dec.{eqb};
+ghost use mathlib.Core.Bool.{true};
+ghost use Prim.Native.Nat.{_≤_, _<_};
+ghost use lib.Dec.{eqb, leb};
 ghost use lib.ListN.{length};
 ghost use Rattle.policy.specs.Record.{remove as removal, removeService};
 ghost use Rattle.policy.specs.Causes.{answer};
-ghost use Rattle.policy.specs.Tables.{bit, decode};
+ghost use Rattle.policy.specs.Tables.{bit, rowOf, decode};
+ghost use Rattle.policy.specs.Lookup.{numbers};
 ghost use Rattle.policy.specs.ShortCheck.{count, ones, shortRemove, shortRemoveService};
 ghost use Rattle.policy.specs.Judge.{lookCauses};
 ghost use Rattle.policy.specs.Settled.{settled, Gives};
 ghost use Rattle.geometry.specs.Geometry.{layoutOf};
-ghost use Rattle.image.specs.Laid.{Laid, tableOf, withUnmet, withWaiting};
+ghost use Rattle.image.specs.Laid.{Laid, tableOf};
 ghost use Rattle.image.specs.Wrote.{Wrote};
 ghost use Rattle.image.specs.Read.{tokens};
 ghost use Rattle.engine.specs.Asked.{Asked};
-ghost use Rattle.engine.specs.Removals.{leftOne, leftRow, leftRows, waitOne, waitRow, waitRows, RoomWithout, listsWithout, tablesWithout, RoomWithoutService, listsWithoutService, tablesWithoutService};
+ghost use Rattle.engine.specs.Removals.{byList, between as bitsBetween, behind, RoomBehind, leftOne, leftRow, leftRows, rowsWithout, listWithout, leftBit, leftBits, rowsWithBits, RoomWithout, listsWithout, tablesWithout, RoomWithoutService, listsWithoutService, tablesWithoutService};
 use crate::Verdict;
 use geometry::Card;
+use geometry::Kept;
 use geometry::Table;
 
-// How many bits of column j of a table are among those of the mask.
-fn column(img: &[u8], c: Card, tb: Table, j: usize, mask: u16) -> usize
-    requires laid { ⌜ Laid (layoutOf c) (now img) ⌝ }
-    requires inside { ⌜ j < layoutOf c .packages ⌝ }
-    ensures { λ r. ⌜ (r ≡ ones (layoutOf c) (decode (layoutOf c) (now (img .entry))) (λ i k. tableOf tb (decode (layoutOf c) (now (img .entry))) i j k && bit mask k))
-        × (r ≤ 256) ⌝ }
+// x for the unmet calls, y for the waiting grants.
+fn by_list(l: Kept, x: usize, y: usize) -> usize
+    ensures { λ r. ⌜ r ≡ byList l x y ⌝ }
 {
-    let n = geometry::packages(c);
-    let mut total: usize = 0;
-    for i in 0..n {
-        let row = image::read::entry(img, c, tb, i, j);
-        total += bits::count(row & mask);
+    match l {
+        Kept::UnmetCalls => x,
+        Kept::WaitingGrants => y,
     }
-    total
 }
 
-// The unmet call of caller i on service k of package j, whose AID is `aid`, where the row has its bit.
-fn leave_one(img: &mut [u8], c: Card, aid: &[u8], j: usize, i: usize, row: u16, k: usize)
+// The cause from 9 to 11 by the needs on what goes, and by the rows of the two lists afterwards; 0 where there is none.
+fn first_cause(most: usize, needed: usize, unmet: usize, waiting: usize) -> u8
+    ensures { λ r. ⌜ r ≡ answer (lookCauses (record { granted = true; needed = eqb needed 0; unmetFits = leb unmet most; waitingFits = leb waiting most })) ⌝ }
+{
+    if needed != 0 {
+        return 9;
+    }
+    if unmet > most {
+        return 10;
+    }
+    if waiting > most {
+        return 11;
+    }
+    0
+}
+
+// One row more of list l, where `row` has bit k: of package i for service k of package j, with this AID.
+fn leave_one(img: &mut [u8], c: Card, l: Kept, aid: &[u8], j: usize, i: usize, row: u16, k: usize)
     requires laid { ⌜ Laid (layoutOf c) (now img) ⌝ }
     requires inside { ⌜ (j < layoutOf c .packages) × (i < layoutOf c .packages) × (k < layoutOf c .services) ⌝ }
     requires short { ⌜ length (now aid) ≤ 16 ⌝ }
-    requires room { ⌜ length (decode (layoutOf c) (now img) .unmet) + length (leftOne (decode (layoutOf c) (now img)) (now aid) j i (bit row) k) ≤ layoutOf c .capacity ⌝ }
-    ensures { λ _. ⌜ Wrote (layoutOf c) (now (img .exit)) (withUnmet (decode (layoutOf c) (now (img .entry)) .unmet
-        ++ leftOne (decode (layoutOf c) (now (img .entry))) (now (aid .entry)) j i (bit row) k) (decode (layoutOf c) (now (img .entry)))) ⌝ }
+    requires room { ⌜ RoomBehind l (layoutOf c) (leftOne l (decode (layoutOf c) (now img)) (now aid) j i (bit row) k) (decode (layoutOf c) (now img)) ⌝ }
+    ensures { λ _. ⌜ Wrote (layoutOf c) (now (img .exit))
+        (behind l (leftOne l (decode (layoutOf c) (now (img .entry))) (now (aid .entry)) j i (bit row) k) (decode (layoutOf c) (now (img .entry)))) ⌝ }
 {
     if !bits::has_bit(row, k) {
         return;
@@ -52,113 +63,35 @@ fn leave_one(img: &mut [u8], c: Card, aid: &[u8], j: usize, i: usize, row: u16, 
     let at = geometry::tok_at(c, j, k);
     let interface = img[at];
     let method = img[at + 1];
-    image::write::append_unmet(img, c, aid, interface, method, i);
+    image::write::append_row(img, c, l, aid, interface, method, i);
 }
 
-// The unmet calls of caller i on the services of the row: of package j, whose AID is `aid`.
-fn leave_row(img: &mut [u8], c: Card, aid: &[u8], j: usize, i: usize, row: u16)
-    requires laid { ⌜ Laid (layoutOf c) (now img) ⌝ }
-    requires inside { ⌜ (j < layoutOf c .packages) × (i < layoutOf c .packages) ⌝ }
-    requires short { ⌜ length (now aid) ≤ 16 ⌝ }
-    requires room { ⌜ length (decode (layoutOf c) (now img) .unmet) + length (leftRow (layoutOf c) (decode (layoutOf c) (now img)) (now aid) j i (bit row)) ≤ layoutOf c .capacity ⌝ }
-    ensures { λ _. ⌜ Wrote (layoutOf c) (now (img .exit)) (withUnmet (decode (layoutOf c) (now (img .entry)) .unmet
-        ++ leftRow (layoutOf c) (decode (layoutOf c) (now (img .entry))) (now (aid .entry)) j i (bit row)) (decode (layoutOf c) (now (img .entry)))) ⌝ }
-{
-    let m = geometry::services(c);
-    for k in 0..m {
-        leave_one(img, c, aid, j, i, row, k);
-    }
-}
-
-// The unmet calls that callers of package j's services of the mask have when these go, by caller number then service number.
-fn leave_calls(img: &mut [u8], c: Card, aid: &[u8], j: usize, mask: u16)
-    requires laid { ⌜ Laid (layoutOf c) (now img) ⌝ }
-    requires inside { ⌜ j < layoutOf c .packages ⌝ }
-    requires short { ⌜ length (now aid) ≤ 16 ⌝ }
-    requires room { ⌜ length (decode (layoutOf c) (now img) .unmet) + length (leftRows (layoutOf c) (decode (layoutOf c) (now img)) (now aid) j (bit mask)) ≤ layoutOf c .capacity ⌝ }
-    ensures { λ _. ⌜ Wrote (layoutOf c) (now (img .exit)) (withUnmet (decode (layoutOf c) (now (img .entry)) .unmet
-        ++ leftRows (layoutOf c) (decode (layoutOf c) (now (img .entry))) (now (aid .entry)) j (bit mask)) (decode (layoutOf c) (now (img .entry)))) ⌝ }
-{
-    let n = geometry::packages(c);
-    for i in 0..n {
-        let row = image::read::entry(img, c, Table::Calls, i, j);
-        leave_row(img, c, aid, j, i, row & mask);
-    }
-}
-
-// The waiting grant of service k of package j to the AID, where the row has its bit.
-fn wait_one(img: &mut [u8], c: Card, aid: &[u8], j: usize, row: u16, k: usize)
-    requires laid { ⌜ Laid (layoutOf c) (now img) ⌝ }
-    requires inside { ⌜ (j < layoutOf c .packages) × (k < layoutOf c .services) ⌝ }
-    requires short { ⌜ length (now aid) ≤ 16 ⌝ }
-    requires room { ⌜ length (decode (layoutOf c) (now img) .waiting) + length (waitOne (now aid) j (bit row) k) ≤ layoutOf c .capacity ⌝ }
-    ensures { λ _. ⌜ Wrote (layoutOf c) (now (img .exit)) (withWaiting (decode (layoutOf c) (now (img .entry)) .waiting
-        ++ waitOne (now (aid .entry)) j (bit row) k) (decode (layoutOf c) (now (img .entry)))) ⌝ }
-{
-    if !bits::has_bit(row, k) {
-        return;
-    }
-    image::write::append_waiting(img, c, aid, j, k);
-}
-
-// The waiting grants of the services of the row: of package j, to the AID.
-fn wait_row(img: &mut [u8], c: Card, aid: &[u8], j: usize, row: u16)
-    requires laid { ⌜ Laid (layoutOf c) (now img) ⌝ }
-    requires inside { ⌜ j < layoutOf c .packages ⌝ }
-    requires short { ⌜ length (now aid) ≤ 16 ⌝ }
-    requires room { ⌜ length (decode (layoutOf c) (now img) .waiting) + length (waitRow (layoutOf c) (decode (layoutOf c) (now img)) (now aid) j (bit row)) ≤ layoutOf c .capacity ⌝ }
-    ensures { λ _. ⌜ Wrote (layoutOf c) (now (img .exit)) (withWaiting (decode (layoutOf c) (now (img .entry)) .waiting
-        ++ waitRow (layoutOf c) (decode (layoutOf c) (now (img .entry))) (now (aid .entry)) j (bit row)) (decode (layoutOf c) (now (img .entry)))) ⌝ }
-{
-    let m = geometry::services(c);
-    for k in 0..m {
-        wait_one(img, c, aid, j, row, k);
-    }
-}
-
-// The waiting grants to package n, whose AID is `aid`, when it goes, by callee number then service number.
-fn leave_grants(img: &mut [u8], c: Card, aid: &[u8], n: usize)
+// ---- kind 2
+// How many bits column n of a table has.
+fn column(img: &[u8], c: Card, tb: Table, n: usize) -> usize
     requires laid { ⌜ Laid (layoutOf c) (now img) ⌝ }
     requires inside { ⌜ n < layoutOf c .packages ⌝ }
-    requires short { ⌜ length (now aid) ≤ 16 ⌝ }
-    requires room { ⌜ length (decode (layoutOf c) (now img) .waiting) + length (waitRows (layoutOf c) (decode (layoutOf c) (now img)) (now aid) n) ≤ layoutOf c .capacity ⌝ }
-    ensures { λ _. ⌜ Wrote (layoutOf c) (now (img .exit)) (withWaiting (decode (layoutOf c) (now (img .entry)) .waiting
-        ++ waitRows (layoutOf c) (decode (layoutOf c) (now (img .entry))) (now (aid .entry)) n) (decode (layoutOf c) (now (img .entry)))) ⌝ }
+    ensures { λ r. ⌜ (r ≡ ones (layoutOf c) (decode (layoutOf c) (now (img .entry))) (λ i k. tableOf tb (decode (layoutOf c) (now (img .entry))) i n k)) × (r ≤ 256) ⌝ }
 {
-    let m = geometry::packages(c);
-    for j in 0..m {
-        let row = image::read::entry(img, c, Table::Grants, j, n);
-        wait_row(img, c, aid, j, row);
+    let size = geometry::packages(c);
+    let mut total: usize = 0;
+    for i in 0..size {
+        let row = image::read::entry(img, c, tb, i, n);
+        total += bits::count(row);
     }
-}
-
-// How many unmet calls there are when package n has gone: its own go, and those that it leaves behind are added.
-fn unmet_after(img: &[u8], c: Card, n: usize) -> usize
-    requires laid { ⌜ Laid (layoutOf c) (now img) ⌝ }
-    requires inside { ⌜ n < layoutOf c .packages ⌝ }
-    ensures { λ r. ⌜ r ≡ count (λ x. not (eqb (x .caller) n)) (decode (layoutOf c) (now (img .entry)) .unmet)
-        + ones (layoutOf c) (decode (layoutOf c) (now (img .entry))) (λ x k. decode (layoutOf c) (now (img .entry)) .calls x n k) ⌝ }
-{
-    let all = image::lists::unmet_count(img, c);
-    let mask = image::lists::calling(img, c, n);
-    let own = image::lists::mask_count(mask);
-    let left = column(img, c, Table::Calls, n, 65535);
-    let rest = all - own;
-    let total = rest + left;
     total
 }
 
-// How many waiting grants there are when package n has gone: its own go, and those that it leaves behind are added.
-fn waiting_after(img: &[u8], c: Card, n: usize) -> usize
+// How many rows list l has when package n has gone: its own go, and those that it leaves behind are added.
+fn rows_after(img: &[u8], c: Card, l: Kept, tb: Table, n: usize) -> usize
     requires laid { ⌜ Laid (layoutOf c) (now img) ⌝ }
     requires inside { ⌜ n < layoutOf c .packages ⌝ }
-    ensures { λ r. ⌜ r ≡ count (λ x. not (eqb (x .callee) n)) (decode (layoutOf c) (now (img .entry)) .waiting)
-        + ones (layoutOf c) (decode (layoutOf c) (now (img .entry))) (λ x k. decode (layoutOf c) (now (img .entry)) .grants x n k) ⌝ }
+    ensures { λ r. ⌜ r ≡ rowsWithout (layoutOf c) l (decode (layoutOf c) (now (img .entry))) tb n ⌝ }
 {
-    let all = image::lists::waiting_count(img, c);
-    let mask = image::lists::granted_by(img, c, n);
+    let all = image::lists::count(img, c, l);
+    let mask = image::lists::with_number(img, c, l, n);
     let own = image::lists::mask_count(mask);
-    let left = column(img, c, Table::Grants, n, 65535);
+    let left = column(img, c, tb, n);
     let rest = all - own;
     let total = rest + left;
     total
@@ -171,22 +104,58 @@ fn remove_cause(img: &[u8], c: Card, n: usize) -> u8
     ensures { λ r. ⌜ r ≡ answer (lookCauses (shortRemove (layoutOf c) (decode (layoutOf c) (now (img .entry))) n)) ⌝ }
 {
     let most = geometry::capacity(c);
-    let needed = column(img, c, Table::Needs, n, 65535);
-    if needed != 0 {
-        return 9;
-    }
-    let unmet = unmet_after(img, c, n);
-    if unmet > most {
-        return 10;
-    }
-    let waiting = waiting_after(img, c, n);
-    if waiting > most {
-        return 11;
-    }
-    0
+    let needed = column(img, c, Table::Needs, n);
+    let unmet = rows_after(img, c, Kept::UnmetCalls, Table::Calls, n);
+    let waiting = rows_after(img, c, Kept::WaitingGrants, Table::Grants, n);
+    first_cause(most, needed, unmet, waiting)
 }
 
-// The two lists without package n's own rows, and with those that it leaves behind.
+// The rows of package i for the services of package j that `row` has, with this AID.
+fn leave_row(img: &mut [u8], c: Card, l: Kept, aid: &[u8], j: usize, i: usize, row: u16)
+    requires laid { ⌜ Laid (layoutOf c) (now img) ⌝ }
+    requires inside { ⌜ (j < layoutOf c .packages) × (i < layoutOf c .packages) ⌝ }
+    requires short { ⌜ length (now aid) ≤ 16 ⌝ }
+    requires room { ⌜ RoomBehind l (layoutOf c) (leftRow (layoutOf c) l (decode (layoutOf c) (now img)) (now aid) j i (bit row)) (decode (layoutOf c) (now img)) ⌝ }
+    ensures { λ _. ⌜ Wrote (layoutOf c) (now (img .exit))
+        (behind l (leftRow (layoutOf c) l (decode (layoutOf c) (now (img .entry))) (now (aid .entry)) j i (bit row)) (decode (layoutOf c) (now (img .entry)))) ⌝ }
+{
+    let size = geometry::services(c);
+    for k in 0..size {
+        leave_one(img, c, l, aid, j, i, row, k);
+    }
+}
+
+// The rows of the others for column n of the table, by package number then service number: calls on package n, whose AID this is, or grants to it.
+fn leave_rows(img: &mut [u8], c: Card, l: Kept, tb: Table, aid: &[u8], n: usize)
+    requires laid { ⌜ Laid (layoutOf c) (now img) ⌝ }
+    requires inside { ⌜ n < layoutOf c .packages ⌝ }
+    requires short { ⌜ length (now aid) ≤ 16 ⌝ }
+    requires room { ⌜ RoomBehind l (layoutOf c) (leftRows (layoutOf c) l (decode (layoutOf c) (now img)) tb (now aid) n) (decode (layoutOf c) (now img)) ⌝ }
+    ensures { λ _. ⌜ Wrote (layoutOf c) (now (img .exit))
+        (behind l (leftRows (layoutOf c) l (decode (layoutOf c) (now (img .entry))) tb (now (aid .entry)) n) (decode (layoutOf c) (now (img .entry)))) ⌝ }
+{
+    let size = geometry::packages(c);
+    for i in 0..size {
+        let row = image::read::entry(img, c, tb, i, n);
+        let j = by_list(l, n, i);
+        leave_row(img, c, l, aid, j, i, row);
+    }
+}
+
+// List l without package n's own rows, and with those that it leaves behind.
+fn leave_list(img: &mut [u8], c: Card, l: Kept, tb: Table, aid: &[u8], n: usize)
+    requires laid { ⌜ Laid (layoutOf c) (now img) ⌝ }
+    requires inside { ⌜ n < layoutOf c .packages ⌝ }
+    requires short { ⌜ length (now aid) ≤ 16 ⌝ }
+    requires room { ⌜ rowsWithout (layoutOf c) l (decode (layoutOf c) (now img)) tb n ≤ layoutOf c .capacity ⌝ }
+    ensures { λ _. ⌜ Wrote (layoutOf c) (now (img .exit)) (listWithout (layoutOf c) l (decode (layoutOf c) (now (img .entry))) tb (now (aid .entry)) n) ⌝ }
+{
+    let own = image::lists::with_number(img, c, l, n);
+    image::write::drop_rows(img, c, l, own);
+    leave_rows(img, c, l, tb, aid, n);
+}
+
+// Both lists.
 fn leave_lists(img: &mut [u8], c: Card, aid: &[u8], n: usize)
     requires laid { ⌜ Laid (layoutOf c) (now img) ⌝ }
     requires inside { ⌜ n < layoutOf c .packages ⌝ }
@@ -194,12 +163,8 @@ fn leave_lists(img: &mut [u8], c: Card, aid: &[u8], n: usize)
     requires room { ⌜ RoomWithout (layoutOf c) (decode (layoutOf c) (now img)) n ⌝ }
     ensures { λ _. ⌜ Wrote (layoutOf c) (now (img .exit)) (listsWithout (layoutOf c) (decode (layoutOf c) (now (img .entry))) (now (aid .entry)) n) ⌝ }
 {
-    let own = image::lists::calling(img, c, n);
-    image::write::drop_unmet(img, c, own);
-    leave_calls(img, c, aid, n, 65535);
-    let given = image::lists::granted_by(img, c, n);
-    image::write::drop_waiting(img, c, given);
-    leave_grants(img, c, aid, n);
+    leave_list(img, c, Kept::UnmetCalls, Table::Calls, aid, n);
+    leave_list(img, c, Kept::WaitingGrants, Table::Grants, aid, n);
 }
 
 // The places of package n cleared.
@@ -237,6 +202,47 @@ pub fn remove(img: &mut [u8], c: Card, aid: &[u8]) -> Verdict
     crate::accepted(n)
 }
 
+// ---- kind 4
+// The bits of a table for the services of package j and package i, which calls or needs them, or has them granted.
+fn between(img: &[u8], c: Card, tb: Table, j: usize, i: usize) -> u16
+    requires laid { ⌜ Laid (layoutOf c) (now img) ⌝ }
+    requires inside { ⌜ (j < layoutOf c .packages) × (i < layoutOf c .packages) ⌝ }
+    ensures { λ r. ⌜ r ≡ rowOf (layoutOf c .services) (bitsBetween tb (decode (layoutOf c) (now (img .entry))) j i) ⌝ }
+{
+    match tb {
+        Table::Calls => image::read::entry(img, c, tb, i, j),
+        Table::Grants => image::read::entry(img, c, tb, j, i),
+        Table::Needs => image::read::entry(img, c, tb, i, j),
+    }
+}
+
+// For how many packages a table has the bit of service k of package j.
+fn holders(img: &[u8], c: Card, tb: Table, j: usize, k: usize) -> usize
+    requires laid { ⌜ Laid (layoutOf c) (now img) ⌝ }
+    requires inside { ⌜ (j < layoutOf c .packages) × (k < layoutOf c .services) ⌝ }
+    ensures { λ r. ⌜ r ≡ count (λ i. bitsBetween tb (decode (layoutOf c) (now (img .entry))) j i k) (numbers (layoutOf c)) ⌝ }
+{
+    let size = geometry::packages(c);
+    let mut total: usize = 0;
+    for i in 0..size {
+        let row = between(img, c, tb, j, i);
+        total += bits::has_bit(row, k) as usize;
+    }
+    total
+}
+
+// How many rows list l has when service k of package j has gone: a row for each of its bits is added.
+fn rows_with(img: &[u8], c: Card, l: Kept, tb: Table, j: usize, k: usize) -> usize
+    requires laid { ⌜ Laid (layoutOf c) (now img) ⌝ }
+    requires inside { ⌜ (j < layoutOf c .packages) × (k < layoutOf c .services) ⌝ }
+    ensures { λ r. ⌜ r ≡ rowsWithBits (layoutOf c) l (decode (layoutOf c) (now (img .entry))) tb j k ⌝ }
+{
+    let all = image::lists::count(img, c, l);
+    let more = holders(img, c, tb, j, k);
+    let total = all + more;
+    total
+}
+
 // The cause from 8 to 11 for which service k of package j does not go; 0 where there is none.
 fn service_cause(img: &[u8], c: Card, j: usize, k: usize) -> u8
     requires laid { ⌜ Laid (layoutOf c) (now img) ⌝ }
@@ -244,32 +250,61 @@ fn service_cause(img: &[u8], c: Card, j: usize, k: usize) -> u8
     ensures { λ r. ⌜ r ≡ answer (lookCauses (shortRemoveService (layoutOf c) (decode (layoutOf c) (now (img .entry))) j k)) ⌝ }
 {
     let most = geometry::capacity(c);
-    let mask = bits::with_bit(0, k);
-    let needed = column(img, c, Table::Needs, j, mask);
-    if needed != 0 {
-        return 9;
-    }
-    let all = image::lists::unmet_count(img, c);
-    let left = column(img, c, Table::Calls, j, mask);
-    let total = all + left;
-    if total > most {
-        return 10;
-    }
-    0
+    let needed = holders(img, c, Table::Needs, j, k);
+    let unmet = rows_with(img, c, Kept::UnmetCalls, Table::Calls, j, k);
+    let waiting = rows_with(img, c, Kept::WaitingGrants, Table::Grants, j, k);
+    first_cause(most, needed, unmet, waiting)
 }
 
-// The two lists with the calls on service k of package j, and without its waiting grants.
-fn leave_service(img: &mut [u8], c: Card, aid: &[u8], j: usize, k: usize)
+// One row more of list l, as in `leave_one`, with the AID of package m.
+fn leave_named(img: &mut [u8], c: Card, l: Kept, m: usize, j: usize, i: usize, row: u16, k: usize)
+    requires laid { ⌜ Laid (layoutOf c) (now img) ⌝ }
+    requires inside { ⌜ (j < layoutOf c .packages) × (i < layoutOf c .packages) × (k < layoutOf c .services) ⌝ }
+    requires named { ⌜ m < layoutOf c .packages ⌝ }
+    requires room { ⌜ RoomBehind l (layoutOf c) (leftOne l (decode (layoutOf c) (now img)) (decode (layoutOf c) (now img) .aid m) j i (bit row) k) (decode (layoutOf c) (now img)) ⌝ }
+    ensures { λ _. ⌜ Wrote (layoutOf c) (now (img .exit))
+        (behind l (leftOne l (decode (layoutOf c) (now (img .entry))) (decode (layoutOf c) (now (img .entry)) .aid m) j i (bit row) k) (decode (layoutOf c) (now (img .entry)))) ⌝ }
+{
+    let place = image::read::aid_place(img, c, m);
+    let n = place[0] as usize;
+    leave_one(img, c, l, &place[1..n + 1], j, i, row, k);
+}
+
+// The row for service k of package j and package i, where the table has the bit: i's call on j, or j's grant to i.
+fn leave_bit(img: &mut [u8], c: Card, l: Kept, tb: Table, j: usize, k: usize, i: usize)
+    requires laid { ⌜ Laid (layoutOf c) (now img) ⌝ }
+    requires inside { ⌜ (j < layoutOf c .packages) × (i < layoutOf c .packages) × (k < layoutOf c .services) ⌝ }
+    requires room { ⌜ RoomBehind l (layoutOf c) (leftBit (layoutOf c) l (decode (layoutOf c) (now img)) tb j k i) (decode (layoutOf c) (now img)) ⌝ }
+    ensures { λ _. ⌜ Wrote (layoutOf c) (now (img .exit)) (behind l (leftBit (layoutOf c) l (decode (layoutOf c) (now (img .entry))) tb j k i) (decode (layoutOf c) (now (img .entry)))) ⌝ }
+{
+    let row = between(img, c, tb, j, i);
+    let named = by_list(l, j, i);
+    let owner = by_list(l, i, j);
+    leave_named(img, c, l, named, j, owner, row, k);
+}
+
+// Those for all packages, by number.
+fn leave_bits(img: &mut [u8], c: Card, l: Kept, tb: Table, j: usize, k: usize)
     requires laid { ⌜ Laid (layoutOf c) (now img) ⌝ }
     requires inside { ⌜ (j < layoutOf c .packages) × (k < layoutOf c .services) ⌝ }
-    requires short { ⌜ length (now aid) ≤ 16 ⌝ }
-    requires room { ⌜ RoomWithoutService (layoutOf c) (decode (layoutOf c) (now img)) j k ⌝ }
-    ensures { λ _. ⌜ Wrote (layoutOf c) (now (img .exit)) (listsWithoutService (layoutOf c) (decode (layoutOf c) (now (img .entry))) (now (aid .entry)) j k) ⌝ }
+    requires room { ⌜ RoomBehind l (layoutOf c) (leftBits (layoutOf c) l (decode (layoutOf c) (now img)) tb j k) (decode (layoutOf c) (now img)) ⌝ }
+    ensures { λ _. ⌜ Wrote (layoutOf c) (now (img .exit)) (behind l (leftBits (layoutOf c) l (decode (layoutOf c) (now (img .entry))) tb j k) (decode (layoutOf c) (now (img .entry)))) ⌝ }
 {
-    let mask = bits::with_bit(0, k);
-    leave_calls(img, c, aid, j, mask);
-    let given = image::lists::granting(img, c, j, k);
-    image::write::drop_waiting(img, c, given);
+    let callers = geometry::packages(c);
+    for i in 0..callers {
+        leave_bit(img, c, l, tb, j, k, i);
+    }
+}
+
+// The two lists with the calls on service k of package j, and with its grants.
+fn leave_service(img: &mut [u8], c: Card, j: usize, k: usize)
+    requires laid { ⌜ Laid (layoutOf c) (now img) ⌝ }
+    requires inside { ⌜ (j < layoutOf c .packages) × (k < layoutOf c .services) ⌝ }
+    requires room { ⌜ RoomWithoutService (layoutOf c) (decode (layoutOf c) (now img)) j k ⌝ }
+    ensures { λ _. ⌜ Wrote (layoutOf c) (now (img .exit)) (listsWithoutService (layoutOf c) (decode (layoutOf c) (now (img .entry))) j k) ⌝ }
+{
+    leave_bits(img, c, Kept::UnmetCalls, Table::Calls, j, k);
+    leave_bits(img, c, Kept::WaitingGrants, Table::Grants, j, k);
 }
 
 // The places of service k of package j cleared.
@@ -307,7 +342,7 @@ pub fn remove_service(img: &mut [u8], c: Card, aid: &[u8], interface: u8, method
     if cause != 0 {
         return crate::refused(cause);
     }
-    leave_service(img, c, aid, j, k);
+    leave_service(img, c, j, k);
     clear_service(img, c, j, k);
     crate::accepted(j)
 }

@@ -1,36 +1,43 @@
-// Kind 3: a service with its grants. Unmet calls on it become bits; a grant waits where its caller is not installed.
+// Kind 3: a service with its grants. Unmet calls on it and waiting grants of it become bits; a grant waits, once, where its caller is not installed.
 ghost use mathlib.Core.Path.{_≡_};
-ghost use mathlib.Core.Bool.{Bool};
-ghost use mathlib.Core.Option.{none};
-ghost use Prim.Native.Nat.{_+_, _≤_, _<_};
-ghost use lib.Dec.{T, leb};
+ghost use mathlib.Core.Bool.{Bool, true, false, not, _&&_, _||_};
+ghost use Prim.Native.Nat.{ℕ, _+_, _<_};
+ghost use lib.Dec.{T, eqb, leb};
 ghost use lib.ListN.{length};
 ghost use Rattle.policy.specs.Lists.{implies, every, exists};
-ghost use Rattle.policy.specs.Contract.{Aid as Bytes, eqAid};
+ghost use Rattle.policy.specs.Contract.{eqAid};
 ghost use Rattle.policy.specs.Record.{aid, addService};
-ghost use Rattle.policy.specs.Tables.{Unmet, bit, decode};
+ghost use Rattle.policy.specs.Tables.{Unmet, Waiting, bit, decode};
 ghost use Rattle.policy.specs.Lookup.{numberOf};
 ghost use Rattle.policy.specs.Sound.{sound};
-ghost use Rattle.policy.specs.Draft.{addGrantAt};
-ghost use Rattle.policy.specs.ShortCheck.{count, notInstalled, fits};
+ghost use Rattle.policy.specs.Draft.{installedAid};
+ghost use Rattle.policy.specs.ShortCheck.{count};
 ghost use Rattle.policy.specs.Settled.{settled, Gives};
 ghost use Rattle.geometry.specs.Geometry.{layoutOf};
 ghost use Rattle.image.specs.Laid.{Laid};
 ghost use Rattle.image.specs.Wrote.{Wrote};
-ghost use Rattle.image.specs.Read.{maskOf, numberOr, tokens, unmetRow};
+ghost use Rattle.image.specs.Read.{maskOf, numberOr, tokens, unmetRow, waitingRow};
 ghost use Rattle.record.specs.Meaning.{AidFits, Stands, aidIn, itemsIn};
 ghost use Rattle.engine.specs.Asked.{Asked};
-ghost use Rattle.engine.specs.Services.{asks, Named, metCall, met, CallersIn, opened, grantedTo, added, byCallers, addingPlan};
+ghost use Rattle.engine.specs.Services.{asks, Named, metOne, met, CallersIn, GivenIn, opened, served, serviceNumber, holder, settledOne, settledAll, DueAt};
+ghost use Rattle.engine.specs.Services.{waitsIn, waitedAt, isLone, grantedAt, grantedAll, RoomFor, added, AddFits, dueTo, byCallers, addingAt, addingPlan};
 use crate::Verdict;
 use geometry::Card;
+use geometry::Kept;
 use geometry::Table;
 use record::Aid;
 use record::Items;
 
-// A refusal by its cause; or the numbers of the package and of its new service.
+// A refusal by its cause; or the numbers of the package and of its new service, and which waiting grants become bits.
 pub enum Adding {
-    Refuse { cause: u8 },
-    Add { package: usize, service: usize },
+    Refuse {
+        cause: u8,
+    },
+    Add {
+        package: usize,
+        service: usize,
+        due: u32,
+    },
 }
 
 // The number of the package with an AID of the record; the number of packages where there is none.
@@ -43,18 +50,93 @@ pub fn find_caller(img: &[u8], c: Card, rec: &[u8], a: Aid) -> usize
     image::read::find_package(img, c, other)
 }
 
-// Whether no package has an AID of the record.
-fn is_new(img: &[u8], c: Card, rec: &[u8], a: Aid) -> bool
-    requires laid { ⌜ Laid (layoutOf c) (now img) ⌝ }
-    requires fits { ⌜ AidFits (now rec) a ⌝ }
-    ensures { λ r. ⌜ r ≡ notInstalled (layoutOf c) (decode (layoutOf c) (now (img .entry))) (aidIn (now (rec .entry)) a) ⌝ }
+// Bit r of the mask is set.
+pub fn has_row(mask: u32, r: usize) -> bool
+    requires { ⌜ r < 32 ⌝ }
+    ensures { λ b. ⌜ b ≡ bit mask r ⌝ }
 {
-    let n = geometry::packages(c);
-    let i = find_caller(img, c, rec, a);
-    if i < n {
-        return false;
+    (mask >> r) & 1 == 1
+}
+
+// The number of the service that waiting grant r is of; the number of services where its package does not provide it.
+fn granted_service(img: &[u8], c: Card, r: usize) -> usize
+    requires laid { ⌜ Laid (layoutOf c) (now img) ⌝ }
+    requires inside { ⌜ r < length (decode (layoutOf c) (now img) .waiting) ⌝ }
+    requires given { ⌜ waitingRow (decode (layoutOf c) (now img)) r .callee < layoutOf c .packages ⌝ }
+    ensures { λ k. ⌜ k ≡ serviceNumber (layoutOf c) (decode (layoutOf c) (now (img .entry))) (waitingRow (decode (layoutOf c) (now (img .entry))) r .callee)
+        (waitingRow (decode (layoutOf c) (now (img .entry))) r .tok) ⌝ }
+{
+    let j = image::lists::number(img, c, Kept::WaitingGrants, r);
+    let interface = image::lists::interface(img, c, Kept::WaitingGrants, r);
+    let method = image::lists::method(img, c, Kept::WaitingGrants, r);
+    image::read::find_service(img, c, j, interface, method)
+}
+
+// Waiting grant r, if the mask names it, becomes a bit.
+fn settle_row(img: &mut [u8], c: Card, due: u32, r: usize)
+    requires laid { ⌜ Laid (layoutOf c) (now img) ⌝ }
+    requires inside { ⌜ r < length (decode (layoutOf c) (now img) .waiting) ⌝ }
+    requires given { ⌜ waitingRow (decode (layoutOf c) (now img)) r .callee < layoutOf c .packages ⌝ }
+    requires there { ⌜ DueAt (layoutOf c) due (decode (layoutOf c) (now img)) r ⌝ }
+    ensures { λ _. ⌜ Wrote (layoutOf c) (now (img .exit)) (settledOne (layoutOf c) due r (decode (layoutOf c) (now (img .entry)))) ⌝ }
+{
+    if has_row(due, r) {
+        let j = image::lists::number(img, c, Kept::WaitingGrants, r);
+        let i = image::lists::find_holder(img, c, Kept::WaitingGrants, r);
+        let k = granted_service(img, c, r);
+        image::write::set_bit(img, c, Table::Grants, j, i, k);
     }
-    true
+}
+
+// The waiting grants of the mask become bits.
+pub fn settle(img: &mut [u8], c: Card, due: u32)
+    requires laid { ⌜ Laid (layoutOf c) (now img) ⌝ }
+    requires by { ⌜ GivenIn (layoutOf c) (decode (layoutOf c) (now img) .waiting) ⌝ }
+    requires there { ⌜ ((r : ℕ) → r < length (decode (layoutOf c) (now img) .waiting) → DueAt (layoutOf c) due (decode (layoutOf c) (now img)) r) ⌝ }
+    ensures { λ _. ⌜ Wrote (layoutOf c) (now (img .exit)) (settledAll (layoutOf c) due (decode (layoutOf c) (now (img .entry)))) ⌝ }
+{
+    let n = image::lists::count(img, c, Kept::WaitingGrants);
+    for r in 0..n {
+        settle_row(img, c, due, r);
+    }
+}
+
+// Unmet call r, if the mask names it, becomes a call bit on service k of package j.
+fn meet_row(img: &mut [u8], c: Card, asking: u32, r: usize, j: usize, k: usize)
+    requires laid { ⌜ Laid (layoutOf c) (now img) ⌝ }
+    requires inside { ⌜ r < length (decode (layoutOf c) (now img) .unmet) ⌝ }
+    requires numbers { ⌜ (unmetRow (decode (layoutOf c) (now img)) r .caller < layoutOf c .packages) × (j < layoutOf c .packages) × (k < layoutOf c .services) ⌝ }
+    ensures { λ _. ⌜ Wrote (layoutOf c) (now (img .exit)) (metOne asking j k r (decode (layoutOf c) (now (img .entry)))) ⌝ }
+{
+    if has_row(asking, r) {
+        let i = image::lists::number(img, c, Kept::UnmetCalls, r);
+        image::write::set_bit(img, c, Table::Calls, i, j, k);
+    }
+}
+
+// The unmet calls of the mask become call bits on service k of package j.
+fn meet_rows(img: &mut [u8], c: Card, asking: u32, j: usize, k: usize)
+    requires laid { ⌜ Laid (layoutOf c) (now img) ⌝ }
+    requires by { ⌜ CallersIn (layoutOf c) (decode (layoutOf c) (now img) .unmet) ⌝ }
+    requires numbers { ⌜ (j < layoutOf c .packages) × (k < layoutOf c .services) ⌝ }
+    ensures { λ _. ⌜ Wrote (layoutOf c) (now (img .exit)) (met asking j k (decode (layoutOf c) (now (img .entry)))) ⌝ }
+{
+    let n = image::lists::count(img, c, Kept::UnmetCalls);
+    for r in 0..n {
+        meet_row(img, c, asking, r, j, k);
+    }
+}
+
+// Package j provides service k with these tokens.
+pub fn open_service(img: &mut [u8], c: Card, j: usize, k: usize, interface: u8, method: u8)
+    requires laid { ⌜ Laid (layoutOf c) (now img) ⌝ }
+    requires numbers { ⌜ (j < layoutOf c .packages) × (k < layoutOf c .services) ⌝ }
+    ensures { λ _. ⌜ Wrote (layoutOf c) (now (img .exit)) (opened j k (tokens interface method) (decode (layoutOf c) (now (img .entry)))) ⌝ }
+{
+    image::write::put_tok(img, c, j, k, interface, method);
+    let row = image::read::provided_row(img, c, j);
+    let with = bits::with_bit(row, k);
+    image::write::set_provided(img, c, j, with);
 }
 
 // Whether package n, a used one, has an AID of the record.
@@ -87,60 +169,171 @@ fn is_among(img: &[u8], c: Card, n: usize, rec: &[u8], callers: Items) -> bool
     false
 }
 
-// Bit r of the mask is set.
-pub fn has_row(mask: u32, r: usize) -> bool
-    requires { ⌜ r < 32 ⌝ }
-    ensures { λ b. ⌜ b ≡ bit mask r ⌝ }
+// Waiting grant r is one of the mask, and its caller is installed.
+fn is_due(img: &[u8], c: Card, granting: u32, r: usize) -> bool
+    requires laid { ⌜ Laid (layoutOf c) (now img) ⌝ }
+    requires inside { ⌜ r < length (decode (layoutOf c) (now img) .waiting) ⌝ }
+    ensures { λ b. ⌜ b ≡ bit granting r && installedAid (layoutOf c) (decode (layoutOf c) (now (img .entry))) (waitingRow (decode (layoutOf c) (now (img .entry))) r .caller) ⌝ }
 {
-    (mask >> r) & 1 == 1
+    if !has_row(granting, r) {
+        return false;
+    }
+    let n = geometry::packages(c);
+    image::lists::find_holder(img, c, Kept::WaitingGrants, r) < n
 }
 
-// Whether unmet call r, if the mask names it, is by one of the callers.
-fn row_granted(img: &[u8], c: Card, asking: u32, r: usize, rec: &[u8], callers: Items) -> bool
+// Which waiting grants of the mask are to installed packages.
+fn due_rows(img: &[u8], c: Card, granting: u32) -> u32
+    requires laid { ⌜ Laid (layoutOf c) (now img) ⌝ }
+    requires named { ⌜ Named granting (decode (layoutOf c) (now img) .waiting) ⌝ }
+    ensures { λ m. ⌜ ((f : Waiting → Bool) → granting ≡ maskOf f (decode (layoutOf c) (now (img .entry)) .waiting)
+        → m ≡ maskOf (λ w. f w && installedAid (layoutOf c) (decode (layoutOf c) (now (img .entry))) (w .caller)) (decode (layoutOf c) (now (img .entry)) .waiting)) ⌝ }
+{
+    let mut r = image::lists::count(img, c, Kept::WaitingGrants);
+    let mut mask: u32 = 0;
+    while r > 0 {
+        r -= 1;
+        let passes = is_due(img, c, granting, r);
+        mask = mask * 2 + (passes as u32);
+    }
+    mask
+}
+
+// Waiting grant r is one of the mask, and to package n.
+fn row_to(img: &[u8], c: Card, due: u32, r: usize, n: usize) -> bool
+    requires laid { ⌜ Laid (layoutOf c) (now img) ⌝ }
+    requires inside { ⌜ r < length (decode (layoutOf c) (now img) .waiting) ⌝ }
+    ensures { λ b. ⌜ b ≡ bit due r && eqb (holder (layoutOf c) (decode (layoutOf c) (now (img .entry))) (waitingRow (decode (layoutOf c) (now (img .entry))) r .caller)) n ⌝ }
+{
+    if !has_row(due, r) {
+        return false;
+    }
+    image::lists::find_holder(img, c, Kept::WaitingGrants, r) == n
+}
+
+// Whether a waiting grant of the mask is to package n.
+fn is_due_to(img: &[u8], c: Card, due: u32, n: usize) -> bool
+    requires { ⌜ Laid (layoutOf c) (now img) ⌝ }
+    ensures { λ b. ⌜ b ≡ dueTo (layoutOf c) due (decode (layoutOf c) (now (img .entry))) n ⌝ }
+{
+    let size = image::lists::count(img, c, Kept::WaitingGrants);
+    for r in 0..size {
+        if row_to(img, c, due, r, n) {
+            return true;
+        }
+    }
+    false
+}
+
+// Whether unmet call r, if the mask names it, is by one of the callers, or a waiting grant that is due is to its caller.
+fn row_granted(
+    img: &[u8],
+    c: Card,
+    asking: u32,
+    due: u32,
+    r: usize,
+    rec: &[u8],
+    callers: Items,
+) -> bool
     requires is_sound { ⌜ T (sound (layoutOf c) (now img)) ⌝ }
     requires inside { ⌜ r < length (decode (layoutOf c) (now img) .unmet) ⌝ }
     requires stands { ⌜ Stands aid (now rec) callers ⌝ }
     ensures { λ b. ⌜ b ≡ implies (bit asking r) (exists (eqAid (decode (layoutOf c) (now (img .entry)) .aid (unmetRow (decode (layoutOf c) (now (img .entry))) r .caller)))
-        (itemsIn aid (now (rec .entry)) callers)) ⌝ }
+        (itemsIn aid (now (rec .entry)) callers)
+        || dueTo (layoutOf c) due (decode (layoutOf c) (now (img .entry))) (unmetRow (decode (layoutOf c) (now (img .entry))) r .caller)) ⌝ }
 {
     if !has_row(asking, r) {
         return true;
     }
-    let n = image::lists::unmet_caller(img, c, r);
-    is_among(img, c, n, rec, callers)
+    let n = image::lists::number(img, c, Kept::UnmetCalls, r);
+    if is_among(img, c, n, rec, callers) {
+        return true;
+    }
+    is_due_to(img, c, due, n)
 }
 
-// Whether each unmet call of the mask is by one of the callers.
-fn all_granted(img: &[u8], c: Card, asking: u32, rec: &[u8], callers: Items) -> bool
+// Whether each unmet call of the mask is by one of the callers, or a waiting grant that is due is to its caller.
+fn all_granted(img: &[u8], c: Card, asking: u32, due: u32, rec: &[u8], callers: Items) -> bool
     requires is_sound { ⌜ T (sound (layoutOf c) (now img)) ⌝ }
     requires stands { ⌜ Stands aid (now rec) callers ⌝ }
     ensures { λ b. ⌜ ((f : Unmet → Bool) → asking ≡ maskOf f (decode (layoutOf c) (now (img .entry)) .unmet)
-        → b ≡ every (byCallers (decode (layoutOf c) (now (img .entry))) (itemsIn aid (now (rec .entry)) callers) f) (decode (layoutOf c) (now (img .entry)) .unmet)) ⌝ }
+        → b ≡ every (byCallers (layoutOf c) (decode (layoutOf c) (now (img .entry))) (itemsIn aid (now (rec .entry)) callers) due f) (decode (layoutOf c) (now (img .entry)) .unmet)) ⌝ }
 {
-    let n = image::lists::unmet_count(img, c);
+    let n = image::lists::count(img, c, Kept::UnmetCalls);
     for r in 0..n {
-        if !row_granted(img, c, asking, r, rec, callers) {
+        if !row_granted(img, c, asking, due, r, rec, callers) {
             return false;
         }
     }
     true
 }
 
-// Whether the callers that are not installed have room among the waiting grants.
-fn callers_fit(img: &[u8], c: Card, rec: &[u8], callers: Items) -> bool
+// Waiting grant r is one of the mask, and to this AID.
+fn row_for(img: &[u8], c: Card, mask: u32, r: usize, other: &[u8]) -> bool
     requires laid { ⌜ Laid (layoutOf c) (now img) ⌝ }
-    requires stands { ⌜ Stands aid (now rec) callers ⌝ }
-    ensures { λ r. ⌜ r ≡ leb (length (decode (layoutOf c) (now (img .entry)) .waiting)
-        + count (notInstalled (layoutOf c) (decode (layoutOf c) (now (img .entry)))) (itemsIn aid (now (rec .entry)) callers)) (layoutOf c .capacity) ⌝ }
+    requires inside { ⌜ r < length (decode (layoutOf c) (now img) .waiting) ⌝ }
+    ensures { λ b. ⌜ b ≡ bit mask r && eqAid (waitingRow (decode (layoutOf c) (now (img .entry))) r .caller) (now (other .entry)) ⌝ }
+{
+    if !has_row(mask, r) {
+        return false;
+    }
+    image::lists::has_aid(img, c, Kept::WaitingGrants, r, other)
+}
+
+// Whether a waiting grant of the mask is to an AID of the record.
+fn waits(img: &[u8], c: Card, mask: u32, rec: &[u8], a: Aid) -> bool
+    requires laid { ⌜ Laid (layoutOf c) (now img) ⌝ }
+    requires fits { ⌜ AidFits (now rec) a ⌝ }
+    ensures { λ b. ⌜ b ≡ waitsIn mask (decode (layoutOf c) (now (img .entry))) (aidIn (now (rec .entry)) a) ⌝ }
+{
+    let other = record::aid_bytes(rec, a);
+    let n = image::lists::count(img, c, Kept::WaitingGrants);
+    for r in 0..n {
+        if row_for(img, c, mask, r, other) {
+            return true;
+        }
+    }
+    false
+}
+
+// Whether no package has an AID of the record, and no waiting grant of the mask is to it.
+fn is_lone(img: &[u8], c: Card, mask: u32, rec: &[u8], a: Aid) -> bool
+    requires laid { ⌜ Laid (layoutOf c) (now img) ⌝ }
+    requires fits { ⌜ AidFits (now rec) a ⌝ }
+    ensures { λ r. ⌜ r ≡ isLone (layoutOf c) mask (decode (layoutOf c) (now (img .entry))) (aidIn (now (rec .entry)) a) ⌝ }
+{
+    let n = geometry::packages(c);
+    let i = find_caller(img, c, rec, a);
+    if i < n {
+        return false;
+    }
+    !waits(img, c, mask, rec, a)
+}
+
+// How many waiting grants there is room for, beside those that the mask does not name.
+fn room_left(img: &[u8], c: Card, due: u32) -> usize
+    requires { ⌜ Laid (layoutOf c) (now img) ⌝ }
+    ensures { λ r. ⌜ ((f : Waiting → Bool) → due ≡ maskOf f (decode (layoutOf c) (now (img .entry)) .waiting)
+        → count (λ w. not (f w)) (decode (layoutOf c) (now (img .entry)) .waiting) + r ≡ layoutOf c .capacity) ⌝ }
 {
     let most = geometry::capacity(c);
-    let taken = image::lists::waiting_count(img, c);
-    let mut left = most - taken;
+    let taken = image::lists::count(img, c, Kept::WaitingGrants);
+    let gone = image::lists::mask_count(due);
+    most - taken + gone
+}
+
+// Whether there is room for the grants to callers that are not installed and do not wait among those of the mask.
+fn callers_fit(img: &[u8], c: Card, granting: u32, room: usize, rec: &[u8], callers: Items) -> bool
+    requires laid { ⌜ Laid (layoutOf c) (now img) ⌝ }
+    requires stands { ⌜ Stands aid (now rec) callers ⌝ }
+    ensures { λ r. ⌜ r ≡ leb (count (isLone (layoutOf c) granting (decode (layoutOf c) (now (img .entry)))) (itemsIn aid (now (rec .entry)) callers)) room ⌝ }
+{
+    let mut left = room;
     let mut todo = callers;
     while 0 < todo.count {
         let r = record::steps::take_aid(rec, todo);
         let a = r.aid;
-        let new = is_new(img, c, rec, a) as usize;
+        let new = is_lone(img, c, granting, rec, a) as usize;
         if left < new {
             return false;
         }
@@ -148,6 +341,39 @@ fn callers_fit(img: &[u8], c: Card, rec: &[u8], callers: Items) -> bool
         todo = r.rest;
     }
     true
+}
+
+// What kind 3 comes to on package j, with its new service number k: causes 8 and 11. The mask names the unmet calls on the new service.
+fn plan_lists(
+    img: &[u8],
+    c: Card,
+    asking: u32,
+    j: usize,
+    k: usize,
+    interface: u8,
+    method: u8,
+    rec: &[u8],
+    callers: Items,
+) -> Adding
+    requires is_sound { ⌜ T (sound (layoutOf c) (now img)) ⌝ }
+    requires stands { ⌜ Stands aid (now rec) callers ⌝ }
+    requires asked { ⌜ asking ≡ maskOf (asks (decode (layoutOf c) (now img) .aid j) (tokens interface method)) (decode (layoutOf c) (now img) .unmet) ⌝ }
+    ensures { λ r. ⌜ r ≡ addingAt (layoutOf c) (decode (layoutOf c) (now (img .entry))) (tokens interface method) (itemsIn aid (now (rec .entry)) callers) j k ⌝ }
+{
+    let granting = image::lists::with_service(img, c, Kept::WaitingGrants, j, interface, method);
+    let due = due_rows(img, c, granting);
+    if !all_granted(img, c, asking, due, rec, callers) {
+        return Adding::Refuse { cause: 8 };
+    }
+    let room = room_left(img, c, due);
+    if !callers_fit(img, c, granting, room, rec, callers) {
+        return Adding::Refuse { cause: 11 };
+    }
+    Adding::Add {
+        package: j,
+        service: k,
+        due,
+    }
 }
 
 // What kind 3 comes to; the mask names the unmet calls on the new service.
@@ -164,8 +390,8 @@ fn plan_adding(
     requires is_sound { ⌜ T (sound (layoutOf c) (now img)) ⌝ }
     requires stands { ⌜ Stands aid (now rec) callers ⌝ }
     requires asked { ⌜ asking ≡ maskOf (asks (now own) (tokens interface method)) (decode (layoutOf c) (now img) .unmet) ⌝ }
-    ensures { λ r. ⌜ r ≡ addingPlan (layoutOf c) (decode (layoutOf c) (now (img .entry))) (now (own .entry)) (tokens interface method)
-        (itemsIn aid (now (rec .entry)) callers) ⌝ }
+    ensures { λ r. ⌜ r ≡ addingPlan (layoutOf c) (decode (layoutOf c) (now (img .entry))) (tokens interface method) (itemsIn aid (now (rec .entry)) callers)
+        (now (own .entry)) ⌝ }
 {
     let n = geometry::packages(c);
     let m = geometry::services(c);
@@ -181,69 +407,42 @@ fn plan_adding(
     if k >= m {
         return Adding::Refuse { cause: 7 };
     }
-    if !all_granted(img, c, asking, rec, callers) {
-        return Adding::Refuse { cause: 8 };
-    }
-    if !callers_fit(img, c, rec, callers) {
-        return Adding::Refuse { cause: 11 };
-    }
-    Adding::Add {
-        package: j,
-        service: k,
-    }
+    plan_lists(img, c, asking, j, k, interface, method, rec, callers)
 }
 
-// Unmet call r, if the mask names it, becomes a call bit on service k of package j.
-fn meet_call(img: &mut [u8], c: Card, asking: u32, r: usize, j: usize, k: usize)
+// A grant by package j of its service with these tokens to an AID of the record waits, if no waiting grant of the mask is to it.
+fn wait(img: &mut [u8], c: Card, mask: u32, rec: &[u8], a: Aid, j: usize, interface: u8, method: u8)
     requires laid { ⌜ Laid (layoutOf c) (now img) ⌝ }
-    requires inside { ⌜ r < length (decode (layoutOf c) (now img) .unmet) ⌝ }
-    requires numbers { ⌜ (unmetRow (decode (layoutOf c) (now img)) r .caller < layoutOf c .packages) × (j < layoutOf c .packages) × (k < layoutOf c .services) ⌝ }
-    ensures { λ _. ⌜ Wrote (layoutOf c) (now (img .exit)) (metCall (λ _. bit asking r) j k (unmetRow (decode (layoutOf c) (now (img .entry))) r)
-        (decode (layoutOf c) (now (img .entry)))) ⌝ }
+    requires fits { ⌜ AidFits (now rec) a ⌝ }
+    requires inside { ⌜ j < layoutOf c .packages ⌝ }
+    requires room { ⌜ (waitsIn mask (decode (layoutOf c) (now img)) (aidIn (now rec) a) ≡ false → length (decode (layoutOf c) (now img) .waiting) < layoutOf c .capacity) ⌝ }
+    ensures { λ _. ⌜ Wrote (layoutOf c) (now (img .exit)) (waitedAt mask j (tokens interface method) (aidIn (now (rec .entry)) a) (decode (layoutOf c) (now (img .entry)))) ⌝ }
 {
-    if !has_row(asking, r) {
+    if waits(img, c, mask, rec, a) {
         return;
     }
-    let i = image::lists::unmet_caller(img, c, r);
-    image::write::set_bit(img, c, Table::Calls, i, j, k);
+    let other = record::aid_bytes(rec, a);
+    image::write::append_row(img, c, Kept::WaitingGrants, other, interface, method, j);
 }
 
-// The unmet calls of the mask become call bits on service k of package j.
-fn meet_rows(img: &mut [u8], c: Card, asking: u32, j: usize, k: usize)
-    requires laid { ⌜ Laid (layoutOf c) (now img) ⌝ }
-    requires by { ⌜ CallersIn (layoutOf c) (decode (layoutOf c) (now img) .unmet) ⌝ }
-    requires named { ⌜ Named asking (decode (layoutOf c) (now img) .unmet) ⌝ }
-    requires numbers { ⌜ (j < layoutOf c .packages) × (k < layoutOf c .services) ⌝ }
-    ensures { λ _. ⌜ ((f : Unmet → Bool) → asking ≡ maskOf f (decode (layoutOf c) (now (img .entry)) .unmet)
-        → Wrote (layoutOf c) (now (img .exit)) (met f j k (decode (layoutOf c) (now (img .entry)) .unmet) (decode (layoutOf c) (now (img .entry))))) ⌝ }
-{
-    let n = image::lists::unmet_count(img, c);
-    for r in 0..n {
-        meet_call(img, c, asking, r, j, k);
-    }
-}
-
-// Package j provides service k with these tokens.
-pub fn open_service(img: &mut [u8], c: Card, j: usize, k: usize, interface: u8, method: u8)
-    requires laid { ⌜ Laid (layoutOf c) (now img) ⌝ }
-    requires numbers { ⌜ (j < layoutOf c .packages) × (k < layoutOf c .services) ⌝ }
-    ensures { λ _. ⌜ Wrote (layoutOf c) (now (img .exit)) (opened j k (tokens interface method) (decode (layoutOf c) (now (img .entry)))) ⌝ }
-{
-    image::write::put_tok(img, c, j, k, interface, method);
-    let row = image::read::provided_row(img, c, j);
-    let with = bits::with_bit(row, k);
-    image::write::set_provided(img, c, j, with);
-}
-
-// Service k of package j is granted to an AID of the record: a bit where it is installed, else the grant waits.
-pub fn grant(img: &mut [u8], c: Card, rec: &[u8], a: Aid, j: usize, k: usize)
+// Service k of package j, with these tokens, is granted to an AID of the record: a bit where it is installed, else the grant waits.
+fn grant(
+    img: &mut [u8],
+    c: Card,
+    mask: u32,
+    rec: &[u8],
+    a: Aid,
+    j: usize,
+    k: usize,
+    interface: u8,
+    method: u8,
+)
     requires laid { ⌜ Laid (layoutOf c) (now img) ⌝ }
     requires fits { ⌜ AidFits (now rec) a ⌝ }
     requires numbers { ⌜ (j < layoutOf c .packages) × (k < layoutOf c .services) ⌝ }
-    requires room { ⌜ (numberOf (layoutOf c) (decode (layoutOf c) (now img)) (aidIn (now rec) a) ≡ none
-        → length (decode (layoutOf c) (now img) .waiting) < layoutOf c .capacity) ⌝ }
-    ensures { λ _. ⌜ Wrote (layoutOf c) (now (img .exit)) (addGrantAt (layoutOf c) (decode (layoutOf c) (now (img .entry))) j (aidIn (now (rec .entry)) a) k
-        (numberOf (layoutOf c) (decode (layoutOf c) (now (img .entry))) (aidIn (now (rec .entry)) a)) .tables) ⌝ }
+    requires room { ⌜ (isLone (layoutOf c) mask (decode (layoutOf c) (now img)) (aidIn (now rec) a) ≡ true → length (decode (layoutOf c) (now img) .waiting) < layoutOf c .capacity) ⌝ }
+    ensures { λ _. ⌜ Wrote (layoutOf c) (now (img .exit)) (grantedAt (layoutOf c) mask j k (tokens interface method) (aidIn (now (rec .entry)) a) (decode (layoutOf c) (now (img .entry)))
+        (numberOf (layoutOf c) (decode (layoutOf c) (now (img .entry))) (aidIn (now (rec .entry)) a))) ⌝ }
 {
     let n = geometry::packages(c);
     let i = find_caller(img, c, rec, a);
@@ -251,33 +450,54 @@ pub fn grant(img: &mut [u8], c: Card, rec: &[u8], a: Aid, j: usize, k: usize)
         image::write::set_bit(img, c, Table::Grants, j, i, k);
         return;
     }
-    let other = record::aid_bytes(rec, a);
-    image::write::append_waiting(img, c, other, j, k);
+    wait(img, c, mask, rec, a, j, interface, method);
 }
 
-// Service k of package j is granted to the callers.
-fn grant_all(img: &mut [u8], c: Card, rec: &[u8], callers: Items, j: usize, k: usize)
+// Service k of package j, with these tokens, is granted to the callers; none of them waits for it twice.
+fn grant_all(
+    img: &mut [u8],
+    c: Card,
+    rec: &[u8],
+    callers: Items,
+    j: usize,
+    k: usize,
+    interface: u8,
+    method: u8,
+)
     requires laid { ⌜ Laid (layoutOf c) (now img) ⌝ }
     requires stands { ⌜ Stands aid (now rec) callers ⌝ }
     requires numbers { ⌜ (j < layoutOf c .packages) × (k < layoutOf c .services) ⌝ }
-    requires room { ⌜ length (decode (layoutOf c) (now img) .waiting)
-        + count (notInstalled (layoutOf c) (decode (layoutOf c) (now img))) (itemsIn aid (now rec) callers) ≤ layoutOf c .capacity ⌝ }
-    ensures { λ _. ⌜ Wrote (layoutOf c) (now (img .exit)) (grantedTo (layoutOf c) j k (itemsIn aid (now (rec .entry)) callers) (decode (layoutOf c) (now (img .entry)))) ⌝ }
+    requires room { ⌜ RoomFor (layoutOf c) j (tokens interface method) (itemsIn aid (now rec) callers) (decode (layoutOf c) (now img)) ⌝ }
+    ensures { λ _. ⌜ Wrote (layoutOf c) (now (img .exit)) (grantedAll (layoutOf c) j k (tokens interface method) (itemsIn aid (now (rec .entry)) callers) (decode (layoutOf c) (now (img .entry)))) ⌝ }
 {
+    let still = image::lists::with_service(img, c, Kept::WaitingGrants, j, interface, method);
     let mut todo = callers;
     while 0 < todo.count {
         let r = record::steps::take_aid(rec, todo);
         let a = r.aid;
-        grant(img, c, rec, a, j, k);
+        grant(img, c, still, rec, a, j, k, interface, method);
         todo = r.rest;
     }
 }
 
-// Service k of package j is on the card: unmet calls of the mask, on it, become bits and leave their list, and the callers are granted it.
+// Package j provides service k with these tokens; the unmet calls of the mask, on it, become bits and leave their list.
+fn open_asked(img: &mut [u8], c: Card, asking: u32, j: usize, k: usize, interface: u8, method: u8)
+    requires laid { ⌜ Laid (layoutOf c) (now img) ⌝ }
+    requires by { ⌜ CallersIn (layoutOf c) (decode (layoutOf c) (now img) .unmet) ⌝ }
+    requires numbers { ⌜ (j < layoutOf c .packages) × (k < layoutOf c .services) ⌝ }
+    ensures { λ _. ⌜ Wrote (layoutOf c) (now (img .exit)) (served asking j k (tokens interface method) (decode (layoutOf c) (now (img .entry)))) ⌝ }
+{
+    meet_rows(img, c, asking, j, k);
+    image::write::drop_rows(img, c, Kept::UnmetCalls, asking);
+    open_service(img, c, j, k, interface, method);
+}
+
+// Service k of package j is on the card, with the unmet calls on it and the waiting grants of it that the masks name; the callers are granted it.
 fn serve(
     img: &mut [u8],
     c: Card,
     asking: u32,
+    due: u32,
     interface: u8,
     method: u8,
     rec: &[u8],
@@ -286,19 +506,15 @@ fn serve(
     k: usize,
 )
     requires laid { ⌜ Laid (layoutOf c) (now img) ⌝ }
-    requires by { ⌜ CallersIn (layoutOf c) (decode (layoutOf c) (now img) .unmet) ⌝ }
-    requires named { ⌜ Named asking (decode (layoutOf c) (now img) .unmet) ⌝ }
     requires stands { ⌜ Stands aid (now rec) callers ⌝ }
-    requires numbers { ⌜ (j < layoutOf c .packages) × (k < layoutOf c .services) ⌝ }
-    requires room { ⌜ length (decode (layoutOf c) (now img) .waiting)
-        + count (notInstalled (layoutOf c) (decode (layoutOf c) (now img))) (itemsIn aid (now rec) callers) ≤ layoutOf c .capacity ⌝ }
-    ensures { λ _. ⌜ ((own : Bytes) → asking ≡ maskOf (asks own (tokens interface method)) (decode (layoutOf c) (now (img .entry)) .unmet)
-        → Wrote (layoutOf c) (now (img .exit)) (added (layoutOf c) j k own (tokens interface method) (itemsIn aid (now (rec .entry)) callers) (decode (layoutOf c) (now (img .entry))))) ⌝ }
+    requires fit { ⌜ AddFits (layoutOf c) asking due j k (tokens interface method) (itemsIn aid (now rec) callers) (decode (layoutOf c) (now img)) ⌝ }
+    ensures { λ _. ⌜ Wrote (layoutOf c) (now (img .exit)) (added (layoutOf c) asking due j k (tokens interface method) (itemsIn aid (now (rec .entry)) callers)
+        (decode (layoutOf c) (now (img .entry)))) ⌝ }
 {
-    meet_rows(img, c, asking, j, k);
-    image::write::drop_unmet(img, c, asking);
-    open_service(img, c, j, k, interface, method);
-    grant_all(img, c, rec, callers, j, k);
+    open_asked(img, c, asking, j, k, interface, method);
+    settle(img, c, due);
+    image::write::drop_rows(img, c, Kept::WaitingGrants, due);
+    grant_all(img, c, rec, callers, j, k, interface, method);
 }
 
 // Kind 3: a service of the package with AID own, with the callers that it is granted to.
@@ -316,15 +532,20 @@ pub fn add_service(
     ensures { λ r. ⌜ Gives (settled (layoutOf c) (now (img .entry)) (now (own .entry)) (addService (tokens interface method) (itemsIn aid (now (rec .entry)) callers)))
         (r .number) (r .second) (now (img .exit)) ⌝ }
 {
-    let asking = image::lists::asking(img, c, own, interface, method);
+    let asking = image::lists::with_row(img, c, Kept::UnmetCalls, own, interface, method);
     let plan = plan_adding(img, c, asking, own, interface, method, rec, callers);
     match plan {
         Adding::Refuse { cause } => crate::refused(cause),
-        Adding::Add { package, service } => {
+        Adding::Add {
+            package,
+            service,
+            due,
+        } => {
             serve(
                 img,
                 c,
                 asking,
+                due,
                 interface,
                 method,
                 rec,

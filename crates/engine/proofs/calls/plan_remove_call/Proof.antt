@@ -12,7 +12,6 @@ plan-remove-call-spec =
     (λ c. search plans)
     (λ c κs. search plans)
     (λ c. search plans)
-    (λ c. search plans)
     (λ c κs. search plans)
     (λ c. search plans)
     (λ c. search plans)

@@ -11,8 +11,5 @@ seek-grant-spec =
     (λ c κs. search spots)
     (λ c. search spots)
     (λ c κs. search spots)
-    (λ c κs. search spots)
-    (λ c. search spots)
-    (λ c κs. search spots)
     (λ c. search spots)
     (λ c. search spots))

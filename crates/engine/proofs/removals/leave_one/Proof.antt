@@ -15,7 +15,7 @@ returns : tie.Need-returns
 returns c =
     let s = c .before .before .before .before in
     let a = s .args in
-    left-none (a .c) (a .img .now) (s .pre .0) (a .aid .now) (a .j) (a .i) (a .row) (a .k) (c .before .has-bit .result) (c .before .has-bit .ensures) (c .if1 .taken)
+    left-none (a .c) (a .l) (a .img .now) (s .pre .0) (a .aid .now) (a .j) (a .i) (a .row) (a .k) (c .before .has-bit .result) (c .before .has-bit .ensures) (c .if1 .taken)
 
 tok-at-requires : tie.Need-tok-at-requires
 tok-at-requires c κs = let p = c .before .before .before .before .pre .1 .0 in (p .0, p .2)
@@ -38,8 +38,8 @@ slice-read-method c =
     let p = s .pre .1 .0 in
     omega (arith, laid-len (s .args .c) (s .pre .0), tok-in (s .args .c) (s .args .j) (s .args .k) (p .0) (p .2), c .before .before .tok-at .ensures)
 
-append-unmet-requires : tie.Need-append-unmet-requires
-append-unmet-requires c κs =
+append-row-requires : tie.Need-append-row-requires
+append-row-requires c κs =
     let s = c .before .before .before .before .before .before .before .before in
     let a = s .args in
     let b = c .before .before .before .before .before .has-bit in (
@@ -60,8 +60,8 @@ returns-2 c =
     let p = s .pre .1 .0 in
     let at = c .before .before .before .before .before .before .tok-at in
     let b = c .before .before .before .before .before .before .before .before .has-bit in
-    left-some (a .c) (a .img .now) (s .pre .0) (a .aid .now) (a .j) (a .i) (a .row) (a .k) (at .result) (b .result) (b .ensures) (c .before .before .before .before .before .before .before .if1 .left)
-    (p .0) (p .2) (at .ensures) (c .before .before .append-unmet .ensures)
+    left-some (a .c) (a .l) (a .img .now) (s .pre .0) (a .aid .now) (a .j) (a .i) (a .row) (a .k) (b .result) (b .ensures) (c .before .before .before .before .before .before .before .if1 .left)
+    (p .0) (p .2) (at .result) (at .ensures) (c .before .before .append-row .ensures)
 
 pub leave-one-spec : {M : Type 1} → statement M
-leave-one-spec = tie.close (tie.spec has-bit-requires returns tok-at-requires slice-read-interface add-method slice-read-method append-unmet-requires same-length returns-2)
+leave-one-spec = tie.close (tie.spec has-bit-requires returns tok-at-requires slice-read-interface add-method slice-read-method append-row-requires same-length returns-2)

@@ -1,5 +1,5 @@
 -- `engine::removals::remove` meets its contract. Assumes nothing.
-use Rattle.engine.proofs.Gone.{removed-room}
+use Rattle.engine.proofs.Causes.{removed-room}
 use Rattle.engine.proofs.Remove.{removal}
 use Rattle.engine.proofs.removals.remove.Statement.{statement}
 use Rattle.engine.proofs.removals.remove.Tie as tie

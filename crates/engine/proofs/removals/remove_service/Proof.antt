@@ -1,7 +1,9 @@
 -- `engine::removals::remove_service` meets its contract. Assumes nothing.
 use Rattle.policy.specs.Tables.{decode}
 use Rattle.geometry.specs.Geometry.{layoutOf}
-use Rattle.engine.proofs.Service.{service-room, removal}
+use Rattle.geometry.proofs.Bounds.{early}
+use Rattle.engine.proofs.Causes.{service-room}
+use Rattle.engine.proofs.Service.{removal}
 use Rattle.engine.proofs.removals.remove_service.Statement.{statement}
 use Rattle.engine.proofs.removals.remove_service.Tie as tie
 
@@ -17,6 +19,7 @@ remove-service-spec =
     let g = c .before .before .before .before .before .before in
     let f = g .before .before .before .before in
     let a = f .before .before .before .before .args in
-    (search removal, ((search removal, search removal), (search removal, service-room (layoutOf (a .c)) (decode _ (a .img .now)) (f .find-package .result) (g .find-service .result) _ (c .before .before .service-cause .ensures) (c .before .if3 .left)))))
+    let L = layoutOf (a .c) in
+    (search removal, ((search removal, search removal), service-room L (decode L (a .img .now)) _ (c .before .if3 .left) (early (a .c)) (f .find-package .result) (g .find-service .result) (c .before .before .service-cause .ensures))))
     (λ c κs. (c .before .before .before .leave-service .ensures .laid, (search removal, search removal)))
     (λ c κs. search removal) (λ c. search removal) (λ c. search removal))

@@ -9,7 +9,7 @@ use Rattle.policy.specs.Lists.{every}
 use Rattle.policy.specs.Record.{aid}
 use Rattle.policy.specs.Tables.{Unmet, decode}
 use Rattle.geometry.specs.Geometry.{layoutOf}
-use Rattle.image.specs.Read.{maskOf, noUnmet}
+use Rattle.image.specs.Read.{maskOf, unmetRow}
 use Rattle.image.proofs.Laid.{sound-laid}
 use Rattle.record.specs.Meaning.{itemsIn}
 use Rattle.engine.specs.Services.{byCallers}
@@ -19,31 +19,31 @@ use Rattle.engine.proofs.services.all_granted.Statement.{statement}
 use Rattle.engine.proofs.services.all_granted.Tie as tie
 
 abbrev Inv-loop : tie.InvT-loop
-Inv-loop img c asking rec callers n r₀ r =
+Inv-loop img c asking due rec callers n r₀ r =
     let t = decode (layoutOf c) img in
     (r ≤ length (t .unmet)) × ((f : Unmet → Bool) → asking ≡ maskOf f (t .unmet)
-    → every (byCallers t (itemsIn aid rec callers) f) (drop r (t .unmet)) ≡ every (byCallers t (itemsIn aid rec callers) f) (t .unmet))
+    → every (byCallers (layoutOf c) t (itemsIn aid rec callers) due f) (drop r (t .unmet)) ≡ every (byCallers (layoutOf c) t (itemsIn aid rec callers) due f) (t .unmet))
 
 abbrev μ-loop : tie.MeasureT-loop
-μ-loop img c asking rec callers n r₀ r = n - r
+μ-loop img c asking due rec callers n r₀ r = n - r
 
-unmet-count-requires : tie.Need-unmet-count-requires Inv-loop μ-loop
-unmet-count-requires c κs = let s = c .before .before in sound-laid (layoutOf (s .args .c)) (s .pre .0)
+count-requires : tie.Need-count-requires Inv-loop μ-loop
+count-requires c κs = let s = c .before .before in sound-laid (layoutOf (s .args .c)) (s .pre .0)
 
 loop-holds : tie.Need-loop-holds Inv-loop μ-loop
 loop-holds c = (omega arith, λ f e. refl)
 
 row-granted-requires : tie.Need-row-granted-requires Inv-loop μ-loop
-row-granted-requires c κs = let s = c .before .before .before .before .before in (s .pre .0, (omega (arith, c .loop-test .taken, c .before .before .unmet-count .ensures), s .pre .1))
+row-granted-requires c κs = let s = c .before .before .before .before .before in (s .pre .0, (omega (arith, c .loop-test .taken, c .before .before .count .ensures), s .pre .1))
 
 returns : tie.Need-returns Inv-loop μ-loop
 returns c = λ f e.
     let l = c .before .before .before .loop in
     let x = c .before .before .before .before .before .before .before .args in
     let t = decode (layoutOf (x .c)) (now (x .img)) in
-    let h : l .r < length (t .unmet) = omega (arith, c .before .before .loop-test .taken, c .before .before .before .before .unmet-count .ensures) in
-    rows-stop (byCallers t (itemsIn aid (now (x .rec)) (x .callers)) f) (t .unmet) noUnmet (l .r) _ h (l .inv .1 f e)
-    (row-by t (itemsIn aid (now (x .rec)) (x .callers)) f (x .asking) (l .r) _ e h (c .before .row-granted .ensures)) (c .if1 .taken)
+    let h : l .r < length (t .unmet) = omega (arith, c .before .before .loop-test .taken, c .before .before .before .before .count .ensures) in
+    rows-stop (byCallers (layoutOf (x .c)) t (itemsIn aid (now (x .rec)) (x .callers)) (x .due) f) (t .unmet) _ (l .r) _ h (l .inv .1 f e)
+    (row-by (layoutOf (x .c)) t (itemsIn aid (now (x .rec)) (x .callers)) (x .due) f (x .asking) (l .r) _ e h (c .before .row-granted .ensures)) (c .if1 .taken)
 
 add-r : tie.Need-add-r Inv-loop μ-loop
 add-r c = search needs
@@ -56,14 +56,17 @@ loop-again c =
     let l = c .before .before .before .loop in
     let x = c .before .before .before .before .before .before .before .args in
     let t = decode (layoutOf (x .c)) (now (x .img)) in
-    let h : l .r < length (t .unmet) = omega (arith, c .before .before .loop-test .taken, c .before .before .before .before .unmet-count .ensures) in (
-      omega (arith, c .before .before .loop-test .taken, c .before .before .before .before .unmet-count .ensures),
-      λ f e. rows-next (byCallers t (itemsIn aid (now (x .rec)) (x .callers)) f) (t .unmet) noUnmet (l .r) _ h (l .inv .1 f e)
-          (row-by t (itemsIn aid (now (x .rec)) (x .callers)) f (x .asking) (l .r) _ e h (c .before .row-granted .ensures)) (c .if1 .left),
+    let h : l .r < length (t .unmet) = omega (arith, c .before .before .loop-test .taken, c .before .before .before .before .count .ensures) in (
+      omega (arith, c .before .before .loop-test .taken, c .before .before .before .before .count .ensures),
+      λ f e. rows-next (byCallers (layoutOf (x .c)) t (itemsIn aid (now (x .rec)) (x .callers)) (x .due) f) (t .unmet) _ (l .r) _ h (l .inv .1 f e)
+          (row-by (layoutOf (x .c)) t (itemsIn aid (now (x .rec)) (x .callers)) (x .due) f (x .asking) (l .r) _ e h (c .before .row-granted .ensures)) (c .if1 .left),
     )
 
 returns-2 : tie.Need-returns-2 Inv-loop μ-loop
-returns-2 c = λ f e. let l = c .before .loop in rows-end _ _ noUnmet (l .r) (omega (arith, c .loop-test .left, c .before .before .unmet-count .ensures)) (l .inv .1 f e)
+returns-2 c = λ f e.
+    let l = c .before .loop in
+    let x = c .before .before .before .before .before .args in
+    rows-end _ _ (unmetRow (decode (layoutOf (x .c)) (now (x .img))) (l .r)) (l .r) (omega (arith, c .loop-test .left, c .before .before .count .ensures)) (l .inv .1 f e)
 
 pub all-granted-spec : {M : Type 1} → statement M
 all-granted-spec =
@@ -71,7 +74,7 @@ all-granted-spec =
     (tie.spec
     Inv-loop
     μ-loop
-    unmet-count-requires
+    count-requires
     loop-holds
     row-granted-requires
     returns
