@@ -3,11 +3,11 @@ use Prim.Native.Nat.{ℕ, suc, _+_, _-_, _≤_, _<_}
 use native.Mathlib.Omega.{arith}
 use native.Mathlib.Nat.{add-zero, zero-add}
 use mathlib.Core.Path.{_≡_, refl, sym, ap, ap₂, _∙_, subst}
-use mathlib.Core.Bool.{Bool, true, false, not, _&&_, cond, and-comm}
+use mathlib.Core.Bool.{Bool, true, false, not, _&&_, cond}
 use mathlib.Core.List.{List}
-use mathlib.Core.Option.{Option}
+use mathlib.Core.Option.{Option, none, some}
 use lib.Bits.{bitAnd}
-use lib.Dec.{T, eqb, leb, ltb}
+use lib.Dec.{T, eqb, leb, ltb, ltb→lt, lt→ltb}
 use lib.ListN.{length}
 use mir.Syntax.{w64}
 use mir.Val.{Fits}
@@ -17,52 +17,54 @@ use Rattle.policy.specs.Lists.{every, keep, isSome, orElse, upto}
 use Rattle.policy.specs.Contract.{Aid, eqAid, Tok, eqTok, Row, hasTok}
 use Rattle.policy.specs.Layout.{Layout}
 use Rattle.policy.specs.Record.{Reader, aRow}
-use Rattle.policy.specs.Tables.{Tables, Unmet, bit, decode}
-use Rattle.policy.specs.Lookup.{Place as Found, numberOf, serverOf}
+use Rattle.policy.specs.Tables.{Tables, Unmet, Waiting, bit, decode}
+use Rattle.policy.specs.Lookup.{Place as Found, numberOf, serviceOf, serverOf}
 use Rattle.policy.specs.Sound.{sound}
 use Rattle.policy.specs.ShortCheck.{count}
-use Rattle.policy.proofs.Sets.{false-T, length-keep}
+use Rattle.policy.proofs.Sets.{T-true, T-false, length-keep}
 use Rattle.image.specs.declared.read.Place.{Place}
 use Rattle.image.specs.Read.{numberOr, placeOr, maskOf, unmetRow}
 use Rattle.image.proofs.Laid.{sound-laid}
-use Rattle.image.proofs.Numbers.{package-none, package-some, server-none, server-some}
+use Rattle.image.proofs.Listed.{other, alike}
+use Rattle.image.proofs.Numbers.{Below, package-below, service-below, server-none, server-some}
 use Rattle.record.specs.Meaning.{Stands, Uncons, itemsIn}
 use Rattle.record.specs.declared.Items.{Items}
 use Rattle.record.proofs.Loops.{Todo, Left, todo-start, todo-end, todo-cons, todo-next, every-stop, every-next, count-yes, count-no}
-use Rattle.engine.proofs.Callers.{not-asking, asking-by, caller-used}
-use Rattle.loading.specs.Loads.{meets, served, present, waitsAt, callGranted, CallsCome, grantFits, othersGranted, unmetFit, waitingFit, loadCause}
+use Rattle.engine.proofs.Callers.{unnamed, named-so, not-asking, asking-by, caller-used}
+use Rattle.loading.specs.Loads.{meets, served, present, comesDue, waitsAt, callGranted, CallsCome, grantFits, othersGranted, unmetFit, waitingFit, loadCause}
 use Rattle.loading.specs.declared.decide.Called.{Called}
 use Rattle.loading.specs.declared.decide.Called.the-variants.{Granted, Refused}
-
--- ---- two tests, the second only where the first passes
-fails-first : (b x y : Bool) → b ≡ x → not b ≡ true → false ≡ x && y
-fails-first false x y e h = ap (λ (z : Bool). z && y) e
-fails-first true x y e h = absurd (false-T (sym h) tt)
-
-passes-first : (b r x y : Bool) → b ≡ x → not b ≡ false → r ≡ y → r ≡ x && y
-passes-first true r x y e h q = q ∙ ap (λ (z : Bool). z && y) e
-passes-first false r x y e h q = absurd (false-T h tt)
 
 -- ---- an unmet call u on a service of the package a with the services p, its callee compared first
 module _ (a : Aid) (p : List Tok) (u : Unmet) (b : Bool) (e : b ≡ eqAid (u .callee) a) where
   pub met-other : not b ≡ true → false ≡ meets a p u
-  met-other h = fails-first b (eqAid (u .callee) a) (hasTok (u .tok) p) e h
+  met-other h = unnamed b (eqAid (u .callee) a) (hasTok (u .tok) p) e h
 
   pub met-has : (r : Bool) (i m : ℕ) → not b ≡ false → i ≡ u .tok .itf → m ≡ u .tok .mth → r ≡ hasTok (record { itf = i; mth = m }) p → r ≡ meets a p u
-  met-has r i m h x y q = passes-first b r (eqAid (u .callee) a) (hasTok (u .tok) p) e h (q ∙ (λ k. hasTok (record { itf = x k; mth = y k }) p))
+  met-has r i m h x y q = named-so b (eqAid (u .callee) a) (hasTok (u .tok) p) r e h (q ∙ (λ k. hasTok (record { itf = x k; mth = y k }) p))
+
+-- ---- a waiting grant to the package a, of a service that is provided, its caller compared first
+module _ (L : Layout) (t : Tables) (a : Aid) (w : Waiting) (b : Bool) (e : b ≡ eqAid (w .caller) a) where
+  pub due-other : not b ≡ true → false ≡ comesDue L t a w
+  due-other h = unnamed b (eqAid (w .caller) a) (isSome (serviceOf L t (w .callee) (w .tok))) e h
+
+  pub due-offered : (r : Bool) → not b ≡ false → r ≡ isSome (serviceOf L t (w .callee) (w .tok)) → r ≡ comesDue L t a w
+  due-offered r h q = named-so b (eqAid (w .caller) a) (isSome (serviceOf L t (w .callee) (w .tok))) r e h q
+
+-- ---- a number that was found is below the limit
+found-below : (m n i : ℕ) (o : Option ℕ) → Below m o → n ≡ m → i ≡ numberOr m o → ltb i n ≡ isSome o
+found-below m n i none b e q = T-false (ltb i n) (λ h. let z = ltb→lt i n h in absurd (omega arith))
+found-below m n i (some k) b e q = T-true (ltb i n) (lt→ltb i n (omega arith))
 
 module _ (L : Layout) (t : Tables) where
-  -- ---- a package with the AID a
-  module _ (a : Aid) (n i : ℕ) (e : n ≡ L .packages) (q : i ≡ numberOr (L .packages) (numberOf L t a)) where
-    present-as : ltb i n ≡ present L t a
-    present-as = go (ltb i n) refl
-      where
-        go : (b : Bool) → ltb i n ≡ b → b ≡ present L t a
-        go true h = let z = ltb-true i n h in sym (ap isSome (package-some L t a i q (omega arith)))
-        go false h = let z = ltb-false i n h in sym (ap isSome (package-none L t a i q (omega arith)))
-
+  -- ---- a package with the AID a, and a service of package j with the tokens s
   pub present-is : (a b : Aid) (n i : ℕ) → n ≡ L .packages → i ≡ numberOr (L .packages) (numberOf L t b) → b ≡ a → ltb i n ≡ present L t a
-  present-is a b n i e q z = present-as b n i e q ∙ ap (present L t) z
+  present-is a b n i e q z = found-below (L .packages) n i (numberOf L t b) (package-below L t b) e q ∙ ap (present L t) z
+
+  pub offered-is : (j : ℕ) (s : Tok) (j′ x y n k : ℕ) → n ≡ L .services → k ≡ numberOr (L .services) (serviceOf L t j′ (record { itf = x; mth = y })) → j′ ≡ j → x ≡ s .itf → y ≡ s .mth
+      → ltb k n ≡ isSome (serviceOf L t j s)
+  offered-is j s j′ x y n k e q u v w =
+      found-below (L .services) n k (serviceOf L t j′ (record { itf = x; mth = y })) (service-below L t j′ (record { itf = x; mth = y })) e q ∙ (λ i. isSome (serviceOf L t (u i) (record { itf = v i; mth = w i })))
 
   -- ---- a grant of the package a for the unmet call u, its caller compared first: i is the caller of u, and o the AID of the grant
   module _ (a : Aid) (u : Unmet) (g : Row) (b : Bool) (i : ℕ) (o : Aid) (x : i ≡ u .caller) (y : o ≡ g .aid) (e : b ≡ t .used i && eqAid (t .aid i) o) where
@@ -76,10 +78,10 @@ module _ (L : Layout) (t : Tables) where
     calls-is = e ∙ ap₂ (λ (k : ℕ) (z : Aid). t .used k && eqAid (t .aid k) z) x y
 
     pub grant-other : not b ≡ true → false ≡ grantFits L t a u g
-    grant-other h = fails-first b calls asks calls-is h ∙ and-comm calls asks
+    grant-other h = other b asks calls calls-is h
 
     pub grant-seen : (r : Bool) → not b ≡ false → r ≡ asks → r ≡ grantFits L t a u g
-    grant-seen r h q = passes-first b r calls asks calls-is h q ∙ and-comm calls asks
+    grant-seen r h q = alike b r asks calls calls-is h q
 
   -- ---- the server of a row
   module _ (r : Row) (n : ℕ) (p : Place) (e : n ≡ L .packages) (q : p ≡ placeOr L (serverOf L t r)) where
@@ -96,17 +98,17 @@ module _ (L : Layout) (t : Tables) where
       served-off = ap (λ (o : Option Found). not (isSome o)) (server-none L t r p q (omega arith))
 
       pub granted-off : (w : ℕ) → true ≡ callGranted L t w r
-      granted-off w = sym (ap (λ (o : Option Found). orElse o true (waitsAt L t w)) (server-none L t r p q (omega arith)))
+      granted-off w = sym (ap (λ (o : Option Found). orElse o true (waitsAt L t w (r .tok))) (server-none L t r p q (omega arith)))
 
     -- it is at the place p: whether one of the rows of w waits there
     module _ (h : p .callee < n) where
       pub served-on : not (served L t r) ≡ false
       served-on = ap (λ (o : Option Found). not (isSome o)) (server-some L t r p q (omega arith) .0)
 
-      module _ (w m : ℕ) (g : m ≡ maskOf (λ x. eqb (x .callee) (p .callee) && eqb (x .service) (p .service)) (t .waiting)) where
+      module _ (w m : ℕ) (g : m ≡ maskOf (λ x. eqb (x .callee) (p .callee) && eqTok (x .tok) (r .tok)) (t .waiting)) where
         granted-by : not (eqb (bitAnd w m) 0) ≡ callGranted L t w r
         granted-by =
-            ap (λ (x : ℕ). not (eqb (bitAnd w x) 0)) g ∙ sym (ap (λ (o : Option Found). orElse o true (waitsAt L t w)) (server-some L t r p q (omega arith) .0))
+            ap (λ (x : ℕ). not (eqb (bitAnd w x) 0)) g ∙ sym (ap (λ (o : Option Found). orElse o true (waitsAt L t w (r .tok))) (server-some L t r p q (omega arith) .0))
 
         pub granted-no : bitAnd w m ≡ 0 → false ≡ callGranted L t w r
         granted-no z = sym (ap not (eq-eqb (bitAnd w m) 0 z)) ∙ granted-by
@@ -180,7 +182,7 @@ room-is k e p q r = e ∙ (λ i. leb k (p i + q i - r i))
 abbrev causeOf : Bool → Bool → Bool → Bool → Bool → ℕ
 causeOf g h n u w = cond (not (g && h)) 8 (cond (not n) 9 (cond (not u) 10 (cond (not w) 11 0)))
 
-module _ (L : Layout) (t : Tables) (a : Aid) (calls grants needs : List Row) (met waiting : ℕ) where
+module _ (L : Layout) (t : Tables) (a : Aid) (p : List Tok) (calls grants needs : List Row) (met due : ℕ) where
   abbrev others : Bool
   others = othersGranted L t a grants met
 
@@ -191,28 +193,28 @@ module _ (L : Layout) (t : Tables) (a : Aid) (calls grants needs : List Row) (me
   room = unmetFit L t met (count (λ x. not (served L t x)) calls)
 
   abbrev wait-room : Bool
-  wait-room = waitingFit L t waiting grants
+  wait-room = waitingFit L t due p grants
 
   -- by what its calls come to
-  module _ (r : Called) (come : CallsCome L t waiting calls r) where
-    pub cause-1 : r ≡ Refused → 8 ≡ loadCause L t a calls grants needs met waiting
-    cause-1 q = λ i. causeOf (sym (subst (CallsCome L t waiting calls) q come) i) others needed room wait-room
+  module _ (r : Called) (come : CallsCome L t due calls r) where
+    pub cause-1 : r ≡ Refused → 8 ≡ loadCause L t a p calls grants needs met due
+    cause-1 q = λ i. causeOf (sym (subst (CallsCome L t due calls) q come) i) others needed room wait-room
 
     module _ (k : ℕ) (q1 : r ≡ Granted k) where
-      all-come : CallsCome L t waiting calls (Granted k)
-      all-come = subst (CallsCome L t waiting calls) q1 come
+      all-come : CallsCome L t due calls (Granted k)
+      all-come = subst (CallsCome L t due calls) q1 come
 
-      on-1 : true ≡ every (callGranted L t waiting) calls
+      on-1 : true ≡ every (callGranted L t due) calls
       on-1 = sym (all-come .0)
 
-      pub cause-2 : (b : Bool) → b ≡ others → not b ≡ true → 8 ≡ loadCause L t a calls grants needs met waiting
+      pub cause-2 : (b : Bool) → b ≡ others → not b ≡ true → 8 ≡ loadCause L t a p calls grants needs met due
       cause-2 b e q = λ i. causeOf (on-1 i) ((sym (not-true b q) ∙ e) i) needed room wait-room
 
       module _ (b : Bool) (e2 : b ≡ others) (q2 : not b ≡ false) where
         on-2 : true ≡ others
         on-2 = sym (not-false b q2) ∙ e2
 
-        pub cause-3 : (d : Bool) → d ≡ needed → not d ≡ true → 9 ≡ loadCause L t a calls grants needs met waiting
+        pub cause-3 : (d : Bool) → d ≡ needed → not d ≡ true → 9 ≡ loadCause L t a p calls grants needs met due
         cause-3 d e q = λ i. causeOf (on-1 i) (on-2 i) ((sym (not-true d q) ∙ e) i) room wait-room
 
         module _ (d : Bool) (e3 : d ≡ needed) (q3 : not d ≡ false) where
@@ -222,20 +224,20 @@ module _ (L : Layout) (t : Tables) (a : Aid) (calls grants needs : List Row) (me
           room-by : (f : Bool) → f ≡ unmetFit L t met k → f ≡ room
           room-by f e = e ∙ ap (unmetFit L t met) (all-come .1)
 
-          pub cause-4 : (f : Bool) → f ≡ unmetFit L t met k → not f ≡ true → 10 ≡ loadCause L t a calls grants needs met waiting
+          pub cause-4 : (f : Bool) → f ≡ unmetFit L t met k → not f ≡ true → 10 ≡ loadCause L t a p calls grants needs met due
           cause-4 f e q = λ i. causeOf (on-1 i) (on-2 i) (on-3 i) ((sym (not-true f q) ∙ room-by f e) i) wait-room
 
           module _ (f : Bool) (e4 : f ≡ unmetFit L t met k) (q4 : not f ≡ false) where
             on-4 : true ≡ room
             on-4 = sym (not-false f q4) ∙ room-by f e4
 
-            pub cause-5 : (z : Bool) → z ≡ wait-room → not z ≡ true → 11 ≡ loadCause L t a calls grants needs met waiting
+            pub cause-5 : (z : Bool) → z ≡ wait-room → not z ≡ true → 11 ≡ loadCause L t a p calls grants needs met due
             cause-5 z e q = λ i. causeOf (on-1 i) (on-2 i) (on-3 i) (on-4 i) ((sym (not-true z q) ∙ e) i)
 
-            pub cause-0 : (z : Bool) → z ≡ wait-room → not z ≡ false → 0 ≡ loadCause L t a calls grants needs met waiting
+            pub cause-0 : (z : Bool) → z ≡ wait-room → not z ≡ false → 0 ≡ loadCause L t a p calls grants needs met due
             cause-0 z e q = λ i. causeOf (on-1 i) (on-2 i) (on-3 i) (on-4 i) ((sym (not-false z q) ∙ e) i)
 
-pub ruleset checks = (present-is, served-is, met-other, met-has, grant-other, grant-seen, not-asking, asking-by, needs)
+pub ruleset checks = (present-is, offered-is, served-is, other, alike, met-other, met-has, due-other, due-offered, grant-other, grant-seen, not-asking, asking-by, needs)
 
 pub ruleset tallies = (served-off, served-on, granted-off, granted-no, granted-on, tally-stop, tally-off, tally-on, tally-end, needs)
 

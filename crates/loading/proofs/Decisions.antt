@@ -19,7 +19,7 @@ use Rattle.policy.specs.Settled.{settled}
 use Rattle.policy.proofs.Settled.{settled-refused, settled-short, settled-accepted}
 use Rattle.image.specs.Read.{maskOf}
 use Rattle.engine.specs.Asked.{Asked}
-use Rattle.loading.specs.Loads.{meets, waitsFor, loadCause, Decides}
+use Rattle.loading.specs.Loads.{meets, comesDue, loadCause, Decides}
 use Rattle.loading.specs.declared.decide.Decided.{Decided}
 use Rattle.loading.proofs.Shorts.{cause-same}
 
@@ -54,16 +54,16 @@ module _ (L : Layout) (img : List ℕ) (a : Aid) (p : List Tok) (c g n : List Ro
       settled-accepted L img a ch (ask .is-sound) (ask .within) (ask .is-proper) (early none (some m) o f) e
       ∙ ap₂ (λ (x y : Option ℕ). record { answered = 0; second = orElse x (orElse y 255 (λ k. k)) (λ k. k); bytes = encode L (orElse y (kept t) (λ k. loadAt L t k contract) .tables) }) o f
 
-  pub decides-late : L .capacity ≤ 32 → (r : Decided) → numberOf L t a ≡ none → freeNumber L t ≡ some (r .at) → r .met ≡ maskOf (meets a p) (t .unmet) → r .waiting ≡ maskOf (waitsFor a) (t .waiting)
-      → r .number ≡ loadCause L t a c g n (r .met) (r .waiting) → Decides L img a p c g n r
+  pub decides-late : L .capacity ≤ 32 → (r : Decided) → numberOf L t a ≡ none → freeNumber L t ≡ some (r .at) → r .met ≡ maskOf (meets a p) (t .unmet) → r .due ≡ maskOf (comesDue L t a) (t .waiting)
+      → r .number ≡ loadCause L t a p c g n (r .met) (r .due) → Decides L img a p c g n r
   decides-late low r o f e w h = go (r .number) refl
     where
       late : r .number ≡ answer (lookCauses (shortLook L t a ch))
-      late = h ∙ ap₂ (λ (x y : ℕ). loadCause L t a c g n x y) e w ∙ cause-same L img (ask .is-sound) low a p c g n
+      late = h ∙ ap₂ (λ (x y : ℕ). loadCause L t a p c g n x y) e w ∙ cause-same L img (ask .is-sound) low a p c g n
 
       go : (k : ℕ) → r .number ≡ k → Decides L img a p c g n r
       go zero z = record {
         refused = λ q. absurd (q z);
-        accepted = λ q. record { outcome = accepted-at (r .at) o f (sym late ∙ z); away = o; free = f; met-is = e; waiting-is = w };
+        accepted = λ q. record { outcome = accepted-at (r .at) o f (sym late ∙ z); away = o; free = f; met-is = e; due-is = w };
       }
       go (suc k) z = refuses r k z (settled-short L img a ch (ask .is-sound) (ask .within) (ask .is-proper) (early none (some (r .at)) o f) k (sym late ∙ z))

@@ -1,19 +1,14 @@
 -- Kind 1: folds of the writes of a load, by the places that they change. Assumes nothing.
-use Prim.Native.Nat.{ℕ, zero, suc, _+_, _<_, suc-le-suc}
+use Prim.Native.Nat.{ℕ, zero, suc, _+_, _<_}
 use native.Mathlib.Omega.{arith}
-use native.Mathlib.Nat.{add-zero, add-suc, suc-add, zero-add}
+use native.Mathlib.Nat.{add-zero, zero-add}
 use mathlib.Core.Path.{_≡_, refl, sym, ap, _∙_}
-use mathlib.Core.Bool.{Bool, true, _&&_, _||_, cond, and-true}
+use mathlib.Core.Bool.{Bool, _&&_, cond, and-true}
 use mathlib.Core.List.{List, [], _∷_}
 use lib.Dec.{eqb, eqb→eq, eqb-refl, ltb, leb·zero, leb·suc-zero, leb·suc-suc}
 use lib.ListN.{length, getD}
-use Rattle.policy.specs.Tables.{bit}
-use Rattle.policy.specs.Draft.{put2, put3}
+use Rattle.policy.specs.Draft.{put2}
 use Rattle.policy.proofs.Sets.{T-true, and-r, cond-false}
-use Rattle.image.specs.Read.{maskOf}
-use Rattle.engine.proofs.Callers.{named}
-use Rattle.engine.proofs.Marks.{marked, marks, marked-is}
-use Rattle.loading.specs.Writes.{listed}
 
 -- ---- one write for each element of a list, at the places from k on
 module _ {A B : Type 0} (f : ℕ → A → B → B) where
@@ -51,16 +46,3 @@ pub put-rows : {A C : Type 0} (n : ℕ) (v : A → C) (l : List A) (d : A) (b : 
 put-rows n v l d b x y = each-row (λ k s. put2 n k (v s)) (λ b. b x) (λ s w. cond (eqb x n) (v s) w)
     (λ k z s b h. cond-false (eqb x n && eqb z k) (v s) (b x z) (λ q. h (eqb→eq z k (and-r (eqb x n) (eqb z k) q))))
     (λ k s b. ap (λ (c : Bool). cond c (v s) (b x k)) (ap (λ (c : Bool). eqb x n && c) (T-true (eqb k k) (eqb-refl k)) ∙ and-true (eqb x n))) l d b y
-
--- ---- the rows of a list that the mask names, where it is that of those that pass
-module _ {A : Type 0} (f : A → Bool) (row service : A → ℕ) (mask n : ℕ) where
-  listed-marked : (k : ℕ) (l : List A) → ((r : ℕ) (d : A) → r < length l → bit mask (k + r) ≡ f (getD l r d)) → (b : ℕ → ℕ → ℕ → Bool) → listed row service mask n k l b ≡ marked f row service n l b
-  listed-marked k [] h b = refl
-  listed-marked k (x ∷ l) h b =
-      let e : bit mask k ≡ f x = ap (bit mask) (sym (add-zero k)) ∙ h 0 x (omega arith) in
-      listed-marked (suc k) l (λ r d p. ap (bit mask) (suc-add k r ∙ sym (add-suc k r)) ∙ h (suc r) d (suc-le-suc p)) (cond (bit mask k) (put3 (row x) n (service x) true b) b)
-      ∙ ap (λ (v : Bool). marked f row service n l (cond v (put3 (row x) n (service x) true b) b)) e
-
-  pub listed-is : (l : List A) → mask ≡ maskOf f l → (b : ℕ → ℕ → ℕ → Bool) (x y z : ℕ) → listed row service mask n 0 l b x y z ≡ b x y z || (eqb y n && marks f row service n x z l)
-  listed-is l e b x y z =
-      ap (λ (c : ℕ → ℕ → ℕ → Bool). c x y z) (listed-marked 0 l (λ r d p. ap (bit mask) (zero-add r) ∙ named f l mask r d e p) b) ∙ marked-is f row service n l b x y z

@@ -70,7 +70,7 @@ module _ (L : Layout) (img : List ℕ) (a : Aid) (p : List Tok) (c g n : List Ro
 
   pub load-fits : Fitting L (loadAt L (decode L img) (r .at) contract .tables)
   load-fits = subst (λ (d : Draft). Fitting L (d .tables)) draft-is
-      (accepted-formed L img a ch (ask .is-sound) (ask .first-valid) (ask .within) (ask .is-proper) none-early none-late .1)
+      (accepted-formed L img a ch (ask .is-sound) (ask .first-valid) (ask .within) (ask .is-proper) none-early none-late .2)
 
   pub load-kept : loadAt L (decode L img) (r .at) contract .lost ≡ []
   load-kept = subst (λ (d : Draft). d .lost ≡ []) draft-is

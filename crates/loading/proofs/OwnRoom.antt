@@ -9,16 +9,16 @@ use Rattle.policy.specs.Lists.{every, keep, isSome}
 use Rattle.policy.specs.Contract.{Row, Contract, validAid}
 use Rattle.policy.specs.Layout.{Layout}
 use Rattle.policy.specs.Tables.{Tables}
-use Rattle.policy.specs.Lookup.{numberOf, serviceOf, serverOf}
-use Rattle.policy.specs.Draft.{callRow, loadedService, loadAt}
+use Rattle.policy.specs.Lookup.{numberOf, serviceOf, serverOf, spotOf}
+use Rattle.policy.specs.Draft.{callRow, grantRow, loadAt}
 use Rattle.policy.specs.ShortCheck.{count}
-use Rattle.policy.proofs.Sets.{is-nil, in-every}
+use Rattle.policy.proofs.Sets.{is-nil}
 use Rattle.policy.proofs.Formed.{Fitting}
 use Rattle.policy.proofs.LoadNames.{Newcomer}
 use Rattle.policy.proofs.ShortLoad.{none-kept, length-kept}
-use Rattle.loading.specs.Loads.{served, present}
+use Rattle.loading.specs.Loads.{served, bothThere}
 use Rattle.loading.specs.Writes.{calledAll, grantedAll, joined}
-use Rattle.loading.proofs.OwnRows.{called-is, granted-is, grants-found, strange-same}
+use Rattle.loading.proofs.OwnRows.{called-is, granted-is, waits-same}
 
 module _ (L : Layout) (t : Tables) (n : ℕ) (k : Contract) (new : Newcomer L t n k) (valid : T (validAid (k .aid))) where
   abbrev on : Tables
@@ -30,11 +30,6 @@ module _ (L : Layout) (t : Tables) (n : ℕ) (k : Contract) (new : Newcomer L t 
   abbrev granted : Tables
   granted = grantedAll L n (k .grants) called
 
-  pub grants-there : T (every (λ x. isSome (serviceOf L called n (x .tok))) (k .grants))
-  unfolding serviceOf
-  grants-there = subst (λ (v : Tables). T (every (λ x. isSome (serviceOf L v n (x .tok))) (k .grants))) (sym (called-is L t n k new valid))
-      (in-every (λ x. isSome (serviceOf L on n (x .tok))) (k .grants) (grants-found L t n k new valid))
-
   pub needs-there : loadAt L t n k .lost ≡ [] → T (every (served L granted) (k .needs))
   unfolding numberOf serviceOf serverOf
   needs-there e = subst (λ (v : Tables). T (every (served L v) (k .needs))) (sym (granted-is L t n k new valid)) (subst T (none-kept (served L on) (callRow n) (k .needs)) (is-nil e))
@@ -44,9 +39,8 @@ module _ (L : Layout) (t : Tables) (n : ℕ) (k : Contract) (new : Newcomer L t 
     unfolding numberOf serviceOf serverOf
     calls-room = subst (λ (m : ℕ). m ≤ L .capacity) (length-kept (on .unmet) (callRow n) (keep (λ x. not (served L on x)) (k .calls))) (fit .unmet-fits)
 
-    pub grants-room : length (called .waiting) + count (λ x. not (present L called (x .aid))) (k .grants) ≤ L .capacity
-    unfolding numberOf serviceOf
-    grants-room = subst (λ (v : Tables). length (v .waiting) + count (λ x. not (present L v (x .aid))) (k .grants) ≤ L .capacity) (sym (called-is L t n k new valid))
-        (subst (λ (l : List Row). length (on .waiting) + length l ≤ L .capacity) (sym (strange-same L t n k new valid))
-        (subst (λ (m : ℕ). m ≤ L .capacity)
-        (length-kept (on .waiting) (λ (r : Row). record { caller = r .aid; callee = n; service = loadedService L t n k (r .tok) }) (keep (λ x. not (present L t (x .aid))) (k .grants))) (fit .waiting-fits)))
+    pub grants-room : length (called .waiting) + count (λ x. not (isSome (spotOf L called n x))) (k .grants) ≤ L .capacity
+    unfolding numberOf serviceOf spotOf
+    grants-room = subst (λ (v : Tables). length (v .waiting) + count (λ x. not (isSome (spotOf L v n x))) (k .grants) ≤ L .capacity) (sym (called-is L t n k new valid))
+        (subst (λ (l : List Row). length (on .waiting) + length l ≤ L .capacity) (sym (waits-same L t n k new valid))
+        (subst (λ (m : ℕ). m ≤ L .capacity) (length-kept (on .waiting) (grantRow n) (keep (λ x. not (bothThere L t (k .provides) x)) (k .grants))) (fit .waiting-fits)))

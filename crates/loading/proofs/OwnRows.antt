@@ -3,23 +3,23 @@ use Prim.Native.Nat.{ℕ}
 use mathlib.Core.Path.{_≡_, refl, sym, ap, _∙_, subst}
 use mathlib.Core.Bool.{Bool, true, false, not, _&&_, _||_, cond, and-false, and-assoc}
 use mathlib.Core.List.{List, [], _∷_, _++_, map, append-assoc, append-nil}
-use mathlib.Core.List.{List·Memᴰ as In, List·Memᴰ·head as here, List·Memᴰ·tail as there}
+use mathlib.Core.List.{List·Memᴰ as In, Memᴰ·cast as in-cast}
 use mathlib.Core.Option.{Option, none, some}
 use lib.Dec.{T, eqb, eqb→eq}
-use Rattle.policy.specs.Lists.{keep, isSome, orElse}
-use Rattle.policy.specs.Contract.{eqAid, Tok, eqTok, Row, eqRow, Contract, hasRow, validAid}
+use Rattle.policy.specs.Lists.{keep, isSome}
+use Rattle.policy.specs.Contract.{Tok, Row, eqRow, Contract, hasTok, hasRow, validAid}
 use Rattle.policy.specs.Layout.{Layout}
 use Rattle.policy.specs.Tables.{Tables, Unmet, Waiting}
-use Rattle.policy.specs.Lookup.{Place, serviceAt, numberOf, serviceOf, serverOf}
-use Rattle.policy.specs.Draft.{callRow, hasUnmet, hasWaiting, put3, withCalls, withGrants, withNeeds, addCallAt, addGrantAt, addNeedAt, namedIn, loadedService, loadAt}
+use Rattle.policy.specs.Lookup.{Place, Spot, serviceAt, numberOf, serviceOf, serverOf, spotOf}
+use Rattle.policy.specs.Draft.{callRow, grantRow, hasUnmet, hasWaiting, put3, withCalls, withGrants, withNeeds, addCallAt, addGrantAt, addNeedAt, namedIn, loadAt}
 use Rattle.policy.proofs.Sets.{T-eq, T-false, and-l, and-r, and-i, keep-ext}
-use Rattle.policy.proofs.Equal.{eqAid→, eqAid-of, eqb-of, eqTok→, eqTok-of, row-path, eqRow→, eqRow-refl, has-row}
+use Rattle.policy.proofs.Equal.{eqb-of, row-path, eqRow→, eqRow-refl, has-tok, tok-has, has-row}
 use Rattle.policy.proofs.Put.{at-old, by-number}
 use Rattle.policy.proofs.Formed.{Names}
-use Rattle.policy.proofs.Found.{NumberIs, ServiceIs, ServerIs, number-is, service-is, server-is, same-place}
-use Rattle.policy.proofs.LoadNames.{Newcomer, Loaded, loaded, in-tok, names-loaded}
+use Rattle.policy.proofs.Found.{NumberIs, ServerIs, SpotIs, number-is, server-is, spot-is, same-place}
+use Rattle.policy.proofs.LoadNames.{Newcomer, Loaded, loaded, tok-in, in-tok, names-loaded}
 use Rattle.engine.proofs.Marks.{or-none, row-off}
-use Rattle.loading.specs.Loads.{served, present}
+use Rattle.loading.specs.Loads.{served, present, bothThere}
 use Rattle.loading.specs.Writes.{calledAll, grantedAll, neededAll, joined}
 
 -- ---- one row more among those of a package: p is its row of bits, s that a place stands for the row
@@ -42,165 +42,112 @@ own-row true w o = refl
 own-row false w true = refl
 own-row false w false = refl
 
--- ---- one grant more: u and a that a caller is the grant's, p and s that a service is
-grant-more : (o q r b p u a s e : Bool) → q ≡ u && a → r ≡ p && s → cond (o && q && r) true b || (o && (p && (u && e))) ≡ b || (o && (p && (u && (a && s || e))))
-grant-more false q r b p u a s e h k = refl
-grant-more true q r b p u a s e h k = (λ i. cond (h i && k i) true b || (p && (u && e))) ∙ go b p u a s
-  where
-    go : (b p u a s : Bool) → cond ((u && a) && (p && s)) true b || (p && (u && e)) ≡ b || (p && (u && (a && s || e)))
-    go b p false a s = refl
-    go b p true false s = refl
-    go b false true true s = refl
-    go b true true true false = refl
-    go true true true true true = refl
-    go false true true true true = refl
+-- ---- rows of package n as bits: a row is the bit y, z where that place is there and stands for it
+module _ (there : ℕ → ℕ → Bool) (at : ℕ → ℕ → Row) (n : ℕ) where
+  -- bits b with the rows of l
+  abbrev pub withRows : (ℕ → ℕ → ℕ → Bool) → List Row → ℕ → ℕ → ℕ → Bool
+  withRows b l x y z = b x y z || (eqb x n && (there y z && hasRow (at y z) l))
 
-caller-off : (u a s e : Bool) → false ≡ u && a → u && e ≡ u && (a && s || e)
-caller-off u a s e h = row-off u (a && s) e (ap (λ (z : Bool). z && s) h ∙ and-assoc u a s)
+  no-row : (b : ℕ → ℕ → ℕ → Bool) → b ≡ withRows b []
+  no-row b = λ i x y z. no-rows (eqb x n) (there y z) (b x y z) i
 
-none-granted : (o p u b : Bool) → b ≡ b || (o && (p && (u && false)))
-none-granted o p u b = no-rows o p b ∙ ap (λ (z : Bool). b || (o && (p && z))) (sym (and-false u))
+  -- one row more, which stands nowhere
+  missing : (b : ℕ → ℕ → ℕ → Bool) (r : Row) (l : List Row) → ((j k : ℕ) → T (there j k) → at j k ≡ r → ⊥) → withRows b l ≡ withRows b (r ∷ l)
+  missing b r l h = λ i x y z. b x y z || (eqb x n && row-off (there y z) (eqRow (at y z) r) (hasRow (at y z) l) (nowhere y z) i)
+    where
+      nowhere : (y z : ℕ) → false ≡ there y z && eqRow (at y z) r
+      nowhere y z = let p = there y z in let s = eqRow (at y z) r in sym (T-false (p && s) (λ q. h y z (and-l p s q) (eqRow→ (at y z) r (and-r p s q))))
+
+  -- or at the place j, k, and no other does
+  module _ (once : (y z j k : ℕ) → T (there y z) → T (there j k) → at y z ≡ at j k → (y ≡ j) × (z ≡ k)) where
+    placed : (b : ℕ → ℕ → ℕ → Bool) (r : Row) (l : List Row) (j k : ℕ) → T (there j k) → at j k ≡ r → withRows (put3 n j k true b) l ≡ withRows b (r ∷ l)
+    placed b r l j k h e = λ i x y z. row-more (eqb x n) (eqb y j) (eqb z k) (b x y z) (there y z) (eqRow (at y z) r) (hasRow (at y z) l) (one y z) i
+      where
+        one : (y z : ℕ) → eqb y j && eqb z k ≡ there y z && eqRow (at y z) r
+        one y z =
+            let p = there y z in
+            let s = eqRow (at y z) r in
+            let a = eqb y j in
+            let c = eqb z k in
+            T-eq (a && c) (p && s)
+            (λ q. subst (λ (y : ℕ). T (there y z && eqRow (at y z) r)) (sym (eqb→eq y j (and-l a c q)))
+            (subst (λ (z : ℕ). T (there j z && eqRow (at j z) r)) (sym (eqb→eq z k (and-r a c q)))
+            (and-i (there j k) (eqRow (at j k) r) h (subst (λ (o : Row). T (eqRow o r)) (sym e) (eqRow-refl r)))))
+            (λ q. let f = once y z j k (and-l p s q) h (eqRow→ (at y z) r (and-r p s q) ∙ sym e) in and-i a c (eqb-of (f .0)) (eqb-of (f .1)))
 
 -- ---- tables v whose names are in order; what is found in them does not depend on their bits and lists
-module _ (L : Layout) (v : Tables) (names : Names L (v .used) (v .aid) (v .tok) (v .provides)) where
-  -- service z of package y is one of the rows
-  abbrev pub among : List Row → ℕ → ℕ → Bool
-  among l y z = v .provides y z && hasRow (serviceAt v y z) l
+module _ (L : Layout) (v : Tables) (names : Names L (v .used) (v .aid) (v .tok) (v .provides)) (n : ℕ) where
+  -- ---- calls and needs: the services of the card
+  abbrev onServices : (ℕ → ℕ → ℕ → Bool) → List Row → ℕ → ℕ → ℕ → Bool
+  onServices = withRows (v .provides) (serviceAt v) n
 
-  abbrev spot : Option Place → ℕ → ℕ → Bool
-  spot o y z = orElse o false (λ p. eqb y (p .callee) && eqb z (p .service))
+  no-server : (b : ℕ → ℕ → ℕ → Bool) (r : Row) (l : List Row) → ServerIs v r none → onServices b l ≡ onServices b (r ∷ l)
+  no-server b r l h = missing (v .provides) (serviceAt v) n b r l (λ j k p e. h j k p (λ i. e i .aid) (λ i. e i .tok))
 
-  -- a row's server is the one place that stands for it
-  spot-is : (r : Row) (y z : ℕ) (o : Option Place) → ServerIs v r o → spot o y z ≡ v .provides y z && eqRow (serviceAt v y z) r
-  spot-is r y z none h =
-      let p = v .provides y z in
-      let s = eqRow (serviceAt v y z) r in
-      sym (T-false (p && s) (λ q. let e = eqRow→ (serviceAt v y z) r (and-r p s q) in h y z (and-l p s q) (λ i. e i .aid) (λ i. e i .tok)))
-  spot-is r y z (some w) h =
-      let p = v .provides y z in
-      let s = eqRow (serviceAt v y z) r in
-      let a = eqb y (w .callee) in
-      let b = eqb z (w .service) in
-      T-eq (a && b) (p && s) (λ q. to (eqb→eq y (w .callee) (and-l a b q)) (eqb→eq z (w .service) (and-r a b q)))
-      (λ q. let e = eqRow→ (serviceAt v y z) r (and-r p s q) in
-      let f = same-place L v names y z (w .callee) (w .service) (and-l p s q) (h .0) ((λ i. e i .aid) ∙ sym (h .1)) ((λ i. e i .tok) ∙ sym (h .2)) in
-      and-i a b (eqb-of (f .0)) (eqb-of (f .1)))
+  at-server : (b : ℕ → ℕ → ℕ → Bool) (r : Row) (l : List Row) (p : Place) → ServerIs v r (some p) → onServices (put3 n (p .callee) (p .service) true b) l ≡ onServices b (r ∷ l)
+  at-server b r l p h = placed (v .provides) (serviceAt v) n (λ y z j k p q e. same-place L v names y z j k p q (λ i. e i .aid) (λ i. e i .tok))
+      b r l (p .callee) (p .service) (h .0) (row-path (h .1) (h .2))
+
+  -- calls whose service is not on the card are unmet
+  abbrev unserved : List Row → List Row
+  unserved l = keep (λ r. not (served L v r)) l
+
+  pub called-rows : (l : List Row) (c : ℕ → ℕ → ℕ → Bool) (u : List Unmet)
+      → calledAll L n l (withCalls c u v) ≡ withCalls (withRows (v .provides) (serviceAt v) n c l) (u ++ map (callRow n) (keep (λ r. not (served L v r)) l)) v
+  unfolding numberOf serviceOf serverOf
+  called-rows [] c u = λ i. withCalls (no-row (v .provides) (serviceAt v) n c i) (sym (append-nil u) i) v
+  called-rows (r ∷ l) c u = go (serverOf L v r) (server-is L v names r) (λ c u. called-rows l c u)
     where
-      to : y ≡ w .callee → z ≡ w .service → T (v .provides y z && eqRow (serviceAt v y z) r)
-      to ey ez = subst (λ (j : ℕ). T (v .provides j z && eqRow (serviceAt v j z) r)) (sym ey)
-          (subst (λ (k : ℕ). T (v .provides (w .callee) k && eqRow (serviceAt v (w .callee) k) r)) (sym ez)
-          (and-i (v .provides (w .callee) (w .service)) (eqRow (serviceAt v (w .callee) (w .service)) r) (h .0)
-          (subst (λ (x : Row). T (eqRow x r)) (sym (row-path {r = serviceAt v (w .callee) (w .service)} {s = r} (h .1) (h .2))) (eqRow-refl r))))
+      go : (o : Option Place) → ServerIs v r o → ((c : ℕ → ℕ → ℕ → Bool) (u : List Unmet) → calledAll L n l (withCalls c u v) ≡ withCalls (onServices c l) (u ++ map (callRow n) (unserved l)) v)
+          → calledAll L n l (addCallAt L (withCalls c u v) n r o .tables) ≡ withCalls (onServices c (r ∷ l)) (u ++ map (callRow n) (cond (not (isSome o)) (r ∷ unserved l) (unserved l))) v
+      go none h ih = ih c (u ++ (callRow n r ∷ []))
+          ∙ (λ i. withCalls (no-server c r l h i) (append-assoc u (callRow n r ∷ []) (map (callRow n) (unserved l)) i) v)
+      go (some p) h ih = ih (put3 n (p .callee) (p .service) true c) u ∙ (λ i. withCalls (at-server c r l p h i) (u ++ map (callRow n) (unserved l)) v)
 
-  module _ (n : ℕ) where
-    -- bits b with the rows of l at package n
-    abbrev pub withRows : (ℕ → ℕ → ℕ → Bool) → List Row → ℕ → ℕ → ℕ → Bool
-    withRows b l x y z = b x y z || (eqb x n && among l y z)
+  pub needed-rows : (l : List Row) (b : ℕ → ℕ → ℕ → Bool) → neededAll L n l (withNeeds b v) ≡ withNeeds (withRows (v .provides) (serviceAt v) n b l) v
+  unfolding numberOf serviceOf serverOf
+  needed-rows [] b = λ i. withNeeds (no-row (v .provides) (serviceAt v) n b i) v
+  needed-rows (r ∷ l) b = go (serverOf L v r) (server-is L v names r) (λ b. needed-rows l b)
+    where
+      go : (o : Option Place) → ServerIs v r o → ((b : ℕ → ℕ → ℕ → Bool) → neededAll L n l (withNeeds b v) ≡ withNeeds (onServices b l) v)
+          → neededAll L n l (addNeedAt L (withNeeds b v) n r o .tables) ≡ withNeeds (onServices b (r ∷ l)) v
+      go none h ih = ih b ∙ (λ i. withNeeds (no-server b r l h i) v)
+      go (some p) h ih = ih (put3 n (p .callee) (p .service) true b) ∙ (λ i. withNeeds (at-server b r l p h i) v)
 
-    -- one row more
-    placed : (b : ℕ → ℕ → ℕ → Bool) (r : Row) (l : List Row) (p : Place) → ServerIs v r (some p) → withRows (put3 n (p .callee) (p .service) true b) l ≡ withRows b (r ∷ l)
-    placed b r l p h = λ i x y z. row-more (eqb x n) (eqb y (p .callee)) (eqb z (p .service)) (b x y z) (v .provides y z) (eqRow (serviceAt v y z) r) (hasRow (serviceAt v y z) l)
-        (spot-is r y z (some p) h) i
+  -- ---- grants: the packages of the card, and the services of package n
+  abbrev pub granted : ℕ → ℕ → Bool
+  granted y z = v .provides n z && v .used y
 
-    missing : (b : ℕ → ℕ → ℕ → Bool) (r : Row) (l : List Row) → ServerIs v r none → withRows b l ≡ withRows b (r ∷ l)
-    missing b r l h = λ i x y z. b x y z || (eqb x n && row-off (v .provides y z) (eqRow (serviceAt v y z) r) (hasRow (serviceAt v y z) l) (spot-is r y z none h) i)
+  abbrev pub grantOf : ℕ → ℕ → Row
+  grantOf y z = record { aid = v .aid y; tok = v .tok n z }
 
-    no-row : (b : ℕ → ℕ → ℕ → Bool) → b ≡ withRows b []
-    no-row b = λ i x y z. no-rows (eqb x n) (v .provides y z) (b x y z) i
+  once : (y z j k : ℕ) → T (granted y z) → T (granted j k) → grantOf y z ≡ grantOf j k → (y ≡ j) × (z ≡ k)
+  once y z j k p q e = (
+    names .aid-inj y j (and-r (v .provides n z) (v .used y) p) (and-r (v .provides n k) (v .used j) q) (λ i. e i .aid),
+    names .tok-inj n z k (and-l (v .provides n z) (v .used y) p) (and-l (v .provides n k) (v .used j) q) (λ i. e i .tok),
+  )
 
-    -- ---- calls: those whose service is not on the card are unmet
-    abbrev pub unserved : List Row → List Row
-    unserved l = keep (λ r. not (served L v r)) l
+  -- those whose caller and service are not both there wait
+  abbrev waiting : List Row → List Row
+  waiting l = keep (λ r. not (isSome (spotOf L v n r))) l
 
-    pub called-rows : (l : List Row) (c : ℕ → ℕ → ℕ → Bool) (u : List Unmet)
-        → calledAll L n l (withCalls c u v) ≡ withCalls (withRows c l) (u ++ map (callRow n) (unserved l)) v
-    unfolding numberOf serviceOf serverOf
-    called-rows [] c u = λ i. withCalls (no-row c i) (sym (append-nil u) i) v
-    called-rows (r ∷ l) c u = go (serverOf L v r) (server-is L v names r) (λ c u. called-rows l c u)
-      where
-        go : (o : Option Place) → ServerIs v r o → ((c : ℕ → ℕ → ℕ → Bool) (u : List Unmet) → calledAll L n l (withCalls c u v) ≡ withCalls (withRows c l) (u ++ map (callRow n) (unserved l)) v)
-            → calledAll L n l (addCallAt L (withCalls c u v) n r o .tables) ≡ withCalls (withRows c (r ∷ l)) (u ++ map (callRow n) (cond (not (isSome o)) (r ∷ unserved l) (unserved l))) v
-        go none h ih = ih c (u ++ (callRow n r ∷ []))
-            ∙ (λ i. withCalls (missing c r l h i) (append-assoc u (callRow n r ∷ []) (map (callRow n) (unserved l)) i) v)
-        go (some p) h ih = ih (put3 n (p .callee) (p .service) true c) u ∙ (λ i. withCalls (placed c r l p h i) (u ++ map (callRow n) (unserved l)) v)
-
-    -- ---- needs
-    pub needed-rows : (l : List Row) (b : ℕ → ℕ → ℕ → Bool) → neededAll L n l (withNeeds b v) ≡ withNeeds (withRows b l) v
-    unfolding numberOf serviceOf serverOf
-    needed-rows [] b = λ i. withNeeds (no-row b i) v
-    needed-rows (r ∷ l) b = go (serverOf L v r) (server-is L v names r) (λ b. needed-rows l b)
-      where
-        go : (o : Option Place) → ServerIs v r o → ((b : ℕ → ℕ → ℕ → Bool) → neededAll L n l (withNeeds b v) ≡ withNeeds (withRows b l) v)
-            → neededAll L n l (addNeedAt L (withNeeds b v) n r o .tables) ≡ withNeeds (withRows b (r ∷ l)) v
-        go none h ih = ih b ∙ (λ i. withNeeds (missing b r l h i) v)
-        go (some p) h ih = ih (put3 n (p .callee) (p .service) true b) ∙ (λ i. withNeeds (placed b r l p h i) v)
-
-    -- ---- grants of services that package n provides: those whose caller is not installed wait
-    -- service z of package n is granted to package y
-    abbrev pub grantedIn : List Row → ℕ → ℕ → Bool
-    grantedIn l y z = v .provides n z && (v .used y && hasRow (record { aid = v .aid y; tok = v .tok n z }) l)
-
-    abbrev pub withGranted : (ℕ → ℕ → ℕ → Bool) → List Row → ℕ → ℕ → ℕ → Bool
-    withGranted b l x y z = b x y z || (eqb x n && grantedIn l y z)
-
-    -- the number of a service that is found
-    abbrev pub serviceFound : Tok → ℕ
-    serviceFound s = orElse (serviceOf L v n s) 0 (λ k. k)
-
-    abbrev pub waitFor : Row → Waiting
-    waitFor r = record { caller = r .aid; callee = n; service = serviceFound (r .tok) }
-
-    abbrev pub strange : List Row → List Row
-    strange l = keep (λ r. not (present L v (r .aid))) l
-
-    abbrev pub Provided : List Row → Type 0
-    Provided l = (r : Row) → In r l → T (isSome (serviceOf L v n (r .tok)))
-
-    -- a grant's caller and its service are the one place that stands for it
-    holder-is : (r : Row) (y : ℕ) (o : Option ℕ) → NumberIs v (r .aid) o → orElse o false (eqb y) ≡ v .used y && eqAid (v .aid y) (r .aid)
-    holder-is r y none h =
-        let u = v .used y in
-        let e = eqAid (v .aid y) (r .aid) in
-        sym (T-false (u && e) (λ q. h y (and-l u e q) (eqAid→ (v .aid y) (r .aid) (and-r u e q))))
-    holder-is r y (some j) h =
-        let u = v .used y in
-        let e = eqAid (v .aid y) (r .aid) in
-        T-eq (eqb y j) (u && e)
-        (λ q. let f = eqb→eq y j q in and-i u e (subst (λ (z : ℕ). T (v .used z)) (sym f) (h .0)) (eqAid-of (ap (v .aid) f ∙ h .1)))
-        (λ q. eqb-of (names .aid-inj y j (and-l u e q) (h .0) (eqAid→ (v .aid y) (r .aid) (and-r u e q) ∙ sym (h .1))))
-
-    pub found-is : (d : ℕ) (s : Tok) (z : ℕ) (o : Option ℕ) → ServiceIs v n s o → T (isSome o) → eqb z (orElse o d (λ k. k)) ≡ v .provides n z && eqTok (v .tok n z) s
-    found-is d s z none h q = absurd q
-    found-is d s z (some k) h q =
-        let p = v .provides n z in
-        let e = eqTok (v .tok n z) s in
-        T-eq (eqb z k) (p && e)
-        (λ q. let f = eqb→eq z k q in and-i p e (subst (λ (x : ℕ). T (v .provides n x)) (sym f) (h .0)) (eqTok-of (ap (v .tok n) f ∙ h .1)))
-        (λ q. eqb-of (names .tok-inj n z k (and-l p e q) (h .0) (eqTok→ (v .tok n z) s (and-r p e q) ∙ sym (h .1))))
-
-    pub granted-rows : (l : List Row) (g : ℕ → ℕ → ℕ → Bool) (w : List Waiting) → Provided l
-        → grantedAll L n l (withGrants g w v) ≡ withGrants (withGranted g l) (w ++ map waitFor (strange l)) v
-    unfolding numberOf serviceOf
-    granted-rows [] g w all = λ i. withGrants (λ x y z. none-granted (eqb x n) (v .provides n z) (v .used y) (g x y z) i) (sym (append-nil w) i) v
-    granted-rows (r ∷ l) g w all =
-        (λ i. grantedAll L n l (addGrantAt L (withGrants g w v) n (r .aid) (number (serviceOf L v n (r .tok)) (all r (here refl)) i) (numberOf L v (r .aid)) .tables))
-        ∙ go (numberOf L v (r .aid)) (number-is L v names (r .aid)) (λ g w. granted-rows l g w (λ s m. all s (there m)))
-      where
-        number : (o : Option ℕ) → T (isSome o) → orElse o (L .services) (λ k. k) ≡ orElse o 0 (λ k. k)
-        number none h = absurd h
-        number (some k) h = refl
-
-        go : (o : Option ℕ) → NumberIs v (r .aid) o → ((g : ℕ → ℕ → ℕ → Bool) (w : List Waiting) → grantedAll L n l (withGrants g w v) ≡ withGrants (withGranted g l) (w ++ map waitFor (strange l)) v)
-            → grantedAll L n l (addGrantAt L (withGrants g w v) n (r .aid) (serviceFound (r .tok)) o .tables)
-            ≡ withGrants (withGranted g (r ∷ l)) (w ++ map waitFor (cond (not (isSome o)) (r ∷ strange l) (strange l))) v
-        go none h ih = ih g (w ++ (waitFor r ∷ []))
-            ∙ (λ i. withGrants (λ x y z. g x y z || (eqb x n && (v .provides n z && caller-off (v .used y) (eqAid (v .aid y) (r .aid)) (eqTok (v .tok n z) (r .tok))
-            (hasRow (record { aid = v .aid y; tok = v .tok n z }) l) (holder-is r y none h) i)))
-            (append-assoc w (waitFor r ∷ []) (map waitFor (strange l)) i) v)
-        go (some j) h ih = ih (put3 n j (serviceFound (r .tok)) true g) w
-            ∙ (λ i. withGrants (λ x y z. grant-more (eqb x n) (eqb y j) (eqb z (serviceFound (r .tok))) (g x y z) (v .provides n z) (v .used y) (eqAid (v .aid y) (r .aid)) (eqTok (v .tok n z) (r .tok))
-            (hasRow (record { aid = v .aid y; tok = v .tok n z }) l) (holder-is r y (some j) h) (found-is 0 (r .tok) z (serviceOf L v n (r .tok)) (service-is L v names n (r .tok)) (all r (here refl))) i)
-            (w ++ map waitFor (strange l)) v)
+  pub granted-rows : (l : List Row) (g : ℕ → ℕ → ℕ → Bool) (w : List Waiting)
+      → grantedAll L n l (withGrants g w v) ≡ withGrants (withRows granted grantOf n g l) (w ++ map (grantRow n) (keep (λ r. not (isSome (spotOf L v n r))) l)) v
+  unfolding numberOf serviceOf spotOf
+  granted-rows [] g w = λ i. withGrants (no-row granted grantOf n g i) (sym (append-nil w) i) v
+  granted-rows (r ∷ l) g w = go (spotOf L v n r) (spot-is L v names n r) (λ g w. granted-rows l g w)
+    where
+      go : (o : Option Spot) → SpotIs v n r o → ((g : ℕ → ℕ → ℕ → Bool) (w : List Waiting) → grantedAll L n l (withGrants g w v) ≡ withGrants (withRows granted grantOf n g l) (w ++ map (grantRow n) (waiting l)) v)
+          → grantedAll L n l (addGrantAt L (withGrants g w v) n r o .tables)
+          ≡ withGrants (withRows granted grantOf n g (r ∷ l)) (w ++ map (grantRow n) (cond (not (isSome o)) (r ∷ waiting l) (waiting l))) v
+      go none h ih = ih g (w ++ (grantRow n r ∷ []))
+          ∙ (λ i. withGrants (missing granted grantOf n g r l
+          (λ j k p e. h j k (and-r (v .provides n k) (v .used j) p) (λ i. e i .aid) (and-l (v .provides n k) (v .used j) p) (λ i. e i .tok)) i)
+          (append-assoc w (grantRow n r ∷ []) (map (grantRow n) (waiting l)) i) v)
+      go (some p) h ih = ih (put3 n (p .caller) (p .service) true g) w
+          ∙ (λ i. withGrants (placed granted grantOf n once g r l (p .caller) (p .service)
+          (and-i (v .provides n (p .service)) (v .used (p .caller)) (h .2) (h .0)) (row-path (h .1) (h .3)) i)
+          (w ++ map (grantRow n) (waiting l)) v)
 
 -- ---- the rows of a newcomer, with number n and contract k, on the card that it has joined
 module _ (L : Layout) (t : Tables) (n : ℕ) (k : Contract) (new : Newcomer L t n k) (valid : T (validAid (k .aid))) where
@@ -223,31 +170,31 @@ module _ (L : Layout) (t : Tables) (n : ℕ) (k : Contract) (new : Newcomer L t 
       ∙ (λ i. withCalls (λ x y z. own-row (eqb x n) (namedIn L t n k (k .calls) y z)
       (cond (eqb y n) (on .provides n z && hasUnmet (callRow x (serviceAt on n z)) (t .unmet)) (t .calls x y z)) i) (after .unmet) on)
 
-  -- its services are there; its grants are of them
-  pub service-found : {s : Tok} → In s (k .provides) → T (isSome (serviceOf L on n s))
-  service-found {s} m = go (serviceOf L on n s) (service-is L on names-joined n s)
+  -- its grants are to packages that were installed before it and of its services, or wait
+  pub there-same : (r : Row) → In r (k .grants) → isSome (spotOf L on n r) ≡ bothThere L t (k .provides) r
+  there-same r m = T-eq (isSome (spotOf L on n r)) (bothThere L t (k .provides) r)
+      (to (spotOf L on n r) (spot-is L on names-joined n r))
+      (λ h. back (numberOf L t (r .aid)) (number-is L t (new .formed .names) (r .aid)) (and-l (present L t (r .aid)) (hasTok (r .tok) (k .provides)) h)
+      (in-tok L t n k new (has-tok (r .tok) (k .provides) (and-r (present L t (r .aid)) (hasTok (r .tok) (k .provides)) h))) (spotOf L on n r) (spot-is L on names-joined n r))
     where
-      go : (o : Option ℕ) → ServiceIs on n s o → T (isSome o)
-      go none h = let q = in-tok L t n k new m in h (q .0) (q .1) (q .2)
-      go (some z) h = tt
+      installed : (i : ℕ) → T (on .used i) → on .aid i ≡ r .aid → (o : Option ℕ) → NumberIs t (r .aid) o → T (isSome o)
+      installed i u e none h = by-number n (λ (x : ℕ). T (on .used x) → on .aid x ≡ r .aid → ⊥) i
+          (λ u e. new .grants-other r m (sym e ∙ l .aid-new)) (λ ne u e. h i (l .used-back i ne u) (sym (l .aid-old i ne) ∙ e)) u e
+      installed i u e (some j) h = tt
 
-  pub grants-found : Provided L on names-joined n (k .grants)
-  grants-found r m = service-found (new .grants-provided r m)
+      to : (o : Option Spot) → SpotIs on n r o → T (isSome o) → T (bothThere L t (k .provides) r)
+      to none h q = absurd q
+      to (some p) h q = and-i (present L t (r .aid)) (hasTok (r .tok) (k .provides))
+          (installed (p .caller) (h .0) (h .1) (numberOf L t (r .aid)) (number-is L t (new .formed .names) (r .aid)))
+          (tok-has (in-cast (sym (h .3)) (tok-in L t n k new (p .service) (h .2))))
 
-  -- and to packages that were installed before it, or wait
-  present-same : (r : Row) → In r (k .grants) → present L on (r .aid) ≡ present L t (r .aid)
-  present-same r m = go (numberOf L on (r .aid)) (numberOf L t (r .aid)) (number-is L on names-joined (r .aid)) (number-is L t (new .formed .names) (r .aid))
-    where
-      go : (o p : Option ℕ) → NumberIs on (r .aid) o → NumberIs t (r .aid) p → isSome o ≡ isSome p
-      go none none h f = refl
-      go none (some i) h f = absurd (h i (l .used-old i (f .0)) (l .aid-old i (l .old-ne i (f .0)) ∙ f .1))
-      go (some i) none h f = absurd
-          (by-number n (λ (x : ℕ). T (on .used x) → on .aid x ≡ r .aid → ⊥) i
-          (λ u e. new .grants-other r m (sym e ∙ l .aid-new)) (λ ne u e. f i (l .used-back i ne u) (sym (l .aid-old i ne) ∙ e)) (h .0) (h .1))
-      go (some i) (some j) h f = refl
+      back : (o : Option ℕ) → NumberIs t (r .aid) o → T (isSome o) → (y : ℕ) × T (on .provides n y) × (on .tok n y ≡ r .tok) → (s : Option Spot) → SpotIs on n r s → T (isSome s)
+      back none f q p s h = absurd q
+      back (some i) f q p none h = h i (p .0) (l .used-old i (f .0)) (l .aid-old i (l .old-ne i (f .0)) ∙ f .1) (p .1) (p .2)
+      back (some i) f q p (some s) h = tt
 
-  pub strange-same : keep (λ r. not (present L on (r .aid))) (k .grants) ≡ keep (λ r. not (present L t (r .aid))) (k .grants)
-  strange-same = keep-ext (λ r. not (present L on (r .aid))) (λ r. not (present L t (r .aid))) (k .grants) (λ r m. ap not (present-same r m))
+  pub waits-same : keep (λ r. not (isSome (spotOf L on n r))) (k .grants) ≡ keep (λ r. not (bothThere L t (k .provides) r)) (k .grants)
+  waits-same = keep-ext (λ r. not (isSome (spotOf L on n r))) (λ r. not (bothThere L t (k .provides) r)) (k .grants) (λ r m. ap not (there-same r m))
 
   granted-same : (y : ℕ) (s : Tok) → on .used y && hasRow (record { aid = on .aid y; tok = s }) (k .grants) ≡ t .used y && hasRow (record { aid = t .aid y; tok = s }) (k .grants)
   granted-same y s = by-number n (λ (x : ℕ). on .used x && hasRow (record { aid = on .aid x; tok = s }) (k .grants) ≡ t .used x && hasRow (record { aid = t .aid x; tok = s }) (k .grants)) y
@@ -263,13 +210,19 @@ module _ (L : Layout) (t : Tables) (n : ℕ) (k : Contract) (new : Newcomer L t 
 
   -- the calls and the grants
   pub granted-is : grantedAll L n (k .grants) (calledAll L n (k .calls) on) ≡ withGrants (after .grants) (after .waiting) (withCalls (after .calls) (after .unmet) on)
-  unfolding numberOf serviceOf serverOf
+  unfolding numberOf serviceOf serverOf spotOf
   granted-is = ap (grantedAll L n (k .grants)) called-is
-      ∙ granted-rows L (withCalls (after .calls) (after .unmet) on) names-joined n (k .grants) (on .grants) (on .waiting) grants-found
-      ∙ (λ i. withGrants (λ x y z. (own-row (eqb x n) (on .provides n z && (on .used y && hasRow (record { aid = on .aid y; tok = on .tok n z }) (k .grants)))
-      (cond (eqb y n) (hasWaiting (record { caller = k .aid; callee = x; service = z }) (t .waiting)) (t .grants x y z))
-      ∙ ap (λ (b : Bool). cond (eqb x n) (on .provides n z && b) (cond (eqb y n) (hasWaiting (record { caller = k .aid; callee = x; service = z }) (t .waiting)) (t .grants x y z))) (granted-same y (on .tok n z))) i)
-      (on .waiting ++ map (λ r. record { caller = r .aid; callee = n; service = loadedService L t n k (r .tok) }) (strange-same i)) (withCalls (after .calls) (after .unmet) on))
+      ∙ granted-rows L (withCalls (after .calls) (after .unmet) on) names-joined n (k .grants) (on .grants) (on .waiting)
+      ∙ (λ i. withGrants (λ x y z. own x y z i) (on .waiting ++ map (grantRow n) (waits-same i)) (withCalls (after .calls) (after .unmet) on))
+    where
+      waited : ℕ → ℕ → ℕ → Bool
+      waited x y z = cond (eqb y n) (t .provides x z && hasWaiting (record { caller = k .aid; callee = x; tok = t .tok x z }) (t .waiting)) (t .grants x y z)
+
+      own : (x y z : ℕ) → cond (eqb x n) false (waited x y z) || (eqb x n && ((on .provides n z && on .used y) && hasRow (record { aid = on .aid y; tok = on .tok n z }) (k .grants))) ≡ after .grants x y z
+      own x y z =
+          own-row (eqb x n) ((on .provides n z && on .used y) && hasRow (record { aid = on .aid y; tok = on .tok n z }) (k .grants)) (waited x y z)
+          ∙ ap (λ (b : Bool). cond (eqb x n) b (waited x y z))
+          (and-assoc (on .provides n z) (on .used y) (hasRow (record { aid = on .aid y; tok = on .tok n z }) (k .grants)) ∙ ap (λ (b : Bool). on .provides n z && b) (granted-same y (on .tok n z)))
 
   -- all of its rows
   pub needed-is : neededAll L n (k .needs) (grantedAll L n (k .grants) (calledAll L n (k .calls) on)) ≡ after

@@ -10,26 +10,24 @@ use Rattle.policy.specs.Contract.{Aid, Tok, Row, Contract}
 use Rattle.policy.specs.Layout.{Layout}
 use Rattle.policy.specs.Record.{load}
 use Rattle.policy.specs.Tables.{Tables, decode}
-use Rattle.policy.specs.Lookup.{serviceOf}
+use Rattle.policy.specs.Lookup.{numberOf, serviceOf, spotOf}
 use Rattle.policy.specs.Draft.{loadedNames, loadAt}
 use Rattle.policy.specs.ShortCheck.{count}
 use Rattle.policy.specs.Judge.{Out}
 use Rattle.policy.specs.Settled.{settled, Gives}
-use Rattle.policy.proofs.Formed.{Formed}
-use Rattle.policy.proofs.SoundFacts.{sound-formed}
 use Rattle.policy.proofs.Pieces.{valid-short}
 use Rattle.policy.proofs.LoadNames.{Newcomer}
 use Rattle.image.specs.Wrote.{Wrote}
 use Rattle.engine.specs.Asked.{Asked}
-use Rattle.engine.specs.Services.{CallersIn}
+use Rattle.engine.specs.Services.{CallersIn, GivenIn, settledAll, DueAt}
 use Rattle.engine.proofs.Edits.{accepted-gives}
-use Rattle.engine.proofs.Callers.{callers-in as all-in}
-use Rattle.loading.specs.Loads.{served, present, Accepts, Decides, withoutRows}
-use Rattle.loading.specs.Writes.{named, openedAll, metAll, CallOn, GrantsIn, due, calledAll, grantedAll, neededAll, joined}
+use Rattle.engine.proofs.Callers.{callers-in as all-in, given-in as all-given}
+use Rattle.loading.specs.Loads.{served, Accepts, Decides, withoutRows}
+use Rattle.loading.specs.Writes.{named, openedAll, metAll, CallOn, calledAll, grantedAll, neededAll, joined}
 use Rattle.loading.specs.declared.decide.Decided.{Decided}
-use Rattle.loading.proofs.Joined.{services-on, calls-there, on-card}
+use Rattle.loading.proofs.Joined.{services-on, calls-there, dues-there, on-card}
 use Rattle.loading.proofs.OwnRows.{needed-is}
-use Rattle.loading.proofs.OwnRoom.{calls-room, grants-there, grants-room, needs-there}
+use Rattle.loading.proofs.OwnRoom.{calls-room, grants-room, needs-there}
 use Rattle.loading.proofs.Newcomers.{newcomer-at, load-fits, load-kept}
 
 module _ (L : Layout) (img : List ℕ) (a : Aid) (p : List Tok) (c g n : List Row) (ask : Asked L img a (load p c g n)) (d : Decided) (ok : Accepts L img a p c g n d) where
@@ -41,9 +39,6 @@ module _ (L : Layout) (img : List ℕ) (a : Aid) (p : List Tok) (c g n : List Ro
 
   abbrev on : Tables
   on = joined L t (d .at) contract
-
-  formed : Formed L (decode L img)
-  formed = sound-formed L img (ask .is-sound)
 
   new : Newcomer L (decode L img) (d .at) contract
   new = newcomer-at L img a p c g n ask d ok
@@ -66,17 +61,24 @@ module _ (L : Layout) (img : List ℕ) (a : Aid) (p : List Tok) (c g n : List Ro
         (calls-there L t (d .at) contract new (ask .first-valid) (d .met) (ok .met-is))
 
     module _ {i₃ : List ℕ} (w₃ : Wrote L i₃ (metAll L (d .met) (d .at) (decode L i₂))) where
-      pub grants-in : GrantsIn L (decode L i₃ .waiting)
-      grants-in = subst (λ (v : Tables). GrantsIn L (v .waiting)) (sym (w₃ .tables ∙ ap (metAll L (d .met) (d .at)) opened-is))
-          (λ w m. let q = formed .waiting .wait-prov w m in (formed .names .used-lt (w .callee) (formed .names .prov-used (w .callee) (w .service) q), formed .names .prov-lt (w .callee) (w .service) q))
+      met-is : decode L i₃ ≡ metAll L (d .met) (d .at) (loadedNames L t (d .at) contract)
+      met-is = w₃ .tables ∙ ap (metAll L (d .met) (d .at)) opened-is
 
-      module _ {i₄ i₅ : List ℕ} (w₄ : Wrote L i₄ (due (d .waiting) (d .at) (decode L i₃))) (w₅ : Wrote L i₅ (withoutRows (d .met) (d .waiting) (decode L i₄))) where
+      pub given-in : GivenIn L (decode L i₃ .waiting)
+      given-in = subst (λ (v : Tables). GivenIn L (v .waiting)) (sym met-is) (all-given L img (ask .is-sound))
+
+      pub dues-on : (r : ℕ) → r < length (decode L i₃ .waiting) → DueAt L (d .due) (decode L i₃) r
+      unfolding numberOf serviceOf spotOf
+      dues-on = subst (λ (v : Tables). (r : ℕ) → r < length (v .waiting) → DueAt L (d .due) v r) (sym met-is)
+          (dues-there L t (d .at) contract new (ask .first-valid) (d .due) (ok .due-is))
+
+      module _ {i₄ i₅ : List ℕ} (w₄ : Wrote L i₄ (settledAll L (d .due) (decode L i₃))) (w₅ : Wrote L i₅ (withoutRows (d .met) (d .due) (decode L i₄))) where
         joined-is : decode L i₅ ≡ on
         joined-is =
             w₅ .tables
-            ∙ ap (withoutRows (d .met) (d .waiting))
-            (w₄ .tables ∙ ap (due (d .waiting) (d .at)) (w₃ .tables ∙ ap (metAll L (d .met) (d .at)) (w₂ .tables ∙ ap (openedAll (d .at) 0 p) (w₁ .tables))))
-            ∙ on-card L t (d .at) contract new (ask .first-valid) (d .met) (d .waiting) (ok .met-is) (ok .waiting-is)
+            ∙ ap (withoutRows (d .met) (d .due))
+            (w₄ .tables ∙ ap (settledAll L (d .due)) (w₃ .tables ∙ ap (metAll L (d .met) (d .at)) (w₂ .tables ∙ ap (openedAll (d .at) 0 p) (w₁ .tables))))
+            ∙ on-card L t (d .at) contract new (ask .first-valid) (d .met) (d .due) (ok .met-is) (ok .due-is)
 
         pub calls-fit : length (decode L i₅ .unmet) + count (λ x. not (served L (decode L i₅) x)) c ≤ L .capacity
         calls-fit = subst (λ (v : Tables). length (v .unmet) + count (λ x. not (served L v x)) c ≤ L .capacity) (sym joined-is)
@@ -86,11 +88,8 @@ module _ (L : Layout) (img : List ℕ) (a : Aid) (p : List Tok) (c g n : List Ro
           called-is : decode L i₆ ≡ calledAll L (d .at) c on
           called-is = w₆ .tables ∙ ap (calledAll L (d .at) c) joined-is
 
-          pub grants-provided : T (every (λ x. isSome (serviceOf L (decode L i₆) (d .at) (x .tok))) g)
-          grants-provided = subst (λ (v : Tables). T (every (λ x. isSome (serviceOf L v (d .at) (x .tok))) g)) (sym called-is) (grants-there L t (d .at) contract new (ask .first-valid))
-
-          pub grants-fit : length (decode L i₆ .waiting) + count (λ x. not (present L (decode L i₆) (x .aid))) g ≤ L .capacity
-          grants-fit = subst (λ (v : Tables). length (v .waiting) + count (λ x. not (present L v (x .aid))) g ≤ L .capacity) (sym called-is)
+          pub grants-fit : length (decode L i₆ .waiting) + count (λ x. not (isSome (spotOf L (decode L i₆) (d .at) x))) g ≤ L .capacity
+          grants-fit = subst (λ (v : Tables). length (v .waiting) + count (λ x. not (isSome (spotOf L v (d .at) x))) g ≤ L .capacity) (sym called-is)
               (grants-room L t (d .at) contract new (ask .first-valid) (load-fits L img a p c g n ask d ok))
 
           module _ {i₇ : List ℕ} (w₇ : Wrote L i₇ (grantedAll L (d .at) g (decode L i₆))) where

@@ -1,8 +1,8 @@
 -- Kind 1: what the writes of a package's own rows leave, its calls, grants and needs, one and all. Assumes nothing.
 use Prim.Native.Nat.{ℕ, _+_, _≤_, _<_}
 use native.Mathlib.Omega.{arith}
-use mathlib.Core.Path.{_≡_, refl, sym, _∙_, subst}
-use mathlib.Core.Bool.{Bool, true, not}
+use mathlib.Core.Path.{_≡_, refl, sym, ap, _∙_, subst}
+use mathlib.Core.Bool.{true, not}
 use mathlib.Core.List.{List, [], _∷_, _++_}
 use mathlib.Core.Option.{Option, none, some}
 use lib.Dec.{T}
@@ -10,27 +10,28 @@ use lib.ListN.{length}
 use borrow.Author.Needs.{needs}
 use borrow.Author.Tests.{ltb-true}
 use Rattle.policy.specs.Lists.{every, isSome}
-use Rattle.policy.specs.Contract.{Aid, Tok, Row}
+use Rattle.policy.specs.Contract.{Aid, Row}
 use Rattle.policy.specs.Layout.{Layout}
 use Rattle.policy.specs.Record.{aRow}
 use Rattle.policy.specs.Tables.{Tables, decode}
-use Rattle.policy.specs.Lookup.{Place as Found, numberOf, serviceOf, serverOf}
-use Rattle.policy.specs.Draft.{put3, callRow, withCalls, withNeeds, addCallAt, addGrantAt, addNeedAt}
+use Rattle.policy.specs.Lookup.{Place as Found, Spot as SpotFound, numberOf, serviceOf, serverOf, spotOf}
+use Rattle.policy.specs.Draft.{put3, callRow, grantRow, withCalls, withGrants, withNeeds, addCallAt, addGrantAt, addNeedAt}
 use Rattle.policy.specs.ShortCheck.{count}
 use Rattle.policy.proofs.Sets.{T-true, and-l, and-r}
 use Rattle.geometry.specs.declared.Card.{Card}
 use Rattle.geometry.specs.Geometry.{layoutOf}
 use Rattle.image.specs.declared.read.Place.{Place}
-use Rattle.image.specs.Laid.{withUnmet}
+use Rattle.image.specs.declared.read.Spot.{Spot}
+use Rattle.image.specs.Laid.{withUnmet, withWaiting}
 use Rattle.image.specs.Wrote.{Wrote}
-use Rattle.image.specs.Read.{numberOr, placeOr}
-use Rattle.image.proofs.Numbers.{Below, service-below, server-none, server-some}
+use Rattle.image.specs.Read.{placeOr, spotOr}
+use Rattle.image.proofs.Numbers.{server-none, server-some, spot-none, spot-some}
 use Rattle.record.specs.Meaning.{itemsIn}
 use Rattle.record.specs.declared.Items.{Items}
 use Rattle.engine.proofs.Meets.{aid-short}
 use Rattle.engine.proofs.ItemTurns.{Turns, Turning, RoomBy, room-here, room-after}
-use Rattle.loading.specs.Loads.{served, present}
-use Rattle.loading.specs.Writes.{calledAll, serviceNumber, grantedAll, neededAll}
+use Rattle.loading.specs.Loads.{served}
+use Rattle.loading.specs.Writes.{calledAll, grantedAll, neededAll}
 use Rattle.loading.proofs.Checks.{served-is}
 
 -- ---- one row
@@ -62,19 +63,27 @@ pub call-unmet : (L : Layout) (t : Tables) (r : Row) (n : ℕ) {img : List ℕ} 
 call-unmet L t r n {img} b h k w = subst (λ (o : Option Found). Wrote L img (addCallAt L t n r o .tables)) (sym h)
     (subst (λ (z : Aid). Wrote L img (withUnmet (t .unmet ++ (record { callee = z; tok = r .tok; caller = n } ∷ [])) t)) k w)
 
-module _ (L : Layout) (t : Tables) (n : ℕ) (s : Tok) (k : ℕ) (e : k ≡ serviceNumber L t n s) where
-  -- the number of a service that package n provides is in range
-  pub grant-service : T (isSome (serviceOf L t n s)) → k < L .services
-  grant-service = go (serviceOf L t n s) (service-below L t n s) e
-    where
-      go : (o : Option ℕ) → Below (L .services) o → k ≡ numberOr (L .services) o → T (isSome o) → k < L .services
-      go none b q h = absurd h
-      go (some i) b q h = omega (arith, b, q)
+pub spot-service : (L : Layout) (t : Tables) (n : ℕ) (r : Row) (p : Spot) → p ≡ spotOr L (spotOf L t n r) → p .caller < L .packages → p .service < L .services
+spot-service L t n r p q h = spot-some L t n r p q h .1
 
-  pub grant-made : (a : Aid) {img : List ℕ} → Wrote L img (addGrantAt L t n a k (numberOf L t a) .tables) → Wrote L img (addGrantAt L t n a (serviceNumber L t n s) (numberOf L t a) .tables)
-  grant-made a {img} w = subst (λ (z : ℕ). Wrote L img (addGrantAt L t n a z (numberOf L t a) .tables)) e w
+-- a grant of package n, of which the spot p was found by the bytes b of its AID
+module _ (L : Layout) (t : Tables) (n : ℕ) (r : Row) (b : Aid) (p : Spot) (e : b ≡ r .aid) (q : p ≡ spotOr L (spotOf L t n (record { aid = b; tok = r .tok }))) where
+  found : p ≡ spotOr L (spotOf L t n r)
+  found = q ∙ ap (λ (z : Aid). spotOr L (spotOf L t n (record { aid = z; tok = r .tok }))) e
 
-pub ruleset one-row = (aid-short, callee-tested, callee-served, nowhere, service-in, need-bit, call-bit, call-unmet, grant-service, grant-made, needs)
+  pub not-both : (m : ℕ) → m ≡ L .packages → m ≤ p .caller → spotOf L t n r ≡ none
+  not-both m d h = spot-none L t n r p found (omega (arith, h, d))
+
+  pub grant-waits : (m : ℕ) → m ≡ L .packages → m ≤ p .caller → {img : List ℕ} → Wrote L img (withWaiting (t .waiting ++ (record { caller = b; callee = n; tok = r .tok } ∷ [])) t)
+      → Wrote L img (addGrantAt L t n r (spotOf L t n r) .tables)
+  grant-waits m d h {img} w = subst (λ (o : Option SpotFound). Wrote L img (addGrantAt L t n r o .tables)) (sym (not-both m d h))
+      (subst (λ (z : Aid). Wrote L img (withWaiting (t .waiting ++ (record { caller = z; callee = n; tok = r .tok } ∷ [])) t)) e w)
+
+  pub grant-bit : p .caller < L .packages → {img : List ℕ} → Wrote L img (withGrants (put3 n (p .caller) (p .service) true (t .grants)) (t .waiting) t)
+      → Wrote L img (addGrantAt L t n r (spotOf L t n r) .tables)
+  grant-bit h {img} w = subst (λ (o : Option SpotFound). Wrote L img (addGrantAt L t n r o .tables)) (sym (spot-some L t n r p found h .0)) w
+
+pub ruleset one-row = (aid-short, callee-tested, callee-served, nowhere, service-in, need-bit, call-bit, call-unmet, not-both, spot-service, grant-bit, grant-waits, needs)
 
 -- ---- the three lists of a package; a row changes no lookup
 module _ (L : Layout) (n : ℕ) where
@@ -98,33 +107,24 @@ module _ (L : Layout) (n : ℕ) where
     still = λ x l t h. calls-still x l t (serverOf L t x) h;
   }
 
-  abbrev pub provided : Tables → Row → Bool
-  provided t x = isSome (serviceOf L t n (x .tok))
-
   abbrev pub GrantsAsk : List Row → Tables → Type 0
-  GrantsAsk l t = T (every (provided t) l) × (length (t .waiting) + count (λ x. not (present L t (x .aid))) l ≤ L .capacity)
+  GrantsAsk l t = length (t .waiting) + count (λ x. not (isSome (spotOf L t n x))) l ≤ L .capacity
 
-  pub grants-still : (x : Row) (l : List Row) (t : Tables) (k : ℕ) (o : Option ℕ) → T (every (provided t) l)
-      → RoomBy (λ y. numberOf L t (y .aid)) x l (t .waiting) (L .capacity) o → GrantsAsk l (addGrantAt L t n (x .aid) k o .tables)
-  unfolding numberOf serviceOf
-  grants-still x l t k none h q = (h, room-after (λ y. numberOf L t (y .aid)) x l (t .waiting) (L .capacity) (record { caller = x .aid; callee = n; service = k }) q)
-  grants-still x l t k (some i) h q = (h, q)
+  pub grants-still : (x : Row) (l : List Row) (t : Tables) (o : Option SpotFound) → RoomBy (spotOf L t n) x l (t .waiting) (L .capacity) o → GrantsAsk l (addGrantAt L t n x o .tables)
+  unfolding numberOf serviceOf spotOf
+  grants-still x l t none q = room-after (spotOf L t n) x l (t .waiting) (L .capacity) (grantRow n x) q
+  grants-still x l t (some p) q = q
 
   abbrev pub grants : Turns Row
   grants = record {
-    one = λ x t. addGrantAt L t n (x .aid) (serviceNumber L t n (x .tok)) (numberOf L t (x .aid)) .tables;
+    one = λ x t. addGrantAt L t n x (spotOf L t n x) .tables;
     all = grantedAll L n;
-    Asks = λ x t. T (provided t x) × (numberOf L t (x .aid) ≡ none → length (t .waiting) < L .capacity);
+    Asks = λ x t. spotOf L t n x ≡ none → length (t .waiting) < L .capacity;
     AllAsk = GrantsAsk;
     none-is = λ t. refl;
     first-is = λ x l t. refl;
-    here = λ x l t h. (
-      and-l (provided t x) (every (provided t) l) (h .0),
-      room-here (λ y. numberOf L t (y .aid)) x l (t .waiting) (L .capacity) (h .1),
-    );
-    still = λ x l t h.
-        grants-still x l t (serviceNumber L t n (x .tok)) (numberOf L t (x .aid))
-        (and-r (provided t x) (every (provided t) l) (h .0)) (h .1);
+    here = λ x l t. room-here (spotOf L t n) x l (t .waiting) (L .capacity);
+    still = λ x l t h. grants-still x l t (spotOf L t n x) h;
   }
 
   abbrev pub NeedsAsk : List Row → Tables → Type 0

@@ -2,31 +2,34 @@
 use Prim.Native.Nat.{ℕ, suc, _+_, _-_, _≤_, _<_, suc-le-suc}
 use native.Mathlib.Omega.{arith}
 use native.Mathlib.Nat.{add-zero, add-suc, suc-add, zero-add}
-use mathlib.Core.Path.{_≡_, refl, sym, ap, ap₂, _∙_}
+use mathlib.Core.Path.{_≡_, refl, sym, ap, ap₂, _∙_, subst}
 use mathlib.Core.Bool.{Bool, true, false, not, _&&_, cond, and-comm}
 use mathlib.Core.List.{List, [], _∷_}
+use mathlib.Core.Option.{Option, none, some}
 use lib.Bits.{bitAnd}
-use lib.Dec.{T, eqb, leb}
+use lib.Dec.{T, eqb, eqb→eq, leb}
 use lib.ListN.{length, getD}
 use borrow.Author.Tests.{eq-eqb, ne-eqb, leb-true, leb-false, le-leb, lt-leb}
-use Rattle.policy.specs.Lists.{implies, every, exists, keep, from, upto, orElse}
+use Rattle.policy.specs.Lists.{implies, every, exists, keep, from, upto, isSome, orElse}
 use Rattle.policy.specs.Contract.{Aid, eqAid, Tok, eqTok, Row, Contract, hasTok, hasRow}
 use Rattle.policy.specs.Layout.{Layout}
 use Rattle.policy.specs.Record.{load}
 use Rattle.policy.specs.Causes.{answer}
-use Rattle.policy.specs.Tables.{Tables, Waiting, bit, decode}
-use Rattle.policy.specs.Lookup.{Place, serverOf}
-use Rattle.policy.specs.Sound.{sound}
+use Rattle.policy.specs.Tables.{Tables, Waiting, noTok, bit, decode}
+use Rattle.policy.specs.Lookup.{Place, serviceOf, serverOf}
+use Rattle.policy.specs.Sound.{sound, eqWaiting}
 use Rattle.policy.specs.Draft.{Look, hasWaiting}
 use Rattle.policy.specs.ShortCheck.{newcomerRights, othersRights, shortLoad, shortLook}
 use Rattle.policy.specs.Judge.{lookCauses}
-use Rattle.policy.proofs.Sets.{T-true, true-T, false-T, in-row}
+use Rattle.policy.proofs.Sets.{T-eq, T-true, true-T, false-T, and-l, and-r, and-i, in-row}
+use Rattle.policy.proofs.Equal.{eqAid→, eqAid-of, eqTok→, eqTok-of, eqb-of}
 use Rattle.policy.proofs.Formed.{Formed, Fitting}
+use Rattle.policy.proofs.Found.{ServiceIs, ServerIs, service-is, server-is}
 use Rattle.policy.proofs.SoundFacts.{sound-formed, sound-fitting}
-use Rattle.image.specs.Read.{maskOf, noUnmet, unmetRow}
+use Rattle.geometry.specs.declared.Kept.the-variants.{UnmetCalls}
+use Rattle.image.specs.Read.{maskOf, item, unmetRow}
 use Rattle.image.proofs.Masks.{mask-bit, mask-zero, zero-mask, mask-and, mask-count}
-use Rattle.loading.specs.Loads.{meets, waitsFor, served, present, waitsAt, callGranted, grantFits, othersGranted, loadLook, loadCause}
-use Rattle.engine.proofs.Planned.{waiting-same}
+use Rattle.loading.specs.Loads.{meets, served, bothThere, comesDue, waitsAt, callGranted, grantFits, othersGranted, loadLook, loadCause}
 
 -- ---- a list by the numbers of its elements
 every-rows : {A : Type 0} (d : A) (F : A → Bool) (G : ℕ → Bool) (i : ℕ) (l : List A) → ((r : ℕ) → r < length l → G (i + r) ≡ F (getD l r d)) → every G (from i (length l)) ≡ every F l
@@ -77,20 +80,60 @@ module _ (L : Layout) (t : Tables) (f : Formed L t) (fit : Fitting L t) (low : L
   abbrev met : ℕ
   met = maskOf (meets (c .aid) (c .provides)) (t .unmet)
 
-  abbrev waiting : ℕ
-  waiting = maskOf (waitsFor (c .aid)) (t .waiting)
+  abbrev due : ℕ
+  due = maskOf (comesDue L t (c .aid)) (t .waiting)
 
-  waits-same : (p : Place) → waitsAt L t waiting p ≡ hasWaiting (record { caller = c .aid; callee = p .callee; service = p .service }) (t .waiting)
-  waits-same p =
-      both-pass (waitsFor (c .aid)) (λ w. eqb (w .callee) (p .callee) && eqb (w .service) (p .service)) (t .waiting)
-      ∙ ap (λ (g : Waiting → Bool). exists g (t .waiting)) (waiting-same (p .callee) (p .service) (c .aid))
+  -- a grant by the server of the row r, of its service, waits for the package alone
+  waits-same : (r : Row) (p : Place) → ServerIs t r (some p) → waitsAt L t due (r .tok) p ≡ hasWaiting (record { caller = c .aid; callee = p .callee; tok = r .tok }) (t .waiting)
+  waits-same r p h =
+      both-pass (comesDue L t (c .aid)) (λ w. eqb (w .callee) (p .callee) && eqTok (w .tok) (r .tok)) (t .waiting)
+      ∙ (λ i. exists (λ w. one w i) (t .waiting))
+    where
+      one : (w : Waiting) → comesDue L t (c .aid) w && (eqb (w .callee) (p .callee) && eqTok (w .tok) (r .tok)) ≡ eqWaiting (record { caller = c .aid; callee = p .callee; tok = r .tok }) w
+      one w = T-eq ((a && o) && (j && s)) ((a′ && j′) && s′)
+          (λ q. let e = and-l (a && o) (j && s) q in let g = and-r (a && o) (j && s) q in
+          and-i (a′ && j′) s′ (and-i a′ j′ (eqAid-of (sym (eqAid→ (w .caller) (c .aid) (and-l a o e)))) (eqb-of (sym (eqb→eq (w .callee) (p .callee) (and-l j s g))))) (eqTok-of (sym (eqTok→ (w .tok) (r .tok) (and-r j s g)))))
+          (λ q. let e = and-l (a′ && j′) s′ q in
+          let ej = sym (eqb→eq (p .callee) (w .callee) (and-r a′ j′ e)) in
+          let es = sym (eqTok→ (r .tok) (w .tok) (and-r (a′ && j′) s′ q)) in
+          and-i (a && o) (j && s) (and-i a o (eqAid-of (sym (eqAid→ (c .aid) (w .caller) (and-l a′ j′ e)))) (provided (serviceOf L t (w .callee) (w .tok)) (service-is L t (f .names) (w .callee) (w .tok)) ej es)) (and-i j s (eqb-of ej) (eqTok-of es)))
+        where
+          a : Bool
+          a = eqAid (w .caller) (c .aid)
 
-  rights-same : every (callGranted L t waiting) (c .calls) ≡ newcomerRights L t c
-  rights-same = ap (λ (g : Row → Bool). every g (c .calls)) (λ i r. orElse (serverOf L t r) true (λ p. waits-same p i))
+          o : Bool
+          o = isSome (serviceOf L t (w .callee) (w .tok))
+
+          j : Bool
+          j = eqb (w .callee) (p .callee)
+
+          s : Bool
+          s = eqTok (w .tok) (r .tok)
+
+          a′ : Bool
+          a′ = eqAid (c .aid) (w .caller)
+
+          j′ : Bool
+          j′ = eqb (p .callee) (w .callee)
+
+          s′ : Bool
+          s′ = eqTok (r .tok) (w .tok)
+
+          provided : (o : Option ℕ) → ServiceIs t (w .callee) (w .tok) o → w .callee ≡ p .callee → w .tok ≡ r .tok → T (isSome o)
+          provided none q ej es = q (p .service) (subst (λ (x : ℕ). T (t .provides x (p .service))) (sym ej) (h .0)) (ap (λ (x : ℕ). t .tok x (p .service)) ej ∙ h .2 ∙ sym es)
+          provided (some k) q ej es = tt
+
+  rights-same : every (callGranted L t due) (c .calls) ≡ newcomerRights L t c
+  rights-same = ap (λ (g : Row → Bool). every g (c .calls)) (λ i r. one r (serverOf L t r) (server-is L t (f .names) r) i)
+    where
+      one : (r : Row) (o : Option Place) → ServerIs t r o
+          → orElse o true (waitsAt L t due (r .tok)) ≡ orElse o true (λ p. hasWaiting (record { caller = c .aid; callee = p .callee; tok = r .tok }) (t .waiting))
+      one r none h = refl
+      one r (some p) h = waits-same r p h
 
   others-same : othersGranted L t (c .aid) (c .grants) met ≡ othersRights L t c
   others-same =
-      every-rows noUnmet (λ u. implies (meets (c .aid) (c .provides) u) (hasRow (record { aid = t .aid (u .caller); tok = u .tok }) (c .grants)))
+      every-rows (item UnmetCalls [] noTok 0) (λ u. implies (meets (c .aid) (c .provides) u) (hasRow (record { aid = t .aid (u .caller); tok = u .tok }) (c .grants)))
       (λ r. implies (bit met r) (exists (grantFits L t (c .aid) (unmetRow t r)) (c .grants))) 0 (t .unmet) (λ r h. at r h)
     where
       at : (r : ℕ) → r < length (t .unmet)
@@ -99,21 +142,21 @@ module _ (L : Layout) (t : Tables) (f : Formed L t) (fit : Fitting L t) (low : L
       at r h =
           let u = unmetRow t r in
           ap (λ (k : ℕ). implies (bit met k) (exists (grantFits L t (c .aid) (unmetRow t k)) (c .grants))) (zero-add r)
-          ∙ ap (λ (b : Bool). implies b (exists (grantFits L t (c .aid) u) (c .grants))) (mask-bit (meets (c .aid) (c .provides)) (t .unmet) r noUnmet h)
+          ∙ ap (λ (b : Bool). implies b (exists (grantFits L t (c .aid) u) (c .grants))) (mask-bit (meets (c .aid) (c .provides)) (t .unmet) r _ h)
           ∙ granted-same (eqAid (u .callee) (c .aid)) (hasTok (u .tok) (c .provides)) (t .used (u .caller)) (λ g. eqTok (u .tok) (g .tok)) (λ g. eqAid (t .aid (u .caller)) (g .aid)) (c .grants)
-          (T-true (t .used (u .caller)) (f .unmet .off .off-used u (in-row (t .unmet) r noUnmet h)))
+          (T-true (t .used (u .caller)) (f .unmet .off .off-used u (in-row (t .unmet) r _ h)))
 
-  look-same : loadLook L t (c .aid) (c .calls) (c .grants) (c .needs) met waiting ≡ shortLoad L t c
+  look-same : loadLook L t (c .aid) (c .provides) (c .calls) (c .grants) (c .needs) met due ≡ shortLoad L t c
   look-same =
       let u = fit .unmet-fits in
       let w = fit .waiting-fits in
       let e = list-room (meets (c .aid) (c .provides)) (t .unmet) (length (keep (λ r. not (served L t r)) (c .calls))) (L .capacity) u (omega arith) in
-      let q = list-room (waitsFor (c .aid)) (t .waiting) (length (keep (λ r. not (present L t (r .aid))) (c .grants))) (L .capacity) w (omega arith) in
+      let q = list-room (comesDue L t (c .aid)) (t .waiting) (length (keep (λ r. not (bothThere L t (c .provides) r)) (c .grants))) (L .capacity) w (omega arith) in
       λ i. record { granted = rights-same i && others-same i; needed = every (served L t) (c .needs); unmetFits = e i; waitingFits = q i }
 
 -- causes 8 to 11 by masks are those of the short check
 pub cause-same : (L : Layout) (img : List ℕ) → T (sound L img) → L .capacity ≤ 32 → (a : Aid) (p : List Tok) (c g n : List Row)
-    → loadCause L (decode L img) a c g n (maskOf (meets a p) (decode L img .unmet)) (maskOf (waitsFor a) (decode L img .waiting)) ≡ answer (lookCauses (shortLook L (decode L img) a (load p c g n)))
+    → loadCause L (decode L img) a p c g n (maskOf (meets a p) (decode L img .unmet)) (maskOf (comesDue L (decode L img) a) (decode L img .waiting)) ≡ answer (lookCauses (shortLook L (decode L img) a (load p c g n)))
 unfolding shortLook
 cause-same L img ok low a p c g n =
     ap (λ (k : Look). answer (lookCauses k))

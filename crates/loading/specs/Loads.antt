@@ -13,7 +13,7 @@ use Rattle.policy.specs.Layout.{Layout}
 use Rattle.policy.specs.Record.{load}
 use Rattle.policy.specs.Causes.{answer}
 use Rattle.policy.specs.Tables.{Tables, Unmet, Waiting, bit, decode, encode}
-use Rattle.policy.specs.Lookup.{Place, numberOf, serverOf, freeNumber}
+use Rattle.policy.specs.Lookup.{Place, numberOf, serviceOf, serverOf, freeNumber}
 use Rattle.policy.specs.Draft.{Look, loadAt}
 use Rattle.policy.specs.ShortCheck.{count}
 use Rattle.policy.specs.Judge.{lookCauses, refusal}
@@ -29,10 +29,6 @@ use Rattle.loading.specs.declared.decide.Called.the-variants.{Granted, R
 abbrev pub meets : Aid → List Tok → Unmet → Bool
 meets a p u = eqAid (u .callee) a && hasTok (u .tok) p
 
--- a grant that waits for a
-abbrev pub waitsFor : Aid → Waiting → Bool
-waitsFor a w = eqAid (w .caller) a
-
 module _ (L : Layout) (t : Tables) where
   abbrev pub served : Row → Bool
   served r = isSome (serverOf L t r)
@@ -40,18 +36,26 @@ module _ (L : Layout) (t : Tables) where
   abbrev pub present : Aid → Bool
   present a = isSome (numberOf L t a)
 
-  -- one of the rows of the mask waits at the place
-  abbrev pub waitsAt : ℕ → Place → Bool
-  waitsAt waiting p = not (eqb (bitAnd waiting (maskOf (λ w. eqb (w .callee) (p .callee) && eqb (w .service) (p .service)) (t .waiting))) 0)
+  -- a grant that waits for the package a alone: its service is provided
+  abbrev pub comesDue : Aid → Waiting → Bool
+  comesDue a w = eqAid (w .caller) a && isSome (serviceOf L t (w .callee) (w .tok))
 
-  -- the call's server, if any, has one of them
+  -- a grant of a package with the services p is a bit: caller and service are both there
+  abbrev pub bothThere : List Tok → Row → Bool
+  bothThere p r = present (r .aid) && hasTok (r .tok) p
+
+  -- one of the rows of the mask is a grant, by the package of the place, of its service with the tokens s
+  abbrev pub waitsAt : ℕ → Tok → Place → Bool
+  waitsAt due s p = not (eqb (bitAnd due (maskOf (λ w. eqb (w .callee) (p .callee) && eqTok (w .tok) s) (t .waiting))) 0)
+
+  -- the call's server, if any, gives one of them
   abbrev pub callGranted : ℕ → Row → Bool
-  callGranted waiting r = orElse (serverOf L t r) true (waitsAt waiting)
+  callGranted due r = orElse (serverOf L t r) true (waitsAt due (r .tok))
 
   -- what the calls come to: one is not granted, or all are, and so many are not served
   abbrev pub CallsCome : ℕ → List Row → Called → Type 0
-  CallsCome waiting calls (Granted unserved) = (every (callGranted waiting) calls ≡ true) × (unserved ≡ count (λ r. not (served r)) calls)
-  CallsCome waiting calls Refused = every (callGranted waiting) calls ≡ false
+  CallsCome due calls (Granted unserved) = (every (callGranted due) calls ≡ true) × (unserved ≡ count (λ r. not (served r)) calls)
+  CallsCome due calls Refused = every (callGranted due) calls ≡ false
 
   -- the grant g of the package a is that of the service that u asks for to the caller of u
   abbrev pub grantFits : Aid → Unmet → Row → Bool
@@ -61,34 +65,35 @@ module _ (L : Layout) (t : Tables) where
   abbrev pub othersGranted : Aid → List Row → ℕ → Bool
   othersGranted a grants met = every (λ r. implies (bit met r) (exists (grantFits a (unmetRow t r)) grants)) (upto (length (t .unmet)))
 
-  -- the lists with room for the rows that go on them after those of the mask go: so many unmet calls, and the grants to strangers
+  -- the lists with room for the rows that go on them after those of the mask go: so many unmet calls, and the grants that wait
   abbrev pub unmetFit : ℕ → ℕ → Bool
   unmetFit met unserved = leb unserved (L .capacity + count (bit met) (upto 32) - length (t .unmet))
 
-  abbrev pub waitingFit : ℕ → List Row → Bool
-  waitingFit waiting grants = leb (count (λ r. not (present (r .aid))) grants) (L .capacity + count (bit waiting) (upto 32) - length (t .waiting))
+  abbrev pub waitingFit : ℕ → List Tok → List Row → Bool
+  waitingFit due p grants = leb (count (λ r. not (bothThere p r)) grants) (L .capacity + count (bit due) (upto 32) - length (t .waiting))
 
-  -- causes 8 to 11 of a load by the package a, by the masks of the unmet calls that it meets and of the grants that wait for it
-  abbrev pub loadLook : Aid → List Row → List Row → List Row → ℕ → ℕ → Look
-  loadLook a calls grants needs met waiting = record {
-    granted = every (callGranted waiting) calls && othersGranted a grants met;
-    needed = every served needs;
-    unmetFits = unmetFit met (count (λ r. not (served r)) calls);
-    waitingFits = waitingFit waiting grants;
-  }
+  -- causes 8 to 11 of a load by the package a with the services p, by the masks of the unmet calls that it meets and of the grants that wait for it alone
+  module _ (a : Aid) (p : List Tok) (calls grants needs : List Row) (met due : ℕ) where
+    abbrev pub loadLook : Look
+    loadLook = record {
+      granted = every (callGranted due) calls && othersGranted a grants met;
+      needed = every served needs;
+      unmetFits = unmetFit met (count (λ r. not (served r)) calls);
+      waitingFits = waitingFit due p grants;
+    }
 
-  abbrev pub loadCause : Aid → List Row → List Row → List Row → ℕ → ℕ → ℕ
-  loadCause a calls grants needs met waiting = answer (lookCauses (loadLook a calls grants needs met waiting))
+    abbrev pub loadCause : ℕ
+    loadCause = answer (lookCauses loadLook)
 
 -- ---- what is decided of a load
--- it is accepted: the number that the package takes, and the masks of the unmet calls that it meets and of the grants that wait for it
+-- it is accepted: the number that the package takes, and the masks of the unmet calls that it meets and of the grants that wait for it alone
 pub record Accepts (L : Layout) (img : List ℕ) (a : Aid) (p : List Tok) (c g n : List Row) (r : Decided) : Type 0 where
   pub outcome : settled L img a (load p c g n)
       ≡ record { answered = 0; second = r .at; bytes = encode L (loadAt L (decode L img) (r .at) (record { aid = a; provides = p; calls = c; grants = g; needs = n }) .tables) }
   pub away : numberOf L (decode L img) a ≡ none
   pub free : freeNumber L (decode L img) ≡ some (r .at)
   pub met-is : r .met ≡ maskOf (meets a p) (decode L img .unmet)
-  pub waiting-is : r .waiting ≡ maskOf (waitsFor a) (decode L img .waiting)
+  pub due-is : r .due ≡ maskOf (comesDue L (decode L img) a) (decode L img .waiting)
 
 pub record Decides (L : Layout) (img : List ℕ) (a : Aid) (p : List Tok) (c g n : List Row) (r : Decided) : Type 0 where
   pub refused : (r .number ≡ 0 → ⊥) → settled L img a (load p c g n) ≡ refusal (r .number) 255 img
@@ -96,4 +101,4 @@ pub record Decides (L : Layout) (img : List ℕ) (a : Aid) (p : List Tok) (c g n
 
 -- ---- tables without the rows of two masks, of unmet calls and of waiting grants
 abbrev pub withoutRows : ℕ → ℕ → Tables → Tables
-withoutRows met waiting t = withWaiting (keepRows waiting (t .waiting)) (withUnmet (keepRows met (t .unmet)) t)
+withoutRows met due t = withWaiting (keepRows due (t .waiting)) (withUnmet (keepRows met (t .unmet)) t)

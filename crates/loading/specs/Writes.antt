@@ -1,19 +1,18 @@
 -- Kind 1: the tables after each write of a load.
-use Prim.Native.Nat.{ℕ, suc, _<_}
-use mathlib.Core.Bool.{Bool, true, false, not, _&&_, cond}
+use Prim.Native.Nat.{ℕ, suc}
+use mathlib.Core.Bool.{true, false, not, _&&_, cond}
 use mathlib.Core.List.{List, [], _∷_}
-use mathlib.Core.List.{List·Memᴰ as In}
 use lib.Dec.{T, eqb}
 use Rattle.policy.specs.Lists.{keep, isSome}
 use Rattle.policy.specs.Contract.{Aid, Tok, Row, Contract}
 use Rattle.policy.specs.Layout.{Layout}
-use Rattle.policy.specs.Tables.{Tables, Unmet, Waiting, bit}
-use Rattle.policy.specs.Lookup.{serviceAt, numberOf, serviceOf, serverOf}
-use Rattle.policy.specs.Draft.{callRow, hasUnmet, hasWaiting, put, put3, withCalls, withGrants, addCallAt, addGrantAt, addNeedAt, loadedNames, loadedProvides}
+use Rattle.policy.specs.Tables.{Tables, Unmet, bit}
+use Rattle.policy.specs.Lookup.{serviceAt, serviceOf, serverOf, spotOf}
+use Rattle.policy.specs.Draft.{callRow, hasUnmet, hasWaiting, put, withCalls, addCallAt, addGrantAt, addNeedAt, loadedNames, loadedProvides}
 use Rattle.image.specs.Laid.{withUsed, withAid}
-use Rattle.image.specs.Read.{numberOr, unmetRow, waitingRow}
-use Rattle.engine.specs.Services.{opened}
-use Rattle.loading.specs.Loads.{meets, waitsFor, withoutRows}
+use Rattle.image.specs.Read.{unmetRow}
+use Rattle.engine.specs.Services.{opened, listed, serviceNumber, settledAll}
+use Rattle.loading.specs.Loads.{meets, comesDue, withoutRows}
 
 -- package n is used, with the AID a
 abbrev pub named : ℕ → Aid → Tables → Tables
@@ -24,34 +23,10 @@ abbrev pub openedAll : ℕ → ℕ → List Tok → Tables → Tables
 openedAll n k [] t = t
 openedAll n k (s ∷ l) t = openedAll n (suc k) l (opened n k s t)
 
--- ---- rows of a list that a mask names become bits of column n, at the numbers that a row gives; the first of l has bit r
-module _ {A : Type 0} (row service : A → ℕ) (mask n : ℕ) where
-  abbrev pub listed : ℕ → List A → (ℕ → ℕ → ℕ → Bool) → ℕ → ℕ → ℕ → Bool
-  listed r [] b = b
-  listed r (x ∷ l) b = listed (suc r) l (cond (bit mask r) (put3 (row x) n (service x) true b) b)
-
--- the waiting grants of l: they are grants to package n
-abbrev pub dueRows : ℕ → ℕ → ℕ → List Waiting → Tables → Tables
-dueRows mask n r l t = withGrants (listed (λ w. w .callee) (λ w. w .service) mask n r l (t .grants)) (t .waiting) t
-
-abbrev pub due : ℕ → ℕ → Tables → Tables
-due mask n t = dueRows mask n 0 (t .waiting) t
-
--- row r of them alone
-abbrev pub dueOne : ℕ → ℕ → ℕ → Tables → Tables
-dueOne mask n r t = dueRows mask n r (waitingRow t r ∷ []) t
-
--- the numbers of their packages and services are in range
-abbrev pub GrantsIn : Layout → List Waiting → Type 0
-GrantsIn L l = (w : Waiting) → In w l → (w .callee < L .packages) × (w .service < L .services)
-
 module _ (L : Layout) where
-  abbrev pub serviceNumber : Tables → ℕ → Tok → ℕ
-  serviceNumber t n s = numberOr (L .services) (serviceOf L t n s)
-
   -- the unmet calls of l: they are calls on package n's services with their tokens
   abbrev pub metRows : ℕ → ℕ → ℕ → List Unmet → Tables → Tables
-  metRows mask n r l t = withCalls (listed (λ u. u .caller) (λ u. serviceNumber t n (u .tok)) mask n r l (t .calls)) (t .unmet) t
+  metRows mask n r l t = withCalls (listed (λ u. u .caller) (λ u. n) (λ u. serviceNumber L t n (u .tok)) mask r l (t .calls)) (t .unmet) t
 
   abbrev pub metAll : ℕ → ℕ → Tables → Tables
   metAll mask n t = metRows mask n 0 (t .unmet) t
@@ -71,19 +46,16 @@ module _ (L : Layout) where
 
   abbrev pub grantedAll : ℕ → List Row → Tables → Tables
   grantedAll n [] t = t
-  grantedAll n (r ∷ l) t = grantedAll n l (addGrantAt L t n (r .aid) (serviceNumber t n (r .tok)) (numberOf L t (r .aid)) .tables)
+  grantedAll n (r ∷ l) t = grantedAll n l (addGrantAt L t n r (spotOf L t n r) .tables)
 
   abbrev pub neededAll : ℕ → List Row → Tables → Tables
   neededAll n [] t = t
   neededAll n (r ∷ l) t = neededAll n l (addNeedAt L t n r (serverOf L t r) .tables)
 
-  -- ---- all of them, for a contract at number n, by the masks of the unmet calls that it meets and of the grants that wait for it
-  module _ (n : ℕ) (c : Contract) (met waiting : ℕ) where
+  -- ---- all of them, for a contract at number n, by the masks of the unmet calls that it meets and of the grants that wait for it alone
+  module _ (n : ℕ) (c : Contract) (met due : ℕ) where
     abbrev pub onCard : Tables → Tables
-    onCard t = withoutRows met waiting (due waiting n (metAll met n (openedAll n 0 (c .provides) (named n (c .aid) t))))
-
-    abbrev pub written : Tables → Tables
-    written t = neededAll n (c .needs) (grantedAll n (c .grants) (calledAll n (c .calls) (onCard t)))
+    onCard t = withoutRows met due (settledAll L due (metAll met n (openedAll n 0 (c .provides) (named n (c .aid) t))))
 
   -- ---- the package with its services, known to the others: 'loading turns fitting unmet calls and waiting grants into bits'. Its own rows are not written yet
   module _ (t : Tables) (n : ℕ) (c : Contract) where
@@ -95,8 +67,9 @@ module _ (L : Layout) where
       provides = loadedNames L t n c .provides;
       calls = λ x y z. cond (eqb x n) false
           (cond (eqb y n) (loadedProvides L t n c n z && hasUnmet (callRow x (serviceAt (loadedNames L t n c) n z)) (t .unmet)) (t .calls x y z));
-      grants = λ x y z. cond (eqb x n) false (cond (eqb y n) (hasWaiting (record { caller = c .aid; callee = x; service = z }) (t .waiting)) (t .grants x y z));
+      grants = λ x y z. cond (eqb x n) false
+          (cond (eqb y n) (t .provides x z && hasWaiting (record { caller = c .aid; callee = x; tok = t .tok x z }) (t .waiting)) (t .grants x y z));
       needs = λ x y z. cond (eqb x n) false (t .needs x y z);
       unmet = keep (λ u. not (meets (c .aid) (c .provides) u)) (t .unmet);
-      waiting = keep (λ w. not (waitsFor (c .aid) w)) (t .waiting);
+      waiting = keep (λ w. not (comesDue L t (c .aid) w)) (t .waiting);
     }

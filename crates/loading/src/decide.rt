@@ -4,31 +4,33 @@ ghost use mathlib.Core.Bool.{not};
 ghost use Prim.Native.Nat.{_+_, _<_};
 ghost use lib.Dec.{T, leb};
 ghost use lib.ListN.{length};
-ghost use Rattle.policy.specs.Lists.{implies, every, exists};
+ghost use Rattle.policy.specs.Lists.{implies, every, exists, isSome};
 ghost use Rattle.policy.specs.Record.{tokens, aRow, load};
 ghost use Rattle.policy.specs.Sound.{sound};
 ghost use Rattle.policy.specs.Tables.{bit, decode};
-ghost use Rattle.policy.specs.Lookup.{serverOf};
+ghost use Rattle.policy.specs.Lookup.{serviceOf, serverOf};
 ghost use Rattle.policy.specs.ShortCheck.{count};
 ghost use Rattle.geometry.specs.Geometry.{layoutOf};
 ghost use Rattle.image.specs.Laid.{Laid};
-ghost use Rattle.image.specs.Read.{placeOr, maskOf, unmetRow};
+ghost use Rattle.image.specs.Read.{placeOr, maskOf, unmetRow, waitingRow};
 ghost use Rattle.record.specs.Meaning.{AidFits, Stands, aidIn, rowIn, itemsIn};
-ghost use Rattle.loading.specs.Loads.{meets, served, present, grantFits, CallsCome, othersGranted, unmetFit, waitingFit, loadCause, Decides};
+ghost use Rattle.loading.specs.Loads.{meets, served, present, bothThere, comesDue, grantFits, CallsCome, othersGranted, unmetFit, waitingFit, loadCause, Decides};
 ghost use Rattle.engine.specs.Asked.{Asked};
+ghost use Rattle.engine.specs.Services.{GivenIn};
 use geometry::Card;
+use geometry::Kept;
 use image::read::Place;
 use record::Aid;
 use record::Items;
 use record::Tokens;
 
 // What is decided of a load: 0 or the cause against it; and where it is accepted, the number that the package takes, the
-// unmet calls that it meets and the grants that wait for it, as masks.
+// unmet calls that it meets and the grants that wait for it alone, as masks.
 pub struct Decided {
     pub number: u8,
     pub at: usize,
     pub met: u32,
-    pub waiting: u32,
+    pub due: u32,
 }
 
 // What the calls of a load come to: one is not granted, or so many are on services that are not on the card.
@@ -70,12 +72,12 @@ fn is_present(img: &[u8], c: Card, rec: &[u8], a: Aid) -> bool
     i < n
 }
 
-// Whether each call of the record is granted: the server of each, if there is one, has one of the waiting grants of the
-// mask; and how many have none.
-fn calls_granted(img: &[u8], c: Card, waiting: u32, rec: &[u8], calls: Items) -> Called
+// Whether each call of the record is granted: the server of each, if there is one, gives one of the waiting grants of the
+// mask, of that service; and how many have none.
+fn calls_granted(img: &[u8], c: Card, due: u32, rec: &[u8], calls: Items) -> Called
     requires laid { ⌜ Laid (layoutOf c) (now img) ⌝ }
     requires stands { ⌜ Stands aRow (now rec) calls ⌝ }
-    ensures { λ r. ⌜ CallsCome (layoutOf c) (decode (layoutOf c) (now (img .entry))) waiting (itemsIn aRow (now (rec .entry)) calls) r ⌝ }
+    ensures { λ r. ⌜ CallsCome (layoutOf c) (decode (layoutOf c) (now (img .entry))) due (itemsIn aRow (now (rec .entry)) calls) r ⌝ }
 {
     let n = geometry::packages(c);
     let mut todo = calls;
@@ -90,8 +92,15 @@ fn calls_granted(img: &[u8], c: Card, waiting: u32, rec: &[u8], calls: Items) ->
             unserved += 1;
             continue;
         }
-        let m = image::lists::granting(img, c, p.callee, p.service);
-        if waiting & m == 0 {
+        let m = image::lists::with_service(
+            img,
+            c,
+            Kept::WaitingGrants,
+            p.callee,
+            t.interface,
+            t.method,
+        );
+        if due & m == 0 {
             return Called::Refused;
         }
     }
@@ -118,19 +127,35 @@ fn needs_served(img: &[u8], c: Card, rec: &[u8], needs: Items) -> bool
     true
 }
 
-// At most `room` grants of the record are to callers that are not on the card.
-fn strangers_fit(img: &[u8], c: Card, rec: &[u8], grants: Items, room: usize) -> bool
+// A grant of the record is a bit: its caller is on the card, and its service is one of the record's.
+fn is_bit(img: &[u8], c: Card, rec: &[u8], provides: Items, a: Aid, t: Tokens) -> bool
     requires laid { ⌜ Laid (layoutOf c) (now img) ⌝ }
+    requires listed { ⌜ Stands tokens (now rec) provides ⌝ }
+    requires fits { ⌜ AidFits (now rec) a ⌝ }
+    ensures { λ r. ⌜ r ≡ bothThere (layoutOf c) (decode (layoutOf c) (now (img .entry))) (itemsIn tokens (now (rec .entry)) provides) (rowIn (now (rec .entry)) a t) ⌝ }
+{
+    if !record::proper::has_tokens(rec, t, provides) {
+        return false;
+    }
+    is_present(img, c, rec, a)
+}
+
+// At most `room` grants of the record wait.
+fn waiters_fit(img: &[u8], c: Card, rec: &[u8], provides: Items, grants: Items, room: usize) -> bool
+    requires laid { ⌜ Laid (layoutOf c) (now img) ⌝ }
+    requires listed { ⌜ Stands tokens (now rec) provides ⌝ }
     requires stands { ⌜ Stands aRow (now rec) grants ⌝ }
-    ensures { λ r. ⌜ r ≡ leb (count (λ x. not (present (layoutOf c) (decode (layoutOf c) (now (img .entry))) (x .aid))) (itemsIn aRow (now (rec .entry)) grants)) room ⌝ }
+    ensures { λ r. ⌜ r ≡ leb (count (λ x. not (bothThere (layoutOf c) (decode (layoutOf c) (now (img .entry))) (itemsIn tokens (now (rec .entry)) provides) x))
+        (itemsIn aRow (now (rec .entry)) grants)) room ⌝ }
 {
     let mut todo = grants;
     let mut left = room;
     while 0 < todo.count {
         let r = record::steps::take_row(rec, todo);
         let a = r.other;
+        let t = r.tokens;
         todo = r.rest;
-        if is_present(img, c, rec, a) {
+        if is_bit(img, c, rec, provides, a, t) {
             continue;
         }
         if left == 0 {
@@ -148,11 +173,11 @@ fn is_met(img: &[u8], c: Card, r: usize, aid: &[u8], rec: &[u8], provides: Items
     requires stands { ⌜ Stands tokens (now rec) provides ⌝ }
     ensures { λ b. ⌜ b ≡ meets (now (aid .entry)) (itemsIn tokens (now (rec .entry)) provides) (unmetRow (decode (layoutOf c) (now (img .entry))) r) ⌝ }
 {
-    if !image::lists::is_on(img, c, r, aid) {
+    if !image::lists::has_aid(img, c, Kept::UnmetCalls, r, aid) {
         return false;
     }
-    let interface = image::lists::unmet_interface(img, c, r);
-    let method = image::lists::unmet_method(img, c, r);
+    let interface = image::lists::interface(img, c, Kept::UnmetCalls, r);
+    let method = image::lists::method(img, c, Kept::UnmetCalls, r);
     let t = Tokens { interface, method };
     record::proper::has_tokens(rec, t, provides)
 }
@@ -163,11 +188,56 @@ pub fn met_rows(img: &[u8], c: Card, aid: &[u8], rec: &[u8], provides: Items) ->
     requires stands { ⌜ Stands tokens (now rec) provides ⌝ }
     ensures { λ m. ⌜ m ≡ maskOf (meets (now (aid .entry)) (itemsIn tokens (now (rec .entry)) provides)) (decode (layoutOf c) (now (img .entry)) .unmet) ⌝ }
 {
-    let mut r = image::lists::unmet_count(img, c);
+    let mut r = image::lists::count(img, c, Kept::UnmetCalls);
     let mut mask: u32 = 0;
     while r > 0 {
         r -= 1;
         let passes = is_met(img, c, r, aid, rec, provides);
+        mask = mask * 2 + (passes as u32);
+    }
+    mask
+}
+
+// The service of waiting grant r is provided.
+fn is_offered(img: &[u8], c: Card, r: usize) -> bool
+    requires laid { ⌜ Laid (layoutOf c) (now img) ⌝ }
+    requires inside { ⌜ r < length (decode (layoutOf c) (now img) .waiting) ⌝ }
+    requires giver { ⌜ waitingRow (decode (layoutOf c) (now img)) r .callee < layoutOf c .packages ⌝ }
+    ensures { λ b. ⌜ b ≡ isSome (serviceOf (layoutOf c) (decode (layoutOf c) (now (img .entry))) (waitingRow (decode (layoutOf c) (now (img .entry))) r .callee)
+        (waitingRow (decode (layoutOf c) (now (img .entry))) r .tok)) ⌝ }
+{
+    let n = geometry::services(c);
+    let j = image::lists::number(img, c, Kept::WaitingGrants, r);
+    let interface = image::lists::interface(img, c, Kept::WaitingGrants, r);
+    let method = image::lists::method(img, c, Kept::WaitingGrants, r);
+    let k = image::read::find_service(img, c, j, interface, method);
+    k < n
+}
+
+// Waiting grant r is one to the package `aid`, of a service that is provided.
+fn is_due(img: &[u8], c: Card, r: usize, aid: &[u8]) -> bool
+    requires laid { ⌜ Laid (layoutOf c) (now img) ⌝ }
+    requires inside { ⌜ r < length (decode (layoutOf c) (now img) .waiting) ⌝ }
+    requires giver { ⌜ waitingRow (decode (layoutOf c) (now img)) r .callee < layoutOf c .packages ⌝ }
+    ensures { λ b. ⌜ b ≡ comesDue (layoutOf c) (decode (layoutOf c) (now (img .entry))) (now (aid .entry)) (waitingRow (decode (layoutOf c) (now (img .entry))) r) ⌝ }
+{
+    if !image::lists::has_aid(img, c, Kept::WaitingGrants, r, aid) {
+        return false;
+    }
+    is_offered(img, c, r)
+}
+
+// Which waiting grants are those that wait for the package `aid` alone.
+pub fn due_rows(img: &[u8], c: Card, aid: &[u8]) -> u32
+    requires laid { ⌜ Laid (layoutOf c) (now img) ⌝ }
+    requires by { ⌜ GivenIn (layoutOf c) (decode (layoutOf c) (now img) .waiting) ⌝ }
+    ensures { λ m. ⌜ m ≡ maskOf (comesDue (layoutOf c) (decode (layoutOf c) (now (img .entry))) (now (aid .entry))) (decode (layoutOf c) (now (img .entry)) .waiting) ⌝ }
+{
+    let mut r = image::lists::count(img, c, Kept::WaitingGrants);
+    let mut mask: u32 = 0;
+    while r > 0 {
+        r -= 1;
+        let passes = is_due(img, c, r, aid);
         mask = mask * 2 + (passes as u32);
     }
     mask
@@ -181,12 +251,12 @@ fn grant_fits(img: &[u8], c: Card, r: usize, aid: &[u8], rec: &[u8], a: Aid, t: 
     requires fits { ⌜ AidFits (now rec) a ⌝ }
     ensures { λ b. ⌜ b ≡ grantFits (layoutOf c) (decode (layoutOf c) (now (img .entry))) (now (aid .entry)) (unmetRow (decode (layoutOf c) (now (img .entry))) r) (rowIn (now (rec .entry)) a t) ⌝ }
 {
-    let i = image::lists::unmet_caller(img, c, r);
+    let i = image::lists::number(img, c, Kept::UnmetCalls, r);
     let other = record::aid_bytes(rec, a);
     if !image::read::is_package(img, c, i, other) {
         return false;
     }
-    image::lists::asks_for(img, c, r, aid, t.interface, t.method)
+    image::lists::has_row(img, c, Kept::UnmetCalls, r, aid, t.interface, t.method)
 }
 
 // Some grant of the record is what unmet call r needs of the package `aid`.
@@ -238,7 +308,7 @@ fn others_granted(img: &[u8], c: Card, aid: &[u8], rec: &[u8], grants: Items, me
     requires stands { ⌜ Stands aRow (now rec) grants ⌝ }
     ensures { λ b. ⌜ b ≡ othersGranted (layoutOf c) (decode (layoutOf c) (now (img .entry))) (now (aid .entry)) (itemsIn aRow (now (rec .entry)) grants) met ⌝ }
 {
-    let n = image::lists::unmet_count(img, c);
+    let n = image::lists::count(img, c, Kept::UnmetCalls);
     for r in 0..n {
         if !named_granted(img, c, r, aid, rec, grants, met) {
             return false;
@@ -253,7 +323,7 @@ fn unmet_fits(img: &[u8], c: Card, unserved: usize, met: u32) -> bool
     ensures { λ b. ⌜ b ≡ unmetFit (layoutOf c) (decode (layoutOf c) (now (img .entry))) met unserved ⌝ }
 {
     let most = geometry::capacity(c);
-    let old = image::lists::unmet_count(img, c);
+    let old = image::lists::count(img, c, Kept::UnmetCalls);
     let gone = image::lists::mask_count(met);
     let all = most + gone;
     let room = all - old;
@@ -261,17 +331,18 @@ fn unmet_fits(img: &[u8], c: Card, unserved: usize, met: u32) -> bool
 }
 
 // The list of waiting grants has room for those of the record, after the rows of the mask go.
-fn waiting_fits(img: &[u8], c: Card, rec: &[u8], grants: Items, waiting: u32) -> bool
+fn waiting_fits(img: &[u8], c: Card, rec: &[u8], provides: Items, grants: Items, due: u32) -> bool
     requires laid { ⌜ Laid (layoutOf c) (now img) ⌝ }
+    requires listed { ⌜ Stands tokens (now rec) provides ⌝ }
     requires stands { ⌜ Stands aRow (now rec) grants ⌝ }
-    ensures { λ b. ⌜ b ≡ waitingFit (layoutOf c) (decode (layoutOf c) (now (img .entry))) waiting (itemsIn aRow (now (rec .entry)) grants) ⌝ }
+    ensures { λ b. ⌜ b ≡ waitingFit (layoutOf c) (decode (layoutOf c) (now (img .entry))) due (itemsIn tokens (now (rec .entry)) provides) (itemsIn aRow (now (rec .entry)) grants) ⌝ }
 {
     let most = geometry::capacity(c);
-    let old = image::lists::waiting_count(img, c);
-    let gone = image::lists::mask_count(waiting);
+    let old = image::lists::count(img, c, Kept::WaitingGrants);
+    let gone = image::lists::mask_count(due);
     let all = most + gone;
     let room = all - old;
-    strangers_fit(img, c, rec, grants, room)
+    waiters_fit(img, c, rec, provides, grants, room)
 }
 
 // The cause from 8 to 11 against loading the package `aid`; 0 where there is none.
@@ -280,18 +351,20 @@ pub fn cause(
     c: Card,
     aid: &[u8],
     rec: &[u8],
+    provides: Items,
     calls: Items,
     grants: Items,
     needs: Items,
     met: u32,
-    waiting: u32,
+    due: u32,
 ) -> u8
     requires sound { ⌜ T (sound (layoutOf c) (now img)) ⌝ }
+    requires listed { ⌜ Stands tokens (now rec) provides ⌝ }
     requires stands { ⌜ Stands aRow (now rec) calls × Stands aRow (now rec) grants × Stands aRow (now rec) needs ⌝ }
-    ensures { λ r. ⌜ r ≡ loadCause (layoutOf c) (decode (layoutOf c) (now (img .entry))) (now (aid .entry))
-        (itemsIn aRow (now (rec .entry)) calls) (itemsIn aRow (now (rec .entry)) grants) (itemsIn aRow (now (rec .entry)) needs) met waiting ⌝ }
+    ensures { λ r. ⌜ r ≡ loadCause (layoutOf c) (decode (layoutOf c) (now (img .entry))) (now (aid .entry)) (itemsIn tokens (now (rec .entry)) provides)
+        (itemsIn aRow (now (rec .entry)) calls) (itemsIn aRow (now (rec .entry)) grants) (itemsIn aRow (now (rec .entry)) needs) met due ⌝ }
 {
-    let Called::Granted { unserved } = calls_granted(img, c, waiting, rec, calls) else {
+    let Called::Granted { unserved } = calls_granted(img, c, due, rec, calls) else {
         return 8;
     };
     if !others_granted(img, c, aid, rec, grants, met) {
@@ -303,7 +376,7 @@ pub fn cause(
     if !unmet_fits(img, c, unserved, met) {
         return 10;
     }
-    if !waiting_fits(img, c, rec, grants, waiting) {
+    if !waiting_fits(img, c, rec, provides, grants, due) {
         return 11;
     }
     0
@@ -334,7 +407,7 @@ pub fn decide(
             number: 4,
             at: n,
             met: 0,
-            waiting: 0,
+            due: 0,
         };
     }
     let at = image::read::free_number(img, c);
@@ -343,16 +416,16 @@ pub fn decide(
             number: 7,
             at: n,
             met: 0,
-            waiting: 0,
+            due: 0,
         };
     }
     let met = met_rows(img, c, aid, rec, provides);
-    let waiting = image::lists::waiting_for(img, c, aid);
-    let number = cause(img, c, aid, rec, calls, grants, needs, met, waiting);
+    let due = due_rows(img, c, aid);
+    let number = cause(img, c, aid, rec, provides, calls, grants, needs, met, due);
     Decided {
         number,
         at,
         met,
-        waiting,
+        due,
     }
 }

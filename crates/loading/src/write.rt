@@ -8,21 +8,22 @@ ghost use lib.ListN.{length};
 ghost use Rattle.policy.specs.Lists.{every, isSome};
 ghost use Rattle.policy.specs.Record.{tokens, aRow, load};
 ghost use Rattle.policy.specs.Tables.{decode};
-ghost use Rattle.policy.specs.Lookup.{numberOf, serviceOf, serverOf};
+ghost use Rattle.policy.specs.Lookup.{serverOf, spotOf};
 ghost use Rattle.policy.specs.Draft.{addCallAt, addGrantAt, addNeedAt, loadAt};
 ghost use Rattle.policy.specs.ShortCheck.{count};
 ghost use Rattle.geometry.specs.Geometry.{layoutOf};
 ghost use Rattle.image.specs.Laid.{Laid};
 ghost use Rattle.image.specs.Wrote.{Wrote};
-ghost use Rattle.image.specs.Read.{unmetRow, waitingRow};
-ghost use Rattle.record.specs.Meaning.{AidFits, Stands, aidIn, rowIn, itemsIn, tokOf};
+ghost use Rattle.image.specs.Read.{unmetRow};
+ghost use Rattle.record.specs.Meaning.{AidFits, Stands, rowIn, itemsIn};
 ghost use Rattle.engine.specs.Asked.{Asked};
 ghost use Rattle.engine.specs.Services.{CallersIn};
-ghost use Rattle.loading.specs.Loads.{served, present, Accepts, withoutRows};
-ghost use Rattle.loading.specs.Writes.{named, openedAll, CallOn, metOne, metAll, GrantsIn, dueOne, due, calledAll, serviceNumber, grantedAll, neededAll};
+ghost use Rattle.loading.specs.Loads.{served, Accepts, withoutRows};
+ghost use Rattle.loading.specs.Writes.{named, openedAll, CallOn, metOne, metAll, calledAll, grantedAll, neededAll};
 use crate::decide;
 use crate::decide::Decided;
 use geometry::Card;
+use geometry::Kept;
 use geometry::Table;
 use record::Aid;
 use record::Items;
@@ -68,9 +69,9 @@ fn meet_row(img: &mut [u8], c: Card, n: usize, met: u32, r: usize)
     ensures { λ _. ⌜ Wrote (layoutOf c) (now (img .exit)) (metOne (layoutOf c) met n r (decode (layoutOf c) (now (img .entry)))) ⌝ }
 {
     if engine::services::has_row(met, r) {
-        let i = image::lists::unmet_caller(img, c, r);
-        let interface = image::lists::unmet_interface(img, c, r);
-        let method = image::lists::unmet_method(img, c, r);
+        let i = image::lists::number(img, c, Kept::UnmetCalls, r);
+        let interface = image::lists::interface(img, c, Kept::UnmetCalls, r);
+        let method = image::lists::method(img, c, Kept::UnmetCalls, r);
         let k = image::read::find_service(img, c, n, interface, method);
         image::write::set_bit(img, c, Table::Calls, i, n, k);
     }
@@ -84,47 +85,19 @@ fn meet(img: &mut [u8], c: Card, n: usize, met: u32)
     requires inside { ⌜ n < layoutOf c .packages ⌝ }
     ensures { λ _. ⌜ Wrote (layoutOf c) (now (img .exit)) (metAll (layoutOf c) met n (decode (layoutOf c) (now (img .entry)))) ⌝ }
 {
-    let m = image::lists::unmet_count(img, c);
+    let m = image::lists::count(img, c, Kept::UnmetCalls);
     for r in 0..m {
         meet_row(img, c, n, met, r);
     }
 }
 
-// Waiting grant r, if the mask names it, becomes a bit, to package n.
-fn settle_row(img: &mut [u8], c: Card, n: usize, waiting: u32, r: usize)
-    requires laid { ⌜ Laid (layoutOf c) (now img) ⌝ }
-    requires inside { ⌜ r < length (decode (layoutOf c) (now img) .waiting) ⌝ }
-    requires numbers { ⌜ (waitingRow (decode (layoutOf c) (now img)) r .callee < layoutOf c .packages)
-        × (waitingRow (decode (layoutOf c) (now img)) r .service < layoutOf c .services) × (n < layoutOf c .packages) ⌝ }
-    ensures { λ _. ⌜ Wrote (layoutOf c) (now (img .exit)) (dueOne waiting n r (decode (layoutOf c) (now (img .entry)))) ⌝ }
-{
-    if engine::services::has_row(waiting, r) {
-        let j = image::lists::waiting_callee(img, c, r);
-        let k = image::lists::waiting_service(img, c, r);
-        image::write::set_bit(img, c, Table::Grants, j, n, k);
-    }
-}
-
-// The waiting grants of the mask become bits, to package n.
-fn settle(img: &mut [u8], c: Card, n: usize, waiting: u32)
-    requires laid { ⌜ Laid (layoutOf c) (now img) ⌝ }
-    requires by { ⌜ GrantsIn (layoutOf c) (decode (layoutOf c) (now img) .waiting) ⌝ }
-    requires inside { ⌜ n < layoutOf c .packages ⌝ }
-    ensures { λ _. ⌜ Wrote (layoutOf c) (now (img .exit)) (due waiting n (decode (layoutOf c) (now (img .entry)))) ⌝ }
-{
-    let m = image::lists::waiting_count(img, c);
-    for r in 0..m {
-        settle_row(img, c, n, waiting, r);
-    }
-}
-
 // The unmet calls and the waiting grants of the masks go.
-fn drop_listed(img: &mut [u8], c: Card, met: u32, waiting: u32)
+fn drop_listed(img: &mut [u8], c: Card, met: u32, due: u32)
     requires { ⌜ Laid (layoutOf c) (now img) ⌝ }
-    ensures { λ _. ⌜ Wrote (layoutOf c) (now (img .exit)) (withoutRows met waiting (decode (layoutOf c) (now (img .entry)))) ⌝ }
+    ensures { λ _. ⌜ Wrote (layoutOf c) (now (img .exit)) (withoutRows met due (decode (layoutOf c) (now (img .entry)))) ⌝ }
 {
-    image::write::drop_unmet(img, c, met);
-    image::write::drop_waiting(img, c, waiting);
+    image::write::drop_rows(img, c, Kept::UnmetCalls, met);
+    image::write::drop_rows(img, c, Kept::WaitingGrants, due);
 }
 
 // A call of package n: a bit where its service is on the card, else an unmet call.
@@ -144,7 +117,7 @@ fn call(img: &mut [u8], c: Card, n: usize, rec: &[u8], a: Aid, t: Tokens)
         return;
     }
     let other = record::aid_bytes(rec, a);
-    image::write::append_unmet(img, c, other, t.interface, t.method, n);
+    image::write::append_row(img, c, Kept::UnmetCalls, other, t.interface, t.method, n);
 }
 
 // The calls of the record are those of package n.
@@ -166,20 +139,24 @@ fn call_all(img: &mut [u8], c: Card, n: usize, rec: &[u8], calls: Items)
     }
 }
 
-// A grant of package n, which provides its service: a bit where the caller is installed, else it waits.
+// A grant of package n: a bit where caller and service are on the card, else it waits.
 fn grant(img: &mut [u8], c: Card, n: usize, rec: &[u8], a: Aid, t: Tokens)
     requires laid { ⌜ Laid (layoutOf c) (now img) ⌝ }
     requires fits { ⌜ AidFits (now rec) a ⌝ }
     requires inside { ⌜ n < layoutOf c .packages ⌝ }
-    requires provided { ⌜ T (isSome (serviceOf (layoutOf c) (decode (layoutOf c) (now img)) n (tokOf t))) ⌝ }
-    requires room { ⌜ (numberOf (layoutOf c) (decode (layoutOf c) (now img)) (aidIn (now rec) a) ≡ none
+    requires room { ⌜ (spotOf (layoutOf c) (decode (layoutOf c) (now img)) n (rowIn (now rec) a t) ≡ none
         → length (decode (layoutOf c) (now img) .waiting) < layoutOf c .capacity) ⌝ }
-    ensures { λ _. ⌜ Wrote (layoutOf c) (now (img .exit)) (addGrantAt (layoutOf c) (decode (layoutOf c) (now (img .entry))) n (aidIn (now (rec .entry)) a)
-        (serviceNumber (layoutOf c) (decode (layoutOf c) (now (img .entry))) n (tokOf t))
-        (numberOf (layoutOf c) (decode (layoutOf c) (now (img .entry))) (aidIn (now (rec .entry)) a)) .tables) ⌝ }
+    ensures { λ _. ⌜ Wrote (layoutOf c) (now (img .exit)) (addGrantAt (layoutOf c) (decode (layoutOf c) (now (img .entry))) n (rowIn (now (rec .entry)) a t)
+        (spotOf (layoutOf c) (decode (layoutOf c) (now (img .entry))) n (rowIn (now (rec .entry)) a t)) .tables) ⌝ }
 {
-    let k = image::read::find_service(img, c, n, t.interface, t.method);
-    engine::services::grant(img, c, rec, a, n, k);
+    let size = geometry::packages(c);
+    let other = record::aid_bytes(rec, a);
+    let p = image::read::find_spot(img, c, n, other, t.interface, t.method);
+    if p.caller < size {
+        image::write::set_bit(img, c, Table::Grants, n, p.caller, p.service);
+        return;
+    }
+    image::write::append_row(img, c, Kept::WaitingGrants, other, t.interface, t.method, n);
 }
 
 // The grants of the record are those of package n.
@@ -187,9 +164,8 @@ fn grant_all(img: &mut [u8], c: Card, n: usize, rec: &[u8], grants: Items)
     requires laid { ⌜ Laid (layoutOf c) (now img) ⌝ }
     requires stands { ⌜ Stands aRow (now rec) grants ⌝ }
     requires inside { ⌜ n < layoutOf c .packages ⌝ }
-    requires provided { ⌜ T (every (λ x. isSome (serviceOf (layoutOf c) (decode (layoutOf c) (now img)) n (x .tok))) (itemsIn aRow (now rec) grants)) ⌝ }
     requires room { ⌜ length (decode (layoutOf c) (now img) .waiting)
-        + count (λ x. not (present (layoutOf c) (decode (layoutOf c) (now img)) (x .aid))) (itemsIn aRow (now rec) grants) ≤ layoutOf c .capacity ⌝ }
+        + count (λ x. not (isSome (spotOf (layoutOf c) (decode (layoutOf c) (now img)) n x))) (itemsIn aRow (now rec) grants) ≤ layoutOf c .capacity ⌝ }
     ensures { λ _. ⌜ Wrote (layoutOf c) (now (img .exit)) (grantedAll (layoutOf c) n (itemsIn aRow (now (rec .entry)) grants) (decode (layoutOf c) (now (img .entry)))) ⌝ }
 {
     let mut todo = grants;
@@ -264,8 +240,8 @@ pub fn put(
     name(img, c, n, aid);
     open_all(img, c, n, rec, provides);
     meet(img, c, n, d.met);
-    settle(img, c, n, d.waiting);
-    drop_listed(img, c, d.met, d.waiting);
+    engine::services::settle(img, c, d.due);
+    drop_listed(img, c, d.met, d.due);
     call_all(img, c, n, rec, calls);
     grant_all(img, c, n, rec, grants);
     need_all(img, c, n, rec, needs);

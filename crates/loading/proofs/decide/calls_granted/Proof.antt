@@ -10,10 +10,10 @@ use Rattle.loading.proofs.decide.calls_granted.Statement.{statement}
 use Rattle.loading.proofs.decide.calls_granted.Tie as tie
 
 abbrev Inv-loop : tie.InvT-loop
-Inv-loop img c waiting rec n todo₀ unserved₀ todo unserved = Tally (layoutOf c) (decode (layoutOf c) img) waiting rec todo₀ todo unserved
+Inv-loop img c due rec n todo₀ unserved₀ todo unserved = Tally (layoutOf c) (decode (layoutOf c) img) due rec todo₀ todo unserved
 
 abbrev μ-loop : tie.MeasureT-loop
-μ-loop img c waiting rec n todo₀ unserved₀ todo unserved = todo .count
+μ-loop img c due rec n todo₀ unserved₀ todo unserved = todo .count
 
 packages-requires : tie.Need-packages-requires Inv-loop μ-loop
 packages-requires c κs = search tallies
@@ -23,7 +23,7 @@ loop-holds c =
     let s = c .before .before .before in
     let x = s .args in
     let fits : Fits w64 (x .calls .count) = record { fits = s .good .1 .1 .1 .1 .0 .1 .1 .1 .0 .1 } in
-    tally-start (layoutOf (x .c)) (decode (layoutOf (x .c)) (now (x .img))) (x .waiting) (now (x .rec)) (x .calls) (s .pre .1) fits
+    tally-start (layoutOf (x .c)) (decode (layoutOf (x .c)) (now (x .img))) (x .due) (now (x .rec)) (x .calls) (s .pre .1) fits
 
 take-row-requires : tie.Need-take-row-requires Inv-loop μ-loop
 take-row-requires c κs = (c .before .before .loop .inv .granted .stands, c .if1 .taken)
@@ -40,8 +40,8 @@ loop-less c = omega (arith, c .before .before .before .before .before .before .t
 loop-again : tie.Need-loop-again Inv-loop μ-loop
 loop-again c = search tallies
 
-granting-requires : tie.Need-granting-requires Inv-loop μ-loop
-granting-requires c κs = search tallies
+with-service-requires : tie.Need-with-service-requires Inv-loop μ-loop
+with-service-requires c κs = search tallies
 
 returns : tie.Need-returns Inv-loop μ-loop
 returns c = search tallies
@@ -68,7 +68,7 @@ calls-granted-spec =
     add-unserved
     loop-less
     loop-again
-    granting-requires
+    with-service-requires
     returns
     loop-less-2
     loop-again-2

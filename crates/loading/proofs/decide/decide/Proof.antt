@@ -11,6 +11,7 @@ use Rattle.geometry.proofs.Bounds.{limits}
 use Rattle.image.proofs.Laid.{sound-laid}
 use Rattle.image.proofs.Numbers.{package-none, package-some, free-package-none, free-package-some}
 use Rattle.record.specs.Meaning.{itemsIn}
+use Rattle.engine.proofs.Callers.{given-in}
 use Rattle.loading.proofs.Decisions.{decides-4, decides-7, decides-late}
 use Rattle.loading.proofs.decide.decide.Statement.{statement}
 use Rattle.loading.proofs.decide.decide.Tie as tie
@@ -49,11 +50,13 @@ returns-2 c =
 met-rows-requires : tie.Need-met-rows-requires
 met-rows-requires c κs = (sound-laid _ (c .before .before .before .before .before .before .before .before .pre .0 .is-sound), c .before .before .before .before .before .before .before .before .pre .1 .0)
 
-waiting-for-requires : tie.Need-waiting-for-requires
-waiting-for-requires c κs = sound-laid _ (c .before .before .before .before .before .before .before .before .before .pre .0 .is-sound)
+due-rows-requires : tie.Need-due-rows-requires
+due-rows-requires c κs =
+    let s = c .before .before .before .before .before .before .before .before .before in
+    (sound-laid _ (s .pre .0 .is-sound), given-in (layoutOf (s .args .c)) (now (s .args .img)) (s .pre .0 .is-sound))
 
 cause-requires : tie.Need-cause-requires
-cause-requires c κs = (c .before .before .before .before .before .before .before .before .before .before .pre .0 .is-sound, c .before .before .before .before .before .before .before .before .before .before .pre .1 .1)
+cause-requires c κs = let s = c .before .before .before .before .before .before .before .before .before .before in (s .pre .0 .is-sound, s .pre .1)
 
 returns-3 : tie.Need-returns-3
 returns-3 c =
@@ -61,7 +64,7 @@ returns-3 c =
     let x = s .args in
     let L = layoutOf (x .c) in
     let t = decode L (now (x .img)) in
-    decides-late L (now (x .img)) (now (x .aid)) (itemsIn tokens (now (x .rec)) (x .provides)) (itemsIn aRow (now (x .rec)) (x .calls)) (itemsIn aRow (now (x .rec)) (x .grants)) (itemsIn aRow (now (x .rec)) (x .needs)) (s .pre .0) (limits (x .c) .capacity-low) _ (package-none L t (now (x .aid)) _ (c .before .before .before .before .before .before .find-package .ensures) (lower (c .before .before .before .before .before .before .before .packages .ensures) (c .before .before .before .before .before .if1 .left))) (free-package-some L t _ (c .before .before .before .before .free-number .ensures) (upper (c .before .before .before .before .before .before .before .packages .ensures) (c .before .before .before .if2 .left))) (c .before .before .met-rows .ensures) (c .before .waiting-for .ensures) (c .cause .ensures)
+    decides-late L (now (x .img)) (now (x .aid)) (itemsIn tokens (now (x .rec)) (x .provides)) (itemsIn aRow (now (x .rec)) (x .calls)) (itemsIn aRow (now (x .rec)) (x .grants)) (itemsIn aRow (now (x .rec)) (x .needs)) (s .pre .0) (limits (x .c) .capacity-low) _ (package-none L t (now (x .aid)) _ (c .before .before .before .before .before .before .find-package .ensures) (lower (c .before .before .before .before .before .before .before .packages .ensures) (c .before .before .before .before .before .if1 .left))) (free-package-some L t _ (c .before .before .before .before .free-number .ensures) (upper (c .before .before .before .before .before .before .before .packages .ensures) (c .before .before .before .if2 .left))) (c .before .before .met-rows .ensures) (c .before .due-rows .ensures) (c .cause .ensures)
 
 pub decide-spec : {M : Type 1} → statement M
 decide-spec =
@@ -73,6 +76,6 @@ decide-spec =
     free-number-requires
     returns-2
     met-rows-requires
-    waiting-for-requires
+    due-rows-requires
     cause-requires
     returns-3)

@@ -3,20 +3,20 @@ use Rattle.loading.proofs.Checks.{checks}
 use Rattle.loading.proofs.decide.grant_fits.Statement.{statement}
 use Rattle.loading.proofs.decide.grant_fits.Tie as tie
 
-unmet-caller-requires : tie.Need-unmet-caller-requires
-unmet-caller-requires c κs = search checks
+number-requires : tie.Need-number-requires
+number-requires c κs = search checks
 
 aid-bytes-requires : tie.Need-aid-bytes-requires
 aid-bytes-requires c κs = search checks
 
 is-package-requires : tie.Need-is-package-requires
-is-package-requires c κs = (c .before .before .before .before .before .pre .0, rw (c .before .unmet-caller .ensures) (c .before .before .before .before .before .pre .1 .1 .0))
+is-package-requires c κs = (c .before .before .before .before .before .pre .0, rw (c .before .number .ensures) (c .before .before .before .before .before .pre .1 .1 .0))
 
 returns : tie.Need-returns
 returns c = search checks
 
-asks-for-requires : tie.Need-asks-for-requires
-asks-for-requires c κs = search checks
+has-row-requires : tie.Need-has-row-requires
+has-row-requires c κs = search checks
 
 returns-2 : tie.Need-returns-2
 returns-2 c = search checks
@@ -25,9 +25,9 @@ pub grant-fits-spec : {M : Type 1} → statement M
 grant-fits-spec =
     tie.close
     (tie.spec
-    unmet-caller-requires
+    number-requires
     aid-bytes-requires
     is-package-requires
     returns
-    asks-for-requires
+    has-row-requires
     returns-2)

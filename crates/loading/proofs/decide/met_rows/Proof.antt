@@ -3,11 +3,13 @@ use native.Mathlib.Omega.{arith}
 use Prim.Native.Nat.{_≤_}
 use mathlib.Core.Path.{_≡_}
 use lib.ListN.{length, drop}
+use denote.Ref.{now}
 use Rattle.policy.specs.Record.{tokens}
 use Rattle.policy.specs.Tables.{decode}
 use Rattle.geometry.specs.Geometry.{layoutOf}
 use Rattle.image.specs.Read.{maskOf}
-use Rattle.image.proofs.Listed.{masks}
+use Rattle.geometry.specs.declared.Kept.the-variants.{UnmetCalls}
+use Rattle.image.proofs.Listed.{masks, list-low}
 use Rattle.record.specs.Meaning.{itemsIn}
 use Rattle.loading.specs.Loads.{meets}
 use Rattle.loading.proofs.decide.met_rows.Statement.{statement}
@@ -20,8 +22,8 @@ Inv-loop img c aid rec provides r₀ mask₀ r mask =
 abbrev μ-loop : tie.MeasureT-loop
 μ-loop img c aid rec provides r₀ mask₀ r mask = r
 
-unmet-count-requires : tie.Need-unmet-count-requires Inv-loop μ-loop
-unmet-count-requires c κs = search masks
+count-requires : tie.Need-count-requires Inv-loop μ-loop
+count-requires c κs = search masks
 
 loop-holds : tie.Need-loop-holds Inv-loop μ-loop
 loop-holds c = search masks
@@ -33,13 +35,13 @@ is-met-requires : tie.Need-is-met-requires Inv-loop μ-loop
 is-met-requires c κs = (c .before .before .before .before .before .before .pre .0, (omega (arith, c .before .loop .inv .0, c .loop-test .taken), c .before .before .before .before .before .before .pre .1))
 
 mul-mask : tie.Need-mul-mask Inv-loop μ-loop
-mul-mask c = search masks
+mul-mask c = let s = c .before .before .before .before .before .before .before in search (masks, list-low (s .args .c) (now (s .args .img)) (s .pre .0) UnmetCalls)
 
 cast-mask : tie.Need-cast-mask Inv-loop μ-loop
 cast-mask c = search masks
 
 add-mask : tie.Need-add-mask Inv-loop μ-loop
-add-mask c = search masks
+add-mask c = let s = c .before .before .before .before .before .before .before in search (masks, list-low (s .args .c) (now (s .args .img)) (s .pre .0) UnmetCalls)
 
 loop-less : tie.Need-loop-less Inv-loop μ-loop
 loop-less c = search masks
@@ -56,7 +58,7 @@ met-rows-spec =
     (tie.spec
     Inv-loop
     μ-loop
-    unmet-count-requires
+    count-requires
     loop-holds
     sub-r
     is-met-requires

@@ -1,7 +1,8 @@
 -- `loading::decide::named_granted` meets its contract.
 use native.Mathlib.Omega.{arith}
 use denote.Ref.{now}
-use Rattle.image.proofs.Listed.{unmet-low}
+use Rattle.geometry.specs.declared.Kept.the-variants.{UnmetCalls}
+use Rattle.image.proofs.Listed.{list-low}
 use Rattle.loading.proofs.Checks.{checks}
 use Rattle.loading.proofs.decide.named_granted.Statement.{statement}
 use Rattle.loading.proofs.decide.named_granted.Tie as tie
@@ -9,7 +10,7 @@ use Rattle.loading.proofs.decide.named_granted.Tie as tie
 has-row-requires : tie.Need-has-row-requires
 has-row-requires c κs =
     let x = c .before .before .before .args in
-    omega (arith, unmet-low (x .c) (now (x .img)) (c .before .before .before .pre .0), c .before .before .before .pre .1 .0)
+    omega (arith, list-low (x .c) (now (x .img)) (c .before .before .before .pre .0) UnmetCalls, c .before .before .before .pre .1 .0)
 
 returns : tie.Need-returns
 returns c = search checks

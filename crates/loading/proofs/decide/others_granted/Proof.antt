@@ -25,8 +25,8 @@ Inv-loop img c aid rec grants met n r₀ r =
 abbrev μ-loop : tie.MeasureT-loop
 μ-loop img c aid rec grants met n r₀ r = n - r
 
-unmet-count-requires : tie.Need-unmet-count-requires Inv-loop μ-loop
-unmet-count-requires c κs = sound-laid _ (c .before .before .before .pre .0)
+count-requires : tie.Need-count-requires Inv-loop μ-loop
+count-requires c κs = sound-laid _ (c .before .before .before .pre .0)
 
 loop-holds : tie.Need-loop-holds Inv-loop μ-loop
 loop-holds c = search early
@@ -34,7 +34,7 @@ loop-holds c = search early
 named-granted-requires : tie.Need-named-granted-requires Inv-loop μ-loop
 named-granted-requires c κs =
     let x = c .before .before .before .before .before .before .args in
-    let q : c .before .loop .r < length (decode (layoutOf (x .c)) (now (x .img)) .unmet) = omega (arith, c .loop-test .taken, c .before .before .unmet-count .ensures) in
+    let q : c .before .loop .r < length (decode (layoutOf (x .c)) (now (x .img)) .unmet) = omega (arith, c .loop-test .taken, c .before .before .count .ensures) in
     (sound-laid (layoutOf (x .c)) (c .before .before .before .before .before .before .pre .0), (q, (caller-in (layoutOf (x .c)) (now (x .img)) (c .before .loop .r) (c .before .before .before .before .before .before .pre .0) q, c .before .before .before .before .before .before .pre .1)))
 
 returns : tie.Need-returns Inv-loop μ-loop
@@ -58,7 +58,7 @@ others-granted-spec =
     (tie.spec
     Inv-loop
     μ-loop
-    unmet-count-requires
+    count-requires
     loop-holds
     named-granted-requires
     returns

@@ -21,8 +21,8 @@ returns c = search one-row
 aid-bytes-requires : tie.Need-aid-bytes-requires
 aid-bytes-requires c κs = search one-row
 
-append-unmet-requires : tie.Need-append-unmet-requires
-append-unmet-requires c κs = (search one-row, (c .before .before .before .before .before .before .before .before .before .pre .1 .1 .1 (search one-row), (search one-row, search one-row)))
+append-row-requires : tie.Need-append-row-requires
+append-row-requires c κs = (search one-row, (c .before .before .before .before .before .before .before .before .before .pre .1 .1 .1 (search one-row), (search one-row, search one-row)))
 
 same-length-2 : tie.Need-same-length-2
 same-length-2 c = search one-row
@@ -40,6 +40,6 @@ call-spec =
     same-length
     returns
     aid-bytes-requires
-    append-unmet-requires
+    append-row-requires
     same-length-2
     returns-2)

@@ -8,11 +8,11 @@ use Rattle.image.proofs.Clears.{wrote-then}
 use Rattle.loading.proofs.write.drop_listed.Statement.{statement}
 use Rattle.loading.proofs.write.drop_listed.Tie as tie
 
-drop-unmet-requires : tie.Need-drop-unmet-requires
-drop-unmet-requires c κs = search needs
+drop-rows-requires : tie.Need-drop-rows-requires
+drop-rows-requires c κs = search needs
 
-drop-waiting-requires : tie.Need-drop-waiting-requires
-drop-waiting-requires c κs = search needs
+drop-rows-requires-2 : tie.Need-drop-rows-requires-2
+drop-rows-requires-2 c κs = search needs
 
 same-length : tie.Need-same-length
 same-length c = search needs
@@ -20,7 +20,7 @@ same-length c = search needs
 returns : tie.Need-returns
 returns c =
     let x = c .before .before .before .before .before .before .before .before .before .args in
-    wrote-then (layoutOf (x .c)) (λ (t : Tables). withWaiting (keepRows (x .waiting) (t .waiting)) t) (c .before .before .before .before .before .before .drop-unmet .ensures) (c .before .before .drop-waiting .ensures)
+    wrote-then (layoutOf (x .c)) (λ (t : Tables). withWaiting (keepRows (x .due) (t .waiting)) t) (c .before .before .before .before .before .before .drop-rows .ensures) (c .before .before .drop-rows2 .ensures)
 
 pub drop-listed-spec : {M : Type 1} → statement M
-drop-listed-spec = tie.close (tie.spec drop-unmet-requires drop-waiting-requires same-length returns)
+drop-listed-spec = tie.close (tie.spec drop-rows-requires drop-rows-requires-2 same-length returns)

@@ -6,7 +6,8 @@ use lib.ListN.{length}
 use borrow.Author.Needs.{needs}
 use Rattle.policy.specs.Tables.{decode}
 use Rattle.geometry.specs.Geometry.{layoutOf}
-use Rattle.loading.proofs.Settles.{Settling, settling-start, settling-here, settling-next, settling-end, calls}
+use Rattle.engine.proofs.Settles.{Settling, settling-start, settling-here, settling-next, settling-end}
+use Rattle.loading.proofs.Settles.{calls}
 use Rattle.loading.proofs.write.meet.Statement.{statement}
 use Rattle.loading.proofs.write.meet.Tie as tie
 
@@ -16,8 +17,8 @@ Inv-loop img₀ c n met m r₀ img r = Settling (layoutOf c) (calls (layoutOf c)
 abbrev μ-loop : tie.MeasureT-loop
 μ-loop img₀ c n met m r₀ img r = m - r
 
-unmet-count-requires : tie.Need-unmet-count-requires Inv-loop μ-loop
-unmet-count-requires c κs = search needs
+count-requires : tie.Need-count-requires Inv-loop μ-loop
+count-requires c κs = search needs
 
 loop-holds : tie.Need-loop-holds Inv-loop μ-loop
 loop-holds c = let p = c .before .before .before .pre in (settling-start _ _ (p .0) (p .1 .0, p .1 .1 .0), refl)
@@ -26,7 +27,7 @@ meet-row-requires : tie.Need-meet-row-requires Inv-loop μ-loop
 meet-row-requires c κs =
     let l = c .before .before in
     let g = l .loop .inv .0 in
-    let v = settling-here _ _ _ g (omega (arith, c .before .loop-test .taken, l .before .unmet-count .ensures)) in
+    let v = settling-here _ _ _ g (omega (arith, c .before .loop-test .taken, l .before .count .ensures)) in
     (g .laid, (v .0, ((v .1, l .before .before .before .before .pre .1 .1 .1), v .2)))
 
 add-r : tie.Need-add-r Inv-loop μ-loop
@@ -38,13 +39,13 @@ loop-less c = omega (arith, c .before .before .before .before .loop-test .taken)
 loop-again : tie.Need-loop-again Inv-loop μ-loop
 loop-again c =
     let l = c .before .before .before .before .before in
-    (settling-next _ _ _ (l .loop .inv .0) (omega (arith, c .before .before .before .before .loop-test .taken, l .before .unmet-count .ensures)) (c .before .before .meet-row .ensures), search needs)
+    (settling-next _ _ _ (l .loop .inv .0) (omega (arith, c .before .before .before .before .loop-test .taken, l .before .count .ensures)) (c .before .before .meet-row .ensures), search needs)
 
 same-length : tie.Need-same-length Inv-loop μ-loop
 same-length c = search needs
 
 returns : tie.Need-returns Inv-loop μ-loop
-returns c = let l = c .before in settling-end _ _ _ (l .loop .inv .0) (omega (arith, c .loop-test .left, l .before .unmet-count .ensures))
+returns c = let l = c .before in settling-end _ _ _ (l .loop .inv .0) (omega (arith, c .loop-test .left, l .before .count .ensures))
 
 pub meet-spec : {M : Type 1} → statement M
 meet-spec =
@@ -52,7 +53,7 @@ meet-spec =
     (tie.spec
     Inv-loop
     μ-loop
-    unmet-count-requires
+    count-requires
     loop-holds
     meet-row-requires
     add-r

@@ -10,24 +10,25 @@ use Rattle.policy.specs.Draft.{withCalls}
 use Rattle.policy.proofs.Sets.{true-T}
 use Rattle.geometry.specs.Geometry.{layoutOf}
 use Rattle.image.specs.Read.{unmetRow}
-use Rattle.image.proofs.Listed.{unmet-low}
-use Rattle.loading.specs.Writes.{serviceNumber}
-use Rattle.loading.proofs.RowTurns.{grant-service}
-use Rattle.loading.proofs.Settles.{not-listed, is-listed, number-read}
+use Rattle.geometry.specs.declared.Kept.the-variants.{UnmetCalls}
+use Rattle.image.proofs.Listed.{list-low}
+use Rattle.engine.specs.Services.{serviceNumber}
+use Rattle.engine.proofs.Settles.{not-listed, is-listed, number-read}
+use Rattle.loading.proofs.Settles.{service-in}
 use Rattle.loading.proofs.write.meet_row.Statement.{statement}
 use Rattle.loading.proofs.write.meet_row.Tie as tie
 
 has-row-requires : tie.Need-has-row-requires
-has-row-requires c κs = let s = c .before in omega (arith, unmet-low (s .args .c) (now (s .args .img)) (s .pre .0), s .pre .1 .0)
+has-row-requires c κs = let s = c .before in omega (arith, list-low (s .args .c) (now (s .args .img)) (s .pre .0) UnmetCalls, s .pre .1 .0)
 
-unmet-caller-requires : tie.Need-unmet-caller-requires
-unmet-caller-requires c κs = search needs
+number-requires : tie.Need-number-requires
+number-requires c κs = search needs
 
-unmet-interface-requires : tie.Need-unmet-interface-requires
-unmet-interface-requires c κs = search needs
+interface-requires : tie.Need-interface-requires
+interface-requires c κs = search needs
 
-unmet-method-requires : tie.Need-unmet-method-requires
-unmet-method-requires c κs = search needs
+method-requires : tie.Need-method-requires
+method-requires c κs = search needs
 
 find-service-requires : tie.Need-find-service-requires
 find-service-requires c κs = search needs
@@ -46,9 +47,9 @@ set-bit-requires c κs =
     let r = unmetRow t (x .r) in (
       s .pre .0,
       (
-        omega (arith, i .unmet-caller .ensures, s .pre .1 .1 .0 .0),
+        omega (arith, i .number .ensures, s .pre .1 .1 .0 .0),
         s .pre .1 .1 .0 .1,
-        grant-service L t (x .n) (r .tok) _ (number-read L t (x .n) (r .tok) _ _ _ (k .find-service .ensures) (f .unmet-interface .ensures) (m .unmet-method .ensures))
+        service-in L t (x .n) (r .tok) _ (number-read L t (x .n) (r .tok) _ _ _ _ (k .find-service .ensures) refl (f .interface .ensures) (m .method .ensures))
             (s .pre .1 .1 .1 (true-T (sym (b .before .has-row .ensures) ∙ b .if1 .taken))),
       ),
     )
@@ -67,8 +68,8 @@ returns c =
     let L = layoutOf (x .c) in
     let t = decode L (now (x .img)) in
     let r = unmetRow t (x .r) in
-    is-listed L (λ (g : ℕ → ℕ → ℕ → Bool). withCalls g (t .unmet) t) (t .calls) (r .caller) (x .n) (serviceNumber L t (x .n) (r .tok)) _ (b .before .has-row .ensures) _ _ (b .if1 .taken)
-    (i .unmet-caller .ensures) (number-read L t (x .n) (r .tok) _ _ _ (k .find-service .ensures) (f .unmet-interface .ensures) (m .unmet-method .ensures)) (c .before .before .set-bit .ensures)
+    is-listed L (λ (g : ℕ → ℕ → ℕ → Bool). withCalls g (t .unmet) t) (t .calls) (r .caller) (x .n) (serviceNumber L t (x .n) (r .tok)) _ (b .before .has-row .ensures) _ _ _ (b .if1 .taken)
+    (i .number .ensures) refl (number-read L t (x .n) (r .tok) _ _ _ _ (k .find-service .ensures) refl (f .interface .ensures) (m .method .ensures)) (c .before .before .set-bit .ensures)
 
 returns-2 : tie.Need-returns-2
 returns-2 c =
@@ -85,9 +86,9 @@ meet-row-spec =
     tie.close
     (tie.spec
     has-row-requires
-    unmet-caller-requires
-    unmet-interface-requires
-    unmet-method-requires
+    number-requires
+    interface-requires
+    method-requires
     find-service-requires
     set-bit-requires
     same-length
