@@ -1,31 +1,31 @@
 -- What stands at the places of a laid image, as the parts of a record. Assumes nothing.
-use Prim.Native.Nat.{ℕ, _+_, _*_, _≤_, _<_}
+use Prim.Native.Nat.{ℕ, _+_, _≤_, _<_}
 use native.Mathlib.Omega.{arith}
 use mathlib.Core.Path.{_≡_, refl, sym, ap, ap₂, _∙_, subst}
 use mathlib.Core.Bool.{Bool, true, false, not}
 use mathlib.Core.List.{List, _++_}
-use lib.Dec.{T, eqb}
+use lib.Dec.{eqb}
 use lib.ListN.{length, getD}
 use borrow.Author.Tests.{eq-eqb, ne-eqb, not-true, not-false}
 use Rattle.policy.specs.Contract.{Aid, Tok}
-use Rattle.policy.specs.Layout.{Layout, unmetAt, waitingAt}
+use Rattle.policy.specs.Layout.{Layout, aidSize}
 use Rattle.policy.specs.Tables.{Tables, bit, rowOf, writeTok, decode}
-use Rattle.policy.specs.Sound.{sound}
 use Rattle.policy.specs.Judge.{aidBytes}
-use Rattle.policy.proofs.Sets.{false-T, in-row}
-use Rattle.policy.proofs.SoundFacts.{sound-formed}
+use Rattle.policy.proofs.Sets.{false-T}
 use Rattle.geometry.specs.declared.Card.{Card}
 use Rattle.geometry.specs.declared.Table.{Table}
 use Rattle.geometry.specs.declared.Table.the-variants.{Calls, Grants, Needs}
-use Rattle.geometry.specs.Geometry.{layoutOf, aidAt, tokAt}
-use Rattle.geometry.proofs.Bounds.{limits, aid-in, tok-in, unmet-in, waiting-in}
+use Rattle.geometry.specs.declared.Kept.{Kept}
+use Rattle.geometry.specs.Geometry.{layoutOf, aidAt, tokAt, placeAt}
+use Rattle.geometry.specs.Geometry as geometry
+use Rattle.geometry.proofs.Bounds.{aid-in, tok-in}
 use Rattle.image.specs.Laid.{Laid, tableOf}
-use Rattle.image.specs.Read.{aidIn, tokensIn, unmetRow, noWaiting, waitingRow}
-use Rattle.image.proofs.Laid.{sound-laid}
+use Rattle.image.specs.Read.{aidIn, tokensIn, itemsOf, itemNumber, itemAt}
 use Rattle.image.proofs.Seen.{laid-size, aid-seen, aid-short, tokens-seen}
-use Rattle.image.proofs.Listed.{unmet-aid, unmet-tokens, callee-short, callee-seen, tok-seen, waiting-aid, caller-short, caller-seen}
+use Rattle.image.proofs.Listed.{row-aid, tokens-room, tok-seen}
+use Rattle.image.proofs.Listed as listed
 use Rattle.engine.proofs.Seen.{bit-seen}
-use Rattle.readout.specs.Parts.{Put, given, server, bitBytes, unmetBytes, waitingBytes, tokBytes}
+use Rattle.readout.specs.Parts.{Put, given, server, bitBytes, itemBytes, tokBytes}
 use Rattle.readout.proofs.Writers.{put-nothing}
 
 -- ---- bytes that stand where a test passes
@@ -39,7 +39,7 @@ skipped true l e at old = absurd (false-T e tt)
 
 -- an AID's place and a place of tokens lie in the image
 abbrev pub Inside : List ℕ → ℕ → ℕ → Type 0
-Inside img from tok = (from + 17 ≤ length img) × (getD img from 0 ≤ 16) × (tok + 2 ≤ length img)
+Inside img from tok = (from + aidSize ≤ length img) × (getD img from 0 ≤ 16) × (tok + 2 ≤ length img)
 
 pub server-in : (tb : Table) (n j m s : ℕ) → n < m → j < m → s ≡ server tb n j → s < m
 server-in Calls n j m s p q e = subst (λ (x : ℕ). x < m) (sym e) q
@@ -55,7 +55,7 @@ module _ (c : Card) (img : List ℕ) (h : Laid (layoutOf c) img) where
 
   -- ---- the AID of package j at a
   module _ (j a : ℕ) (p : j < layoutOf c .packages) (q : a ≡ aidAt (layoutOf c) j) where
-    pub aid-fits : (a + 17 ≤ length img) × (getD img a 0 ≤ 16)
+    pub aid-fits : (a + aidSize ≤ length img) × (getD img a 0 ≤ 16)
     aid-fits = (omega (arith, laid-size c img h, aid-in c j p), aid-short c img h j a p q)
 
   -- ---- the tokens of service k of package j at a
@@ -96,58 +96,16 @@ module _ (c : Card) (img : List ℕ) (h : Laid (layoutOf c) img) where
     pub service-here : (a : ℕ) → not b ≡ false → a ≡ tokAt (layoutOf c) n k → writeTok (tokensIn img a) ≡ tokBytes (layoutOf c) (decode (layoutOf c) img) n k
     service-here a g q = ap writeTok (tokens-seen c img h n k a p l q) ∙ given-on (t .provides n k) _ (service-is ∙ not-false b g)
 
-  -- ---- unmet call r, by package i
-  pub call-ends : (r : ℕ) → r < length (decode (layoutOf c) img .unmet) → unmetAt (layoutOf c) + (1 + r * 20) + 20 ≤ 4096
-  call-ends r p = omega (arith, unmet-in c r (omega (arith, h .room .unmet-fits)), limits c)
+  -- ---- row r of list l, of package i
+  module _ (l : Kept) (n r i : ℕ) (p : r < length (itemsOf l (decode (layoutOf c) img))) (e : i ≡ itemNumber l (itemAt l (decode (layoutOf c) img) r)) where
+    pub item-skipped : (i ≡ n → ⊥) → (at : ℕ) (old : List ℕ) → Put at (itemBytes (layoutOf c) (decode (layoutOf c) img) n l r) old at old
+    item-skipped g = skipped (eqb (itemNumber l (itemAt l t r)) n) _ (ap (λ (x : ℕ). eqb x n) (sym e) ∙ ne-eqb i n g)
 
-  module _ (n r i : ℕ) (p : r < length (decode (layoutOf c) img .unmet)) (e : i ≡ unmetRow (decode (layoutOf c) img) r .caller) where
-    pub call-skipped : (i ≡ n → ⊥) → (at : ℕ) (old : List ℕ) → Put at (unmetBytes (layoutOf c) (decode (layoutOf c) img) n r) old at old
-    call-skipped g = skipped (eqb (unmetRow t r .caller) n) _ (ap (λ (x : ℕ). eqb x n) (sym e) ∙ ne-eqb i n g)
+    module _ (from k : ℕ) (q : from ≡ placeAt (layoutOf c) l r) (z : k ≡ geometry.tokensIn l) where
+      pub item-inside : Inside img from (from + k)
+      item-inside = (row-aid c img h l r p from q, listed.aid-short c img h l r p from q, tokens-room c img h l r p from q k z)
 
-    module _ (from : ℕ) (q : from ≡ unmetAt (layoutOf c) + (1 + r * 20)) where
-      pub call-inside : Inside img from (from + 17)
-      call-inside = (unmet-aid c img h r p from q, callee-short c img h r p from q, unmet-tokens c img h r p from q)
-
-      pub call-here : i ≡ n → aidBytes (aidIn img from) ++ writeTok (tokensIn img (from + 17)) ≡ unmetBytes (layoutOf c) (decode (layoutOf c) img) n r
-      call-here g =
-          ap₂ (λ (a : Aid) (s : Tok). aidBytes a ++ writeTok s) (callee-seen c img h r p from q) (tok-seen c img h r p from q)
-          ∙ given-on (eqb (unmetRow t r .caller) n) _ (ap (λ (x : ℕ). eqb x n) (sym e) ∙ eq-eqb i n g)
-
--- ---- waiting grant r, of service k of package i
-pub grant-ends : (c : Card) (img : List ℕ) → T (sound (layoutOf c) img) → (r : ℕ) → r < length (decode (layoutOf c) img .waiting) → waitingAt (layoutOf c) + (1 + r * 19) + 19 ≤ 4096
-grant-ends c img ok r p = omega (arith, waiting-in c r (omega (arith, sound-laid (layoutOf c) ok .room .waiting-fits)), limits c)
-
-module _ (c : Card) (img : List ℕ) (ok : T (sound (layoutOf c) img)) (n r i : ℕ) (u : n < layoutOf c .packages) (p : r < length (decode (layoutOf c) img .waiting))
-    (e : i ≡ waitingRow (decode (layoutOf c) img) r .callee) where
-  abbrev M : Layout
-  M = layoutOf c
-
-  abbrev tw : Tables
-  tw = decode (layoutOf c) img
-
-  laid : Laid M img
-  laid = sound-laid M ok
-
-  pub grant-skipped : (i ≡ n → ⊥) → (at : ℕ) (old : List ℕ) → Put at (waitingBytes (layoutOf c) (decode (layoutOf c) img) n r) old at old
-  grant-skipped g = skipped (eqb (waitingRow tw r .callee) n) _ (ap (λ (x : ℕ). eqb x n) (sym e) ∙ ne-eqb i n g)
-
-  module _ (k : ℕ) (f : k ≡ waitingRow (decode (layoutOf c) img) r .service) where
-    pub grant-service : k < layoutOf c .services
-    grant-service =
-        subst (λ (x : ℕ). x < M .services) (sym f)
-        (laid .room .provides-in (waitingRow tw r .callee) (waitingRow tw r .service) (sound-formed M img ok .waiting .wait-prov (waitingRow tw r) (in-row (tw .waiting) r noWaiting p)) .1)
-
-    module _ (from tok : ℕ) (q : from ≡ waitingAt (layoutOf c) + (1 + r * 19)) (z : tok ≡ tokAt (layoutOf c) n k) where
-      pub grant-inside : Inside img from tok
-      grant-inside = (
-        waiting-aid c img laid r p from q,
-        caller-short c img laid r p from q,
-        tok-fits c img laid n k tok u grant-service z,
-      )
-
-      pub grant-here : i ≡ n → aidBytes (aidIn img from) ++ writeTok (tokensIn img tok) ≡ waitingBytes (layoutOf c) (decode (layoutOf c) img) n r
-      grant-here g =
-          ap₂ (λ (a : Aid) (w : List ℕ). aidBytes a ++ w)
-          (caller-seen c img laid r p from q)
-          (ap writeTok (tokens-seen c img laid n k tok u grant-service z) ∙ ap₂ (λ (x y : ℕ). writeTok (tw .tok x y)) (sym g ∙ e) f)
-          ∙ given-on (eqb (waitingRow tw r .callee) n) _ (ap (λ (x : ℕ). eqb x n) (sym e) ∙ eq-eqb i n g)
+      pub item-here : i ≡ n → aidBytes (aidIn img from) ++ writeTok (tokensIn img (from + k)) ≡ itemBytes (layoutOf c) (decode (layoutOf c) img) n l r
+      item-here g =
+          ap₂ (λ (a : Aid) (s : Tok). aidBytes a ++ writeTok s) (listed.aid-seen c img h l r p from q) (tok-seen c img h l r p from q k z)
+          ∙ given-on (eqb (itemNumber l (itemAt l t r)) n) _ (ap (λ (x : ℕ). eqb x n) (sym e) ∙ eq-eqb i n g)

@@ -5,14 +5,14 @@ use native.Mathlib.Nat.{zero-add}
 use mathlib.Core.Path.{_≡_, refl, sym, ap, ap₂, _∙_, subst}
 use mathlib.Core.Bool.{Bool, true, false, not, _&&_, cond}
 use mathlib.Core.List.{List, [], _∷_, _++_}
-use lib.Dec.{T, eqb, leb, ltb}
+use lib.Dec.{eqb, leb, ltb}
 use lib.ListN.{length, drop, length-append}
 use borrow.Author.Tests.{ltb-true, le-ltb, lt-ltb, le-leb, lt-leb, not-true, not-false}
 use Rattle.policy.specs.Lists.{flat, upto}
 use Rattle.policy.specs.Contract.{Aid, Row}
-use Rattle.policy.specs.Layout.{Layout}
-use Rattle.policy.specs.Tables.{Tables, bit, rowOf, writeNumber, decode}
-use Rattle.policy.specs.Lookup.{contractAt, wanted, grantAt}
+use Rattle.policy.specs.Layout.{Layout, aidSize}
+use Rattle.policy.specs.Tables.{Tables, noTok, bit, rowOf, writeNumber, decode}
+use Rattle.policy.specs.Lookup.{contractAt}
 use Rattle.policy.specs.Sound.{sound}
 use Rattle.policy.specs.Judge.{Out, refusal, aidBytes, rowBytes, loadRecord, readOut}
 use Rattle.policy.specs.Settled.{Gives}
@@ -21,40 +21,43 @@ use Rattle.policy.proofs.Bits.{bit-rowOf, length-number}
 use Rattle.geometry.specs.declared.Card.{Card}
 use Rattle.geometry.specs.declared.Card.the-variants.{Small}
 use Rattle.geometry.specs.declared.Table.{Table}
-use Rattle.geometry.specs.declared.Table.the-variants.{Calls, Grants, Needs}
+use Rattle.geometry.specs.declared.Table.the-variants.{Needs}
+use Rattle.geometry.specs.declared.Kept.{Kept}
+use Rattle.geometry.specs.declared.Kept.the-variants.{UnmetCalls, WaitingGrants}
 use Rattle.geometry.specs.Geometry.{layoutOf, aidAt}
 use Rattle.policy.specs.Room.{Room}
 use Rattle.image.specs.Laid.{Laid, tableOf}
-use Rattle.image.specs.Read.{aidIn, noUnmet, unmetRow, noWaiting, waitingRow}
+use Rattle.image.specs.Read.{aidIn, itemsOf, item, itemNumber, itemAt}
+use Rattle.image.proofs.Places.{list-fits, list-short}
 use Rattle.image.proofs.Laid.{sound-laid}
-use Rattle.readout.specs.Parts.{Put, Short, given, bitRow, bitBytes, columnBytes, tableBytes, tableRows, unmetBytes, waitingBytes, tokBytes, provideBytes, callBytes, grantBytes, needBytes, rowLists, bodyBytes}
+use Rattle.readout.specs.Parts.{Put, Short, given, beside, itemRow, bitRow, bitBytes, columnBytes, tableBytes, tableRows, itemBytes, listBytes, keptRows, keptBytes, tokBytes, provideBytes, needBytes, rowLists, bodyBytes}
 use Rattle.readout.proofs.Writers.{Shorts, three-short, two-put}
 use Rattle.image.proofs.Seen.{aid-seen}
-use Rattle.readout.proofs.Rows.{calls-are, grants-are, needs-are, provides-are}
+use Rattle.readout.proofs.Rows.{kept-are, needs-are, provides-are}
 
 -- ---- how long the parts are at most
 given-most : (b : Bool) (l : List ℕ) (most : ℕ) → length l ≤ most → length (given b l) ≤ most
 given-most true l most h = h
 given-most false l most h = omega arith
 
-row-most : (r : Row) → length (r .aid) ≤ 16 → length (rowBytes r) ≤ 19
+-- a row of a record at most: an AID's place, and tokens
+abbrev rowMost : ℕ
+rowMost = aidSize + 2
+
+row-most : (r : Row) → length (r .aid) ≤ 16 → length (rowBytes r) ≤ rowMost
 row-most r h = omega (arith, length-append (r .aid) (r .tok .itf ∷ r .tok .mth ∷ []))
 
 below-most : (f : ℕ → List ℕ) (m most : ℕ) → ((i : ℕ) → i < m → length (f i) ≤ most) → length (flat f (upto m)) ≤ m * most
 below-most f m most h = subst (λ (x : ℕ). length (flat f (upto m)) ≤ x * most) (length-from 0 m) (length-flat-le f most (upto m) (λ i k. h i (upto-in m k)))
 
 module _ (L : Layout) (t : Tables) (room : Room L t) (n : ℕ) where
-  table-most : (tb : Table) → length (tableBytes L t n tb) ≤ L .packages * (L .services * 19)
-  table-most tb = below-most (columnBytes L t n tb) (L .packages) (L .services * 19)
-      (λ j _. below-most (bitBytes L t n tb j) (L .services) 19 (λ k _. given-most (tableOf tb t n j k) (rowBytes (bitRow L t n tb j k)) 19 (row-most (bitRow L t n tb j k) (room .aid-short j))))
+  table-most : (tb : Table) → length (tableBytes L t n tb) ≤ L .packages * (L .services * rowMost)
+  table-most tb = below-most (columnBytes L t n tb) (L .packages) (L .services * rowMost)
+      (λ j _. below-most (bitBytes L t n tb j) (L .services) rowMost (λ k _. given-most (tableOf tb t n j k) (rowBytes (bitRow L t n tb j k)) rowMost (row-most (bitRow L t n tb j k) (room .aid-short j))))
 
-  unmet-most : length (flat (unmetBytes L t n) (upto (length (t .unmet)))) ≤ length (t .unmet) * 19
-  unmet-most = below-most (unmetBytes L t n) (length (t .unmet)) 19
-      (λ r l. given-most (eqb (unmetRow t r .caller) n) (rowBytes (wanted (unmetRow t r))) 19 (row-most (wanted (unmetRow t r)) (room .unmet-short (unmetRow t r) (in-row (t .unmet) r noUnmet l))))
-
-  waiting-most : length (flat (waitingBytes L t n) (upto (length (t .waiting)))) ≤ length (t .waiting) * 19
-  waiting-most = below-most (waitingBytes L t n) (length (t .waiting)) 19
-      (λ r l. given-most (eqb (waitingRow t r .callee) n) (rowBytes (grantAt t (waitingRow t r))) 19 (row-most (grantAt t (waitingRow t r)) (room .waiting-short (waitingRow t r) (in-row (t .waiting) r noWaiting l))))
+  list-most : (l : Kept) → length (listBytes L t n l) ≤ length (itemsOf l t) * rowMost
+  list-most l = below-most (itemBytes L t n l) (length (itemsOf l t)) rowMost
+      (λ r m. given-most (eqb (itemNumber l (itemAt l t r)) n) (rowBytes (itemRow l (itemAt l t r))) rowMost (row-most (itemRow l (itemAt l t r)) (list-short L t room l (itemAt l t r) (in-row (itemsOf l t) r (item l [] noTok 0) m))))
 
   tok-most : length (flat (tokBytes L t n) (upto (L .services))) ≤ L .services * 2
   tok-most = below-most (tokBytes L t n) (L .services) 2 (λ k _. given-most (t .provides n k) _ 2 (omega arith))
@@ -68,24 +71,15 @@ module _ (L : Layout) (t : Tables) (room : Room L t) (n : ℕ) where
       sym (ap length e) ∙ omega arith
 
   abbrev most : ℕ
-  most = L .packages * (L .services * 19)
+  most = L .packages * (L .services * rowMost)
 
-  calls-most : length (callBytes L t n) ≤ L .countWidth + (most + L .capacity * 19)
-  calls-most = omega (
+  kept-most : (l : Kept) → length (keptBytes L t n l) ≤ L .countWidth + (most + L .capacity * rowMost)
+  kept-most l = omega (
     arith,
-    counted-most (length (contractAt L t n .calls)) (tableBytes L t n Calls) (flat (unmetBytes L t n) (upto (length (t .unmet)))) (callBytes L t n) (calls-are L t n _ refl),
-    table-most Calls,
-    unmet-most,
-    room .unmet-fits,
-  )
-
-  grants-most : length (grantBytes L t n) ≤ L .countWidth + (most + L .capacity * 19)
-  grants-most = omega (
-    arith,
-    counted-most (length (contractAt L t n .grants)) (tableBytes L t n Grants) (flat (waitingBytes L t n) (upto (length (t .waiting)))) (grantBytes L t n) (grants-are L t n _ refl),
-    table-most Grants,
-    waiting-most,
-    room .waiting-fits,
+    counted-most (length (keptRows L t n l)) (tableBytes L t n (beside l)) (listBytes L t n l) (keptBytes L t n l) (kept-are L t n l (beside l) refl _ refl),
+    table-most (beside l),
+    list-most l,
+    list-fits L t room l,
   )
 
   needs-most : length (needBytes L t n) ≤ L .countWidth + most
@@ -97,14 +91,14 @@ module _ (L : Layout) (t : Tables) (room : Room L t) (n : ℕ) where
   provides-most : length (provideBytes L t n) ≤ 1 + L .services * 2
   provides-most = let p = sym (ap length (provides-are L t n _ _ refl refl)) in omega (arith, tok-most)
 
-  body-most : length (bodyBytes L t n) ≤ 17 + (1 + L .services * 2) + (L .countWidth + (most + L .capacity * 19)) + (L .countWidth + (most + L .capacity * 19)) + (L .countWidth + most)
+  body-most : length (bodyBytes L t n) ≤ aidSize + (1 + L .services * 2) + (L .countWidth + (most + L .capacity * rowMost)) + (L .countWidth + (most + L .capacity * rowMost)) + (L .countWidth + most)
   unfolding contractAt
   body-most =
       let a = length-append (aidBytes (t .aid n)) (provideBytes L t n ++ rowLists L t n) in
       let b = length-append (provideBytes L t n) (rowLists L t n) in
-      let d = length-append (callBytes L t n) (grantBytes L t n ++ needBytes L t n) in
-      let e = length-append (grantBytes L t n) (needBytes L t n) in
-      omega (arith, room .aid-short n, provides-most, calls-most, grants-most, needs-most)
+      let d = length-append (keptBytes L t n UnmetCalls) (keptBytes L t n WaitingGrants ++ needBytes L t n) in
+      let e = length-append (keptBytes L t n WaitingGrants) (needBytes L t n) in
+      omega (arith, room .aid-short n, provides-most, kept-most UnmetCalls, kept-most WaitingGrants, needs-most)
 
 pub body-short : (c : Card) (img : List ℕ) → Laid (layoutOf c) img → (n : ℕ) → Short 4 (bodyBytes (layoutOf c) (decode (layoutOf c) img) n)
 body-short Small img h n = omega (arith, body-most (layoutOf Small) (decode (layoutOf Small) img) (h .room) n)
@@ -128,18 +122,18 @@ module _ (c : Card) (img : List ℕ) (n : ℕ) where
 
   -- ---- the body's parts
   pub lists-short : (at : ℕ) → Short at (rowLists (layoutOf c) (decode (layoutOf c) img) n)
-      → Shorts at (callBytes (layoutOf c) (decode (layoutOf c) img) n) (grantBytes (layoutOf c) (decode (layoutOf c) img) n) (needBytes (layoutOf c) (decode (layoutOf c) img) n)
-  lists-short at h = three-short at (callBytes L t n) (grantBytes L t n) (needBytes L t n) (rowLists L t n) refl h
+      → Shorts at (keptBytes (layoutOf c) (decode (layoutOf c) img) n UnmetCalls) (keptBytes (layoutOf c) (decode (layoutOf c) img) n WaitingGrants) (needBytes (layoutOf c) (decode (layoutOf c) img) n)
+  lists-short at h = three-short at (keptBytes L t n UnmetCalls) (keptBytes L t n WaitingGrants) (needBytes L t n) (rowLists L t n) refl h
 
-  module _ (ok : T (sound (layoutOf c) img)) (p : n < layoutOf c .packages) (from : ℕ) (q : from ≡ aidAt (layoutOf c) n) where
+  module _ (h : Laid (layoutOf c) img) (p : n < layoutOf c .packages) (from : ℕ) (q : from ≡ aidAt (layoutOf c) n) where
     pub body-are : aidBytes (aidIn img from) ++ (provideBytes (layoutOf c) (decode (layoutOf c) img) n ++ rowLists (layoutOf c) (decode (layoutOf c) img) n)
         ≡ bodyBytes (layoutOf c) (decode (layoutOf c) img) n
     unfolding contractAt
-    body-are = ap (λ (a : Aid). aidBytes a ++ (provideBytes L t n ++ rowLists L t n)) (aid-seen c img (sound-laid L ok) n from p q)
+    body-are = ap (λ (a : Aid). aidBytes a ++ (provideBytes L t n ++ rowLists L t n)) (aid-seen c img h n from p q)
 
     pub parts-short : (at : ℕ) → Short at (bodyBytes (layoutOf c) (decode (layoutOf c) img) n)
         → Shorts at (aidBytes (aidIn img from)) (provideBytes (layoutOf c) (decode (layoutOf c) img) n) (rowLists (layoutOf c) (decode (layoutOf c) img) n)
-    parts-short at h = three-short at (aidBytes (aidIn img from)) (provideBytes L t n) (rowLists L t n) (bodyBytes L t n) body-are h
+    parts-short at = three-short at (aidBytes (aidIn img from)) (provideBytes L t n) (rowLists L t n) (bodyBytes L t n) body-are
 
   -- ---- the whole record
   abbrev whole : List ℕ
@@ -149,9 +143,9 @@ module _ (c : Card) (img : List ℕ) (n : ℕ) where
   unfolding loadRecord
   record-length = omega arith
 
-  pub measured : T (sound (layoutOf c) img) → (r : ℕ) → r ≡ 4 + length (bodyBytes (layoutOf c) (decode (layoutOf c) img) n)
+  pub measured : Laid (layoutOf c) img → (r : ℕ) → r ≡ 4 + length (bodyBytes (layoutOf c) (decode (layoutOf c) img) n)
       → (r ≡ length (loadRecord (layoutOf c) (contractAt (layoutOf c) (decode (layoutOf c) img) n))) × (r < 65536)
-  measured ok r e = (e ∙ sym record-length, omega (arith, body-short c img (sound-laid L ok) n))
+  measured h r e = (e ∙ sym record-length, omega (arith, body-short c img h n))
 
   module _ (len v : ℕ) (el : len ≡ length (loadRecord (layoutOf c) (contractAt (layoutOf c) (decode (layoutOf c) img) n))) (ev : v ≡ layoutOf c .version) where
     abbrev front : List ℕ
@@ -183,8 +177,8 @@ module _ (c : Card) (img : List ℕ) (n : ℕ) where
       pub gives-unsound : not s ≡ true → Gives (readOut (layoutOf c) img n old) 1 0 old
       gives-unsound g = gives _ _ _ 1 0 old (sym es ∙ not-true s g) refl refl (record { answered = refl; second-is = refl; bytes-are = refl })
 
-      pub is-sound : not s ≡ false → T (sound (layoutOf c) img)
-      is-sound g = true-T (sym es ∙ not-false s g)
+      pub is-laid : not s ≡ false → Laid (layoutOf c) img
+      is-laid g = sound-laid L (true-T (sym es ∙ not-false s g))
 
       module _ (u : Bool) (eu : u ≡ ltb n (layoutOf c .packages) && decode (layoutOf c) img .used n) (gs : not s ≡ false) where
         pub gives-absent : not u ≡ true → Gives (readOut (layoutOf c) img n old) 5 0 old

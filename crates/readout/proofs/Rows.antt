@@ -8,17 +8,19 @@ use lib.ListN.{length, getD, length-append, length-map}
 use Rattle.policy.specs.Lists.{flat, keep, from, upto}
 use Rattle.policy.specs.Contract.{Row}
 use Rattle.policy.specs.Layout.{Layout}
-use Rattle.policy.specs.Tables.{Tables, Unmet, Waiting, bit, writeNumber, writeTok}
-use Rattle.policy.specs.Lookup.{wanted, grantAt, contractAt}
+use Rattle.policy.specs.Tables.{Tables, noTok, bit, writeNumber, writeTok}
+use Rattle.policy.specs.Lookup.{contractAt}
 use Rattle.policy.specs.Judge.{rowBytes, rowsBytes}
 use Rattle.policy.proofs.Sets.{flat-append}
 use Rattle.policy.proofs.Written.{number-append}
 use Rattle.geometry.specs.declared.Table.{Table}
-use Rattle.geometry.specs.declared.Table.the-variants.{Calls, Grants, Needs}
+use Rattle.geometry.specs.declared.Table.the-variants.{Needs}
+use Rattle.geometry.specs.declared.Kept.{Kept}
+use Rattle.geometry.specs.declared.Kept.the-variants.{UnmetCalls, WaitingGrants}
 use Rattle.image.specs.Laid.{tableOf}
-use Rattle.image.specs.Read.{maskOf, noUnmet, noWaiting}
+use Rattle.image.specs.Read.{maskOf, Item, itemsOf, item, itemNumber}
 use Rattle.image.proofs.Masks.{mask-count}
-use Rattle.readout.specs.Parts.{Short, given, bitRow, bitBytes, tableBytes, tableRows, unmetBytes, waitingBytes, tokBytes, provideBytes, callBytes, grantBytes, needBytes}
+use Rattle.readout.specs.Parts.{Short, given, beside, itemRow, bitRow, bitBytes, tableBytes, tableRows, listBytes, keptRows, keptBytes, tokBytes, provideBytes, needBytes}
 use Rattle.readout.proofs.Writers.{Shorts, two-short, three-short}
 
 -- ---- bytes of what is kept
@@ -58,65 +60,48 @@ module _ (L : Layout) (t : Tables) (n : ℕ) where
   table-bytes tb = flat-flat rowBytes (λ j. map (bitRow L t n tb j) (keep (tableOf tb t n j) (upto (L .services)))) (λ j. flat (bitBytes L t n tb j) (upto (L .services)))
       (λ j. kept-bytes (tableOf tb t n j) (bitRow L t n tb j) rowBytes (upto (L .services))) (upto (L .packages))
 
-  abbrev mine : Unmet → Bool
-  mine u = eqb (u .caller) n
+  -- ---- a list, and the table beside it
+  abbrev mine : (l : Kept) → Item l → Bool
+  mine l x = eqb (itemNumber l x) n
 
-  unmet-bytes : flat (unmetBytes L t n) (upto (length (t .unmet))) ≡ flat rowBytes (map wanted (keep mine (t .unmet)))
-  unmet-bytes = by-number (λ u. given (mine u) (rowBytes (wanted u))) noUnmet (t .unmet) ∙ kept-bytes mine wanted rowBytes (t .unmet)
+  abbrev ownRows : Kept → List Row
+  ownRows l = map (itemRow l) (keep (mine l) (itemsOf l t))
 
-  abbrev by-me : Waiting → Bool
-  by-me w = eqb (w .callee) n
+  list-bytes : (l : Kept) → listBytes L t n l ≡ flat rowBytes (ownRows l)
+  list-bytes l = by-number (λ x. given (mine l x) (rowBytes (itemRow l x))) (item l [] noTok 0) (itemsOf l t) ∙ kept-bytes (mine l) (itemRow l) rowBytes (itemsOf l t)
 
-  waiting-bytes : flat (waitingBytes L t n) (upto (length (t .waiting))) ≡ flat rowBytes (map (grantAt t) (keep by-me (t .waiting)))
-  waiting-bytes = by-number (λ w. given (by-me w) (rowBytes (grantAt t w))) noWaiting (t .waiting) ∙ kept-bytes by-me (grantAt t) rowBytes (t .waiting)
+  kept-rows : (l : Kept) → keptRows L t n l ≡ tableRows L t n (beside l) ++ ownRows l
+  unfolding contractAt
+  kept-rows UnmetCalls = refl
+  kept-rows WaitingGrants = refl
 
-  -- ---- how many rows there are: those of the table, and those of the list by their mask
-  module _ (rows mask own : ℕ) where
-    pub calls-counted : length (t .unmet) ≤ 32 → rows ≡ length (tableRows L t n Calls) → mask ≡ maskOf (λ u. eqb (u .caller) n) (t .unmet) → own ≡ length (keep (bit mask) (upto 32))
-        → rows + own ≡ length (contractAt L t n .calls)
-    unfolding contractAt
-    calls-counted few p m q =
-        ap₂ _+_ p (q ∙ ap (λ (x : ℕ). length (keep (bit x) (upto 32))) m ∙ mask-count mine (t .unmet) few ∙ sym (length-map (keep mine (t .unmet)) wanted))
-        ∙ sym (length-append (tableRows L t n Calls) (map wanted (keep mine (t .unmet))))
+  module _ (l : Kept) (tb : Table) (b : tb ≡ beside l) where
+    rows-are : keptRows L t n l ≡ tableRows L t n tb ++ ownRows l
+    rows-are = kept-rows l ∙ ap (λ (x : Table). tableRows L t n x ++ ownRows l) (sym b)
 
-    pub grants-counted : length (t .waiting) ≤ 32 → rows ≡ length (tableRows L t n Grants) → mask ≡ maskOf (λ w. eqb (w .callee) n) (t .waiting) → own ≡ length (keep (bit mask) (upto 32))
-        → rows + own ≡ length (contractAt L t n .grants)
-    unfolding contractAt
-    grants-counted few p m q =
-        ap₂ _+_ p (q ∙ ap (λ (x : ℕ). length (keep (bit x) (upto 32))) m ∙ mask-count by-me (t .waiting) few ∙ sym (length-map (keep by-me (t .waiting)) (grantAt t)))
-        ∙ sym (length-append (tableRows L t n Grants) (map (grantAt t) (keep by-me (t .waiting))))
+    -- how many rows there are: those of the table, and those of the list by their mask
+    pub kept-counted : (rows mask own : ℕ) → length (itemsOf l t) ≤ 32 → rows ≡ length (tableRows L t n tb) → mask ≡ maskOf (λ x. eqb (itemNumber l x) n) (itemsOf l t)
+        → own ≡ length (keep (bit mask) (upto 32)) → rows + own ≡ length (keptRows L t n l)
+    kept-counted rows mask own few p m q =
+        ap₂ _+_ p (q ∙ ap (λ (x : ℕ). length (keep (bit x) (upto 32))) m ∙ mask-count (mine l) (itemsOf l t) few ∙ sym (length-map (keep (mine l) (itemsOf l t)) (itemRow l)))
+        ∙ sym (length-append (tableRows L t n tb) (ownRows l)) ∙ sym (ap length rows-are)
+
+    module _ (count : ℕ) (e : count ≡ length (keptRows L t n l)) where
+      pub kept-are : writeNumber (L .countWidth) count [] ++ (tableBytes L t n tb ++ listBytes L t n l) ≡ keptBytes L t n l
+      kept-are =
+          two-lists L count (tableRows L t n tb) (ownRows l) (tableBytes L t n tb) (listBytes L t n l) (e ∙ ap length rows-are) (table-bytes tb) (list-bytes l)
+          ∙ sym (ap (rowsBytes L) rows-are)
+
+      pub kept-short : (at : ℕ) → Short at (keptBytes L t n l) → Shorts at (writeNumber (L .countWidth) count []) (tableBytes L t n tb) (listBytes L t n l)
+      kept-short at h = three-short at (writeNumber (L .countWidth) count []) (tableBytes L t n tb) (listBytes L t n l) (keptBytes L t n l) kept-are h
 
   -- ---- the parts that code writes one after another, and where each may start
   module _ (count : ℕ) where
     abbrev counted : List ℕ
     counted = writeNumber (L .countWidth) count []
 
-    abbrev unmetPart : List ℕ
-    unmetPart = flat (unmetBytes L t n) (upto (length (t .unmet)))
-
-    abbrev waitingPart : List ℕ
-    waitingPart = flat (waitingBytes L t n) (upto (length (t .waiting)))
-
     abbrev tokPart : List ℕ
     tokPart = flat (tokBytes L t n) (upto (L .services))
-
-    pub calls-are : count ≡ length (contractAt L t n .calls)
-        → writeNumber (L .countWidth) count [] ++ (tableBytes L t n Calls ++ flat (unmetBytes L t n) (upto (length (t .unmet)))) ≡ callBytes L t n
-    unfolding contractAt
-    calls-are e = two-lists L count (tableRows L t n Calls) (map wanted (keep mine (t .unmet))) (tableBytes L t n Calls) unmetPart e (table-bytes Calls) unmet-bytes
-
-    pub calls-short : (at : ℕ) → count ≡ length (contractAt L t n .calls) → Short at (callBytes L t n)
-        → Shorts at (writeNumber (L .countWidth) count []) (tableBytes L t n Calls) (flat (unmetBytes L t n) (upto (length (t .unmet))))
-    calls-short at e h = three-short at counted (tableBytes L t n Calls) unmetPart (callBytes L t n) (calls-are e) h
-
-    pub grants-are : count ≡ length (contractAt L t n .grants)
-        → writeNumber (L .countWidth) count [] ++ (tableBytes L t n Grants ++ flat (waitingBytes L t n) (upto (length (t .waiting)))) ≡ grantBytes L t n
-    unfolding contractAt
-    grants-are e = two-lists L count (tableRows L t n Grants) (map (grantAt t) (keep by-me (t .waiting))) (tableBytes L t n Grants) waitingPart e (table-bytes Grants) waiting-bytes
-
-    pub grants-short : (at : ℕ) → count ≡ length (contractAt L t n .grants) → Short at (grantBytes L t n)
-        → Shorts at (writeNumber (L .countWidth) count []) (tableBytes L t n Grants) (flat (waitingBytes L t n) (upto (length (t .waiting))))
-    grants-short at e h = three-short at counted (tableBytes L t n Grants) waitingPart (grantBytes L t n) (grants-are e) h
 
     pub needs-are : count ≡ length (tableRows L t n Needs) → writeNumber (L .countWidth) count [] ++ tableBytes L t n Needs ≡ needBytes L t n
     unfolding contractAt

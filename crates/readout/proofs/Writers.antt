@@ -7,6 +7,7 @@ use mathlib.Core.Path.{_≡_, refl, sym, ap, ap₂, _∙_, subst}
 use mathlib.Core.List.{List, [], _∷_, _++_, append-nil}
 use lib.ListN.{length, getD, take, drop, length-append, length-drop, take-append-drop}
 use lib.Seq.{drop-cons, length-take-le}
+use Rattle.policy.specs.Layout.{aidSize}
 use Rattle.policy.specs.Tables.{writeNumber, writeTok}
 use Rattle.policy.specs.Judge.{aidBytes}
 use Rattle.rows.specs.Area.{over, part}
@@ -48,7 +49,7 @@ module _ (at m : ℕ) (a b : List ℕ) where
       }
 
 -- ---- slices of the image
-pub aid-part : (img : List ℕ) (at : ℕ) → at + 17 ≤ length img → getD img at 0 ≤ 16 → part at (at + (1 + getD img at 0) - at) img ≡ aidBytes (aidIn img at)
+pub aid-part : (img : List ℕ) (at : ℕ) → at + aidSize ≤ length img → getD img at 0 ≤ 16 → part at (at + (1 + getD img at 0) - at) img ≡ aidBytes (aidIn img at)
 aid-part img at h l =
     let n = getD img at 0 in
     let s : length (drop (at + 1) img) ≡ length img - (at + 1) = length-drop (at + 1) img in

@@ -9,13 +9,15 @@ use Rattle.policy.specs.Lists.{flat, keep, upto}
 use Rattle.policy.specs.Contract.{Row}
 use Rattle.policy.specs.Layout.{Layout}
 use Rattle.policy.specs.Tables.{Tables, writeTok}
-use Rattle.policy.specs.Lookup.{wanted, grantAt, contractAt}
+use Rattle.policy.specs.Lookup.{contractAt}
 use Rattle.policy.specs.Judge.{rowBytes, rowsBytes, loadBody}
 use Rattle.rows.specs.Area.{over}
 use Rattle.geometry.specs.declared.Table.{Table}
 use Rattle.geometry.specs.declared.Table.the-variants.{Calls, Grants, Needs}
+use Rattle.geometry.specs.declared.Kept.{Kept}
+use Rattle.geometry.specs.declared.Kept.the-variants.{UnmetCalls, WaitingGrants}
 use Rattle.image.specs.Laid.{tableOf}
-use Rattle.image.specs.Read.{unmetRow, waitingRow}
+use Rattle.image.specs.Read.{Item, itemsOf, itemAid, itemTok, itemNumber, itemAt}
 
 -- ---- a writer: where it ends, and what it leaves of a buffer that has room for its bytes
 pub record Put (at : ℕ) (bytes old : List ℕ) (r : ℕ) (new : List ℕ) : Type 0 where
@@ -36,6 +38,15 @@ server Calls n j = j
 server Grants n j = n
 server Needs n j = j
 
+-- the table beside a list: a call is met or unmet, and a grant is in force or waits
+abbrev pub beside : Kept → Table
+beside UnmetCalls = Calls
+beside WaitingGrants = Grants
+
+-- a row of a list, as a record has it
+abbrev pub itemRow : (l : Kept) → Item l → Row
+itemRow l x = record { aid = itemAid l x; tok = itemTok l x }
+
 module _ (L : Layout) (t : Tables) (n : ℕ) where
   -- ---- a table's row of package n: a service of a column, a column, and all of them
   abbrev pub bitRow : Table → ℕ → ℕ → Row
@@ -50,12 +61,12 @@ module _ (L : Layout) (t : Tables) (n : ℕ) where
   abbrev pub tableBytes : Table → List ℕ
   tableBytes tb = flat (columnBytes tb) (upto (L .packages))
 
-  -- ---- the rows of the two lists that are package n's
-  abbrev pub unmetBytes : ℕ → List ℕ
-  unmetBytes r = given (eqb (unmetRow t r .caller) n) (rowBytes (wanted (unmetRow t r)))
+  -- ---- the rows of a list that are package n's
+  abbrev pub itemBytes : Kept → ℕ → List ℕ
+  itemBytes l r = given (eqb (itemNumber l (itemAt l t r)) n) (rowBytes (itemRow l (itemAt l t r)))
 
-  abbrev pub waitingBytes : ℕ → List ℕ
-  waitingBytes r = given (eqb (waitingRow t r .callee) n) (rowBytes (grantAt t (waitingRow t r)))
+  abbrev pub listBytes : Kept → List ℕ
+  listBytes l = flat (itemBytes l) (upto (length (itemsOf l t)))
 
   -- ---- the tokens of service k, where package n provides it
   abbrev pub tokBytes : ℕ → List ℕ
@@ -68,17 +79,18 @@ module _ (L : Layout) (t : Tables) (n : ℕ) where
   abbrev pub provideBytes : List ℕ
   provideBytes = length (contractAt L t n .provides) ∷ flat writeTok (contractAt L t n .provides)
 
-  abbrev pub callBytes : List ℕ
-  callBytes = rowsBytes L (contractAt L t n .calls)
+  abbrev pub keptRows : Kept → List Row
+  keptRows UnmetCalls = contractAt L t n .calls
+  keptRows WaitingGrants = contractAt L t n .grants
 
-  abbrev pub grantBytes : List ℕ
-  grantBytes = rowsBytes L (contractAt L t n .grants)
+  abbrev pub keptBytes : Kept → List ℕ
+  keptBytes l = rowsBytes L (keptRows l)
 
   abbrev pub needBytes : List ℕ
   needBytes = rowsBytes L (contractAt L t n .needs)
 
   abbrev pub rowLists : List ℕ
-  rowLists = callBytes ++ (grantBytes ++ needBytes)
+  rowLists = keptBytes UnmetCalls ++ (keptBytes WaitingGrants ++ needBytes)
 
   abbrev pub bodyBytes : List ℕ
   bodyBytes = loadBody L (contractAt L t n)

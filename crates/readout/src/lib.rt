@@ -3,17 +3,17 @@ ghost use mathlib.Core.Path.{_≡_};
 ghost use mathlib.Core.Bool.{_&&_};
 ghost use mathlib.Core.List.{_++_};
 ghost use Prim.Native.Nat.{_≤_, _<_};
-ghost use lib.Dec.{T, ltb};
+ghost use lib.Dec.{ltb};
 ghost use lib.ListN.{length, drop};
 ghost use Rattle.policy.specs.Tables.{decode};
 ghost use Rattle.policy.specs.Lookup.{contractAt};
-ghost use Rattle.policy.specs.Sound.{sound};
 ghost use Rattle.policy.specs.Judge.{loadRecord, readOut};
 ghost use Rattle.policy.specs.Settled.{Gives};
 ghost use Rattle.geometry.specs.Geometry.{layoutOf};
 ghost use Rattle.image.specs.Laid.{Laid};
 ghost use Rattle.readout.specs.Parts.{Put, Short, rowLists, bodyBytes};
 use geometry::Card;
+use geometry::Kept;
 
 mod lists;
 mod pen;
@@ -40,19 +40,19 @@ fn is_used(img: &[u8], c: Card, n: usize) -> bool
 
 // What package n calls, grants and needs.
 fn put_lists(img: &[u8], c: Card, n: usize, out: &mut [u8], at: usize) -> usize
-    requires is_sound { ⌜ T (sound (layoutOf c) (now img)) ⌝ }
+    requires laid { ⌜ Laid (layoutOf c) (now img) ⌝ }
     requires inside { ⌜ n < layoutOf c .packages ⌝ }
     requires short { ⌜ Short at (rowLists (layoutOf c) (decode (layoutOf c) (now img)) n) ⌝ }
     ensures { λ r. ⌜ Put at (rowLists (layoutOf c) (decode (layoutOf c) (now (img .entry))) n) (now (out .entry)) r (now (out .exit)) ⌝ }
 {
-    let grants = sections::put_calls(img, c, n, out, at);
-    let needs = sections::put_grants(img, c, n, out, grants);
+    let grants = sections::put_rows(img, c, Kept::UnmetCalls, n, out, at);
+    let needs = sections::put_rows(img, c, Kept::WaitingGrants, n, out, grants);
     sections::put_needs(img, c, n, out, needs)
 }
 
 // The contract of package n: what follows the version and the kind.
 fn put_body(img: &[u8], c: Card, n: usize, out: &mut [u8], at: usize) -> usize
-    requires is_sound { ⌜ T (sound (layoutOf c) (now img)) ⌝ }
+    requires laid { ⌜ Laid (layoutOf c) (now img) ⌝ }
     requires inside { ⌜ n < layoutOf c .packages ⌝ }
     requires short { ⌜ Short at (bodyBytes (layoutOf c) (decode (layoutOf c) (now img)) n) ⌝ }
     ensures { λ r. ⌜ Put at (bodyBytes (layoutOf c) (decode (layoutOf c) (now (img .entry))) n) (now (out .entry)) r (now (out .exit)) ⌝ }
@@ -65,7 +65,7 @@ fn put_body(img: &[u8], c: Card, n: usize, out: &mut [u8], at: usize) -> usize
 
 // The length of package n's record, found by writing its contract where nothing of it is kept.
 fn measure(img: &[u8], c: Card, n: usize) -> usize
-    requires is_sound { ⌜ T (sound (layoutOf c) (now img)) ⌝ }
+    requires laid { ⌜ Laid (layoutOf c) (now img) ⌝ }
     requires inside { ⌜ n < layoutOf c .packages ⌝ }
     ensures { λ r. ⌜ (r ≡ length (loadRecord (layoutOf c) (contractAt (layoutOf c) (decode (layoutOf c) (now (img .entry))) n))) × (r < 65536) ⌝ }
 {
@@ -75,7 +75,7 @@ fn measure(img: &[u8], c: Card, n: usize) -> usize
 
 // Package n's record, of so many bytes, at the front of a buffer that has room for it.
 fn write_record(img: &[u8], c: Card, n: usize, len: usize, out: &mut [u8])
-    requires is_sound { ⌜ T (sound (layoutOf c) (now img)) ⌝ }
+    requires laid { ⌜ Laid (layoutOf c) (now img) ⌝ }
     requires inside { ⌜ n < layoutOf c .packages ⌝ }
     requires room { ⌜ (len ≡ length (loadRecord (layoutOf c) (contractAt (layoutOf c) (decode (layoutOf c) (now img)) n))) × (len ≤ length (now out)) ⌝ }
     ensures { λ _. ⌜ now (out .exit) ≡ loadRecord (layoutOf c) (contractAt (layoutOf c) (decode (layoutOf c) (now (img .entry))) n) ++ drop len (now (out .entry)) ⌝ }

@@ -2,6 +2,7 @@
 ghost use mathlib.Core.List.{[], _++_};
 ghost use Prim.Native.Nat.{_+_, _≤_, _<_};
 ghost use lib.ListN.{length, getD};
+ghost use Rattle.policy.specs.Layout.{aidSize};
 ghost use Rattle.policy.specs.Tables.{writeNumber, writeTok};
 ghost use Rattle.policy.specs.Judge.{aidBytes};
 ghost use Rattle.geometry.specs.Geometry.{layoutOf};
@@ -24,7 +25,7 @@ pub fn put(src: &[u8], out: &mut [u8], at: usize) -> usize
 
 // The AID in the place at `from`: its length and its bytes.
 pub fn put_aid(img: &[u8], from: usize, out: &mut [u8], at: usize) -> usize
-    requires inside { ⌜ (from + 17 ≤ length (now img)) × (getD (now img) from 0 ≤ 16) ⌝ }
+    requires inside { ⌜ (from + aidSize ≤ length (now img)) × (getD (now img) from 0 ≤ 16) ⌝ }
     requires short { ⌜ Short at (aidBytes (aidIn (now img) from)) ⌝ }
     ensures { λ r. ⌜ Put at (aidBytes (aidIn (now (img .entry)) from)) (now (out .entry)) r (now (out .exit)) ⌝ }
 {
@@ -45,7 +46,7 @@ pub fn put_tokens(img: &[u8], from: usize, out: &mut [u8], at: usize) -> usize
 
 // A row: the AID in the place at `from`, and the tokens at `tok`.
 pub fn put_row(img: &[u8], from: usize, tok: usize, out: &mut [u8], at: usize) -> usize
-    requires inside { ⌜ (from + 17 ≤ length (now img)) × (getD (now img) from 0 ≤ 16) × (tok + 2 ≤ length (now img)) ⌝ }
+    requires inside { ⌜ (from + aidSize ≤ length (now img)) × (getD (now img) from 0 ≤ 16) × (tok + 2 ≤ length (now img)) ⌝ }
     requires short { ⌜ Short at (aidBytes (aidIn (now img) from) ++ writeTok (tokensIn (now img) tok)) ⌝ }
     ensures { λ r. ⌜ Put at (aidBytes (aidIn (now (img .entry)) from) ++ writeTok (tokensIn (now (img .entry)) tok)) (now (out .entry)) r (now (out .exit)) ⌝ }
 {

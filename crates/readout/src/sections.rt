@@ -1,38 +1,34 @@
 // The four lists of a contract: a count, then what it counts.
 ghost use mathlib.Core.Path.{_≡_};
 ghost use Prim.Native.Nat.{_<_};
-ghost use lib.Dec.{T};
 ghost use lib.ListN.{length};
 ghost use Rattle.policy.specs.Tables.{decode};
-ghost use Rattle.policy.specs.Lookup.{contractAt};
-ghost use Rattle.policy.specs.Sound.{sound};
 ghost use Rattle.geometry.specs.Geometry.{layoutOf};
 ghost use Rattle.image.specs.Laid.{Laid};
-ghost use Rattle.readout.specs.Parts.{Put, Short, provideBytes, callBytes, grantBytes, needBytes};
+ghost use Rattle.readout.specs.Parts.{Put, Short, beside, keptRows, keptBytes, provideBytes, needBytes};
 use geometry::Card;
+use geometry::Kept;
 use geometry::Table;
 
-// How many calls package n has: bits of its row, and unmet ones.
-fn count_calls(img: &[u8], c: Card, n: usize) -> usize
-    requires laid { ⌜ Laid (layoutOf c) (now img) ⌝ }
-    requires inside { ⌜ n < layoutOf c .packages ⌝ }
-    ensures { λ r. ⌜ r ≡ length (contractAt (layoutOf c) (decode (layoutOf c) (now (img .entry))) n .calls) ⌝ }
+// The table that holds the other rows of the kind: the met calls, or the grants that are in force.
+fn table_beside(l: Kept) -> Table
+    ensures { λ r. ⌜ r ≡ beside l ⌝ }
 {
-    let rows = crate::tables::count_rows(img, c, Table::Calls, n);
-    let mask = image::lists::calling(img, c, n);
-    let own = image::lists::mask_count(mask);
-    let total = rows + own;
-    total
+    match l {
+        Kept::UnmetCalls => Table::Calls,
+        Kept::WaitingGrants => Table::Grants,
+    }
 }
 
-// How many grants package n gives: bits of its row, and waiting ones.
-fn count_grants(img: &[u8], c: Card, n: usize) -> usize
+// How many calls or grants package n has: bits of its row, and rows of the list.
+fn count_rows(img: &[u8], c: Card, l: Kept, n: usize) -> usize
     requires laid { ⌜ Laid (layoutOf c) (now img) ⌝ }
     requires inside { ⌜ n < layoutOf c .packages ⌝ }
-    ensures { λ r. ⌜ r ≡ length (contractAt (layoutOf c) (decode (layoutOf c) (now (img .entry))) n .grants) ⌝ }
+    ensures { λ r. ⌜ r ≡ length (keptRows (layoutOf c) (decode (layoutOf c) (now (img .entry))) n l) ⌝ }
 {
-    let rows = crate::tables::count_rows(img, c, Table::Grants, n);
-    let mask = image::lists::granted_by(img, c, n);
+    let tb = table_beside(l);
+    let rows = crate::tables::count_rows(img, c, tb, n);
+    let mask = image::lists::with_number(img, c, l, n);
     let own = image::lists::mask_count(mask);
     let total = rows + own;
     total
@@ -52,30 +48,18 @@ pub fn put_provides(img: &[u8], c: Card, n: usize, out: &mut [u8], at: usize) ->
     crate::lists::put_services(img, c, n, out, next)
 }
 
-// What package n calls.
-pub fn put_calls(img: &[u8], c: Card, n: usize, out: &mut [u8], at: usize) -> usize
+// What package n calls, or grants.
+pub fn put_rows(img: &[u8], c: Card, l: Kept, n: usize, out: &mut [u8], at: usize) -> usize
     requires laid { ⌜ Laid (layoutOf c) (now img) ⌝ }
     requires inside { ⌜ n < layoutOf c .packages ⌝ }
-    requires short { ⌜ Short at (callBytes (layoutOf c) (decode (layoutOf c) (now img)) n) ⌝ }
-    ensures { λ r. ⌜ Put at (callBytes (layoutOf c) (decode (layoutOf c) (now (img .entry))) n) (now (out .entry)) r (now (out .exit)) ⌝ }
+    requires short { ⌜ Short at (keptBytes (layoutOf c) (decode (layoutOf c) (now img)) n l) ⌝ }
+    ensures { λ r. ⌜ Put at (keptBytes (layoutOf c) (decode (layoutOf c) (now (img .entry))) n l) (now (out .entry)) r (now (out .exit)) ⌝ }
 {
-    let count = count_calls(img, c, n);
+    let tb = table_beside(l);
+    let count = count_rows(img, c, l, n);
     let rows = crate::pen::put_count(c, count, out, at);
-    let unmet = crate::tables::put_table(img, c, Table::Calls, n, out, rows);
-    crate::lists::put_unmet(img, c, n, out, unmet)
-}
-
-// What package n grants.
-pub fn put_grants(img: &[u8], c: Card, n: usize, out: &mut [u8], at: usize) -> usize
-    requires is_sound { ⌜ T (sound (layoutOf c) (now img)) ⌝ }
-    requires inside { ⌜ n < layoutOf c .packages ⌝ }
-    requires short { ⌜ Short at (grantBytes (layoutOf c) (decode (layoutOf c) (now img)) n) ⌝ }
-    ensures { λ r. ⌜ Put at (grantBytes (layoutOf c) (decode (layoutOf c) (now (img .entry))) n) (now (out .entry)) r (now (out .exit)) ⌝ }
-{
-    let count = count_grants(img, c, n);
-    let rows = crate::pen::put_count(c, count, out, at);
-    let waiting = crate::tables::put_table(img, c, Table::Grants, n, out, rows);
-    crate::lists::put_waiting(img, c, n, out, waiting)
+    let list = crate::tables::put_table(img, c, tb, n, out, rows);
+    crate::lists::put_list(img, c, l, n, out, list)
 }
 
 // What package n needs.

@@ -1,7 +1,6 @@
 -- `readout::put_body` meets its contract. Assumes nothing.
 use denote.Ref.{now}
 use borrow.Author.Needs.{needs}
-use Rattle.image.proofs.Laid.{sound-laid}
 use Rattle.readout.proofs.Writers.{three-put}
 use Rattle.readout.proofs.Placed.{aid-fits}
 use Rattle.readout.proofs.Records.{body-are, parts-short}
@@ -11,12 +10,12 @@ use Rattle.readout.proofs.put_body.Tie as tie
 put-aid-requires : tie.Need-put-aid-requires
 put-aid-requires c κs =
     let s = c .before .before .before .before in
-    (aid-fits (s .args .c) (now (s .args .img)) (sound-laid _ (s .pre .0)) (s .args .n) _ (s .pre .1 .0) (c .before .aid-at .ensures), parts-short (s .args .c) (now (s .args .img)) (s .args .n) (s .pre .0) (s .pre .1 .0) _ (c .before .aid-at .ensures) _ (s .pre .1 .1) .first)
+    (aid-fits (s .args .c) (now (s .args .img)) (s .pre .0) (s .args .n) _ (s .pre .1 .0) (c .before .aid-at .ensures), parts-short (s .args .c) (now (s .args .img)) (s .args .n) (s .pre .0) (s .pre .1 .0) _ (c .before .aid-at .ensures) _ (s .pre .1 .1) .first)
 
 put-provides-requires : tie.Need-put-provides-requires
 put-provides-requires c κs =
     let s = c .before .before .before .before .before .before .before .before in
-    (sound-laid _ (s .pre .0), (s .pre .1 .0, parts-short (s .args .c) (now (s .args .img)) (s .args .n) (s .pre .0) (s .pre .1 .0) _ (c .before .before .before .before .before .aid-at .ensures) _ (s .pre .1 .1) .second _ (c .before .before .before .put-aid .ensures .ends)))
+    (s .pre .0, (s .pre .1 .0, parts-short (s .args .c) (now (s .args .img)) (s .args .n) (s .pre .0) (s .pre .1 .0) _ (c .before .before .before .before .before .aid-at .ensures) _ (s .pre .1 .1) .second _ (c .before .before .before .put-aid .ensures .ends)))
 
 put-lists-requires : tie.Need-put-lists-requires
 put-lists-requires c κs =

@@ -2,8 +2,7 @@
 use native.Mathlib.Omega.{arith}
 use denote.Ref.{now}
 use borrow.Author.Needs.{needs}
-use Rattle.image.proofs.Laid.{sound-laid}
-use Rattle.readout.proofs.Records.{is-sound, is-inside, gives-unsound, gives-absent, gives-no-room, gives-record}
+use Rattle.readout.proofs.Records.{is-laid, is-inside, gives-unsound, gives-absent, gives-no-room, gives-record}
 use Rattle.readout.proofs.read_out.Statement.{statement}
 use Rattle.readout.proofs.read_out.Tie as tie
 
@@ -11,7 +10,7 @@ returns : tie.Need-returns
 returns c = let a = c .before .before .before .before .args in gives-unsound (a .c) (now (a .img)) (a .n) _ _ (c .before .is-sound .ensures) (c .if1 .taken)
 
 is-used-requires : tie.Need-is-used-requires
-is-used-requires c κs = let a = c .before .before .before .before .args in sound-laid _ (is-sound (a .c) (now (a .img)) (a .n) (now (a .out)) _ (c .before .is-sound .ensures) (c .if1 .left))
+is-used-requires c κs = let a = c .before .before .before .before .args in is-laid (a .c) (now (a .img)) (a .n) (now (a .out)) _ (c .before .is-sound .ensures) (c .if1 .left)
 
 returns-2 : tie.Need-returns-2
 returns-2 c = let a = c .before .before .before .before .before .before .args in gives-absent (a .c) (now (a .img)) (a .n) _ _ (c .before .before .before .is-sound .ensures) _ (c .before .is-used .ensures) (c .before .before .if1 .left) (c .if2 .taken)
@@ -21,7 +20,7 @@ measure-requires c κs =
     let a = c .before .before .before .before .before .before .args in
     let s = c .before .before .before .is-sound .ensures in
     let g = c .before .before .if1 .left in
-    (is-sound (a .c) (now (a .img)) (a .n) (now (a .out)) _ s g, is-inside (a .c) (now (a .img)) (a .n) (now (a .out)) _ s _ (c .before .is-used .ensures) g (c .if2 .left))
+    (is-laid (a .c) (now (a .img)) (a .n) (now (a .out)) _ s g, is-inside (a .c) (now (a .img)) (a .n) (now (a .out)) _ s _ (c .before .is-used .ensures) g (c .if2 .left))
 
 returns-3 : tie.Need-returns-3
 returns-3 c =
@@ -33,7 +32,7 @@ write-record-requires c κs =
     let a = c .before .before .before .before .before .before .before .before .before .args in
     let s = c .before .before .before .before .before .before .is-sound .ensures in
     let g = c .before .before .before .before .before .if1 .left in (
-      is-sound (a .c) (now (a .img)) (a .n) (now (a .out)) _ s g,
+      is-laid (a .c) (now (a .img)) (a .n) (now (a .out)) _ s g,
       (is-inside (a .c) (now (a .img)) (a .n) (now (a .out)) _ s _ (c .before .before .before .before .is-used .ensures) g (c .before .before .before .if2 .left), (c .before .before .measure .ensures .0, c .before .if3 .left)),
     )
 

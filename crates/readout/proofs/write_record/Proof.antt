@@ -2,7 +2,6 @@
 use native.Mathlib.Omega.{arith}
 use denote.Ref.{now}
 use borrow.Author.Needs.{needs}
-use Rattle.image.proofs.Laid.{sound-laid}
 use Rattle.readout.proofs.Records.{body-short, written}
 use Rattle.readout.proofs.write_record.Statement.{statement}
 use Rattle.readout.proofs.write_record.Tie as tie
@@ -10,7 +9,7 @@ use Rattle.readout.proofs.write_record.Tie as tie
 put-body-requires : tie.Need-put-body-requires
 put-body-requires c κs =
     let s = c .before .before .before .before .before .before .before .before .before in
-    (s .pre .0, (s .pre .1 .0, omega (arith, body-short (s .args .c) (now (s .args .img)) (sound-laid _ (s .pre .0)) (s .args .n), c .before .before .before .put .ensures .ends)))
+    (s .pre .0, (s .pre .1 .0, omega (arith, body-short (s .args .c) (now (s .args .img)) (s .pre .0) (s .args .n), c .before .before .before .put .ensures .ends)))
 
 returns : tie.Need-returns
 returns c =
