@@ -5,35 +5,37 @@ use mathlib.Core.Path.{_≡_, refl, sym, ap, _∙_, subst}
 use mathlib.Core.Logic.{_⊎_, inl, inr, ⊎-map}
 use mathlib.Core.Bool.{Bool, true, false, not, cond}
 use mathlib.Core.List.{List, [], _∷_, map}
-use mathlib.Core.List.{List·Memᴰ as In, List·Memᴰ·not-nil as in-nil}
-use lib.Dec.{T, eqb, leb, leb→le, ltb}
+use mathlib.Core.List.{List·Memᴰ as In, List·Memᴰ·head as here, List·Memᴰ·not-nil as in-nil}
+use lib.Dec.{T, eqb, eqb→eq, leb, leb→le, ltb}
 use lib.ListN.{length, take, drop}
 use lib.Seq.{take-append-seam}
 use Rattle.policy.specs.Lists.{every}
 use Rattle.policy.specs.Contract.{Aid, Contract, validAid}
-use Rattle.policy.specs.Layout.{small}
+use Rattle.policy.specs.Layout.{narrow, small}
 use Rattle.policy.specs.Causes.{Cause, _when_, answer}
 use Rattle.policy.specs.Tables.{decode, emptyImage}
 use Rattle.policy.specs.Judge.{Out, refusal, judge, check, writeEmpty, loadRecord}
 use Rattle.policy.specs.Lookup.{contractAt}
 use Rattle.policy.specs.Sound.{sound}
-use Rattle.policy.specs.History.{SameContract, answers, imageAfter, StandsFor, contractsAfter}
-use Rattle.policy.specs.Eras.{answersOver, imageOver, machineAnswersOver, contractsOver, imageThen, contractsThen}
+use Rattle.policy.specs.History.{SameContract, AllValid, answers, imageAfter, StandsFor, contractsAfter}
+use Rattle.policy.specs.Eras.{carried, convert, answersOver, imageOver, machineAnswersOver, contractsOver, imageThen, contractsThen}
 use Rattle.policy.specs.Claims.{RefusesWith, IsFirst, allCauses}
-use Rattle.policy.proofs.Sets.{T-false, and-l, and-r, test, every-in, each-cons}
+use Rattle.policy.proofs.Sets.{and-l, and-r, test, every-in, each-cons}
 use Rattle.policy.proofs.Answers.{ascends, first-is}
 use Rattle.policy.proofs.ParseFacts.{first-aid-part}
 use Rattle.policy.proofs.Entries.{answers-always}
 use Rattle.policy.proofs.Numbering.{second-number, check-counts}
 use Rattle.policy.proofs.Placing.{placing}
 use Rattle.policy.proofs.Records.{longest-record}
-use Rattle.policy.proofs.Eras.{history-from}
-use Rattle.policy.proofs.Theorems.{empty-stands, so-far, first-cause, accepted-exactly, sound-stands, read-out-again, small-ok}
+use Rattle.policy.proofs.SoundFacts.{sound-sized}
+use Rattle.policy.proofs.Step.{unsound-refused}
+use Rattle.policy.proofs.Eras.{converts, history-from}
+use Rattle.policy.proofs.Theorems.{empty-stands, so-far, first-cause, accepted-exactly, sound-stands, read-out-again, card-ok, small-ok}
 use Rattle.card.specs.Packed.{answerOf, secondOf, aidPlace}
-use Rattle.card.specs.Calls.{Returned, Calls}
-use Rattle.card.specs.Demands.{Refused, CallsAnswer, CallsCause, CallsVerdict, Restores, CallsReadOut, CallsNumber, HistoryOfCalls, CallsHistory, CallsAid}
+use Rattle.card.specs.Calls.{Returned, Converted, Calls}
+use Rattle.card.specs.Demands.{Refused, CallsAnswer, CallsCause, CallsVerdict, Restores, CallsReadOut, CallsNumber, HistoryOfCalls, imageOld, contractsOld, CallsHistory, CallsConvert, CallsAid}
 use Rattle.card.proofs.Packs.{placed, aid-short}
-use Rattle.card.proofs.Tells.{Tells, checked-tells, emptied-tells, judged-tells, wrote, read-tells}
+use Rattle.card.proofs.Tells.{Tells, checked-tells, emptied-tells, converted, converted-tells, judged-tells, wrote, read-tells}
 
 -- ---- demand 1
 refused : {o : Out} {r : ℕ} {left : List ℕ} → Returned o r left → Tells o r → {ns : List ℕ} {second : ℕ} {lent : List ℕ} → RefusesWith ns second lent o → Refused ns second lent r left
@@ -51,6 +53,8 @@ calls-answer =
       emptying = λ lent r left c. let t = emptied-tells lent c in
           ⊎-map (λ h. (t .answer ∙ ap (λ (z : Out). z .answered) (h .0), t .second ∙ ap (λ (z : Out). z .second) (h .0), c .left-is ∙ ap (λ (z : Out). z .bytes) (h .0), h .1))
           (refused c t) (answers-always small .emptying lent);
+      converting = λ old lent r left c. let t = converted-tells old lent c in
+          ⊎-map (λ h. (t .answer ∙ ap (λ (z : Out). z .answered) (h .2), t .second ∙ ap (λ (z : Out). z .second) (h .2), eqb→eq (length lent) 1110 (h .1))) (refused c t) (converted old lent .1);
       judging = λ image rec r left c. let t = judged-tells image rec c in ⊎-map (λ h. (t .answer ∙ h .0, rw (t .second) (h .1))) (refused c t) (answers-always small .judging image rec);
       reading = λ image n lent r left c. let t = read-tells image n lent c in
           ⊎-map (λ h. (t .answer ∙ h .0, rw (c .left-is) (h .1), rw (t .second, c .left-is) (h .2))) (refused c t) (answers-always small .reading image n lent);
@@ -66,9 +70,9 @@ check-caused : (image : List ℕ) → check small image .answered ≡ answer (1 
 unfolding check
 check-caused image = caused (sound small image) _ (refusal 1 255 image) refl refl
 
-empty-caused : (lent : List ℕ) → writeEmpty small lent .answered ≡ answer (1 when not (eqb (length lent) 1094) ∷ [])
+empty-caused : (lent : List ℕ) → writeEmpty small lent .answered ≡ answer (1 when not (eqb (length lent) 1110) ∷ [])
 unfolding writeEmpty
-empty-caused lent = caused (eqb (length lent) 1094) _ (refusal 1 255 lent) refl refl
+empty-caused lent = caused (eqb (length lent) 1110) _ (refusal 1 255 lent) refl refl
 
 first-of : {o : Out} {r : ℕ} (l : List Cause) → Tells o r → o .answered ≡ answer l → T (ascends 0 l) → IsFirst (answerOf r) l
 first-of l t e up = subst (λ (n : ℕ). IsFirst n l) (sym (t .answer ∙ e)) (first-is 0 l up)
@@ -78,6 +82,7 @@ calls-cause =
     record {
       checking = λ image r c. first-of _ (checked-tells image c) (check-caused image) tt;
       emptying = λ lent r left c. first-of _ (emptied-tells lent c) (empty-caused lent) tt;
+      converting = λ old lent r left c. first-of _ (converted-tells old lent c) (converted old lent .0) tt;
       reading = λ image n lent r left c. first-of _ (read-tells image n lent c) (wrote image n lent .0) tt;
     }
 
@@ -187,26 +192,69 @@ calls-refused image all (s ∷ ss) (r ∷ rs) {left} (mid, c, h) =
       k .1,
     )
 
--- what is checked with 0 is sound
-checked-sound : (image : List ℕ) → check small image .answered ≡ 0 → T (sound small image)
-checked-sound image = sound-if image (λ h. check-caused image ∙ ap (λ (b : Bool). answer (1 when not b ∷ [])) (T-false (sound small image) h))
+-- what was converted with 0 was sound, and its tables and contracts stay
+module _ (old lent : List ℕ) {r : ℕ} {image : List ℕ} (c : Converted old lent r image) (z : answerOf r ≡ 0) where
+  took : T (sound narrow old) × T (eqb (length lent) 1110) × (convert narrow small old lent ≡ record { answered = 0; second = 0; bytes = carried narrow small old })
+  took = accepted (1 ∷ []) tt z (⊎-map (λ h. h) (refused c (converted-tells old lent c)) (converted old lent .1))
+
+  image-is : carried narrow small old ≡ image
+  image-is = sym (c .left-is ∙ ap (λ (o : Out). o .bytes) (took .2))
+
+  converted-stands : (cs : List Contract) → StandsFor narrow old cs → StandsFor small image cs
+  converted-stands cs f = subst (λ (b : List ℕ). StandsFor small b cs) image-is (so-far .converted old cs f .1)
+
+  converted-tables : decode small image ≡ decode narrow old
+  converted-tables =
+      let s = sound-stands narrow card-ok old (took .0) in
+      subst (λ (b : List ℕ). decode small b ≡ decode narrow old) image-is (so-far .converted old (s .0) (s .1) .0)
+
+-- an image that is not sound stays as it is
+stays : (img : List ℕ) → (T (sound narrow img) → ⊥) → (ss : List (List ℕ)) → imageAfter narrow img ss ≡ img
+unfolding imageAfter
+stays img bad [] = refl
+stays img bad (s ∷ ss) = ap (λ (o : Out). imageAfter narrow (o .bytes) ss) (unsound-refused narrow img s bad) ∙ stays img bad ss
+
+-- an image of version 01 has not the card's size
+old-unsound : (old : List ℕ) → T (sound narrow old) → T (sound small old) → ⊥
+old-unsound old ok h = let e = sound-sized narrow old ok in let f = sound-sized small old h in omega arith
+
+-- a card of version 01 goes on where it held no higher method token at R-7's change, and only there
+old-stands : (before middle : List (List ℕ)) → AllValid narrow (contractsThen before) → StandsFor narrow (imageOld before middle) (contractsOld before middle)
+unfolding imageOver contractsOver
+old-stands before middle al = history-from narrow card-ok (imageThen before) (contractsThen before) (so-far .goes-on before al) middle [] tt .stands-for
+
+old-valid : (before middle : List (List ℕ)) → T (sound narrow (imageOld before middle)) → AllValid narrow (contractsThen before)
+old-valid before middle ok = go (test (sound narrow (imageThen before)))
+  where
+    go : T (sound narrow (imageThen before)) ⊎ (T (sound narrow (imageThen before)) → ⊥) → AllValid narrow (contractsThen before)
+    go (inl h) = so-far .told before h
+    go (inr h) = absurd (h (subst (λ (b : List ℕ). T (sound narrow b)) (stays (imageThen before) h middle) ok))
 
 pub calls-history : CallsHistory
-unfolding imageAfter
 calls-history =
     record {
-      told = λ before r c. (
-        λ z. so-far .told before (checked-sound (imageThen before) (sym (checked-tells (imageThen before) c .answer) ∙ z)),
-        λ al. calls-number .checking (imageThen before) r (contractsThen before) c (so-far .goes-on before al) .0,
-      );
       from-empty = λ lent r image c z ss rs left h.
           let e = accepted (1 ∷ []) tt z (calls-answer .emptying lent r image c) .2 in
           calls-from (emptyImage small) [] (empty-stands small small-ok) ss rs left (subst (λ (b : List ℕ). Calls b ss rs left) e h);
-      over-change = λ before ss rs left al. calls-from (imageThen before) (contractsThen before) (so-far .goes-on before al) ss rs left;
-      left-out = λ before ss rs left held h.
-          let o = so-far .left-out before held in
-          let k = calls-refused (imageThen before) (o .refuses []) ss rs h in
-          record { unsound = o .unsound; each = k .0; left-is = k .1 };
+      over-conversion = λ before middle lent r image c z.
+          let al = old-valid before middle (took (imageOld before middle) lent c z .0) in
+          calls-from image (contractsOld before middle) (converted-stands (imageOld before middle) lent c z (contractsOld before middle) (old-stands before middle al));
+      told = λ before middle lent r left c e. (
+        λ z. old-valid before middle (took (imageOld before middle) lent c z .0),
+        λ al. converted-tells (imageOld before middle) lent c .answer
+            ∙ ap (λ (o : Out). o .answered) (converts narrow small (imageOld before middle) lent .taken (old-stands before middle al .is-sound) e),
+      );
+    }
+
+pub calls-convert : CallsConvert
+calls-convert =
+    record {
+      kept = λ old lent r image c z. (took old lent c z .0, converted-tables old lent c z, converted-stands old lent c z);
+      checking = λ old r ok c. refused c (checked-tells old c) (1, here refl, so-far .refused old ok .checking);
+      reading = λ old n lent r left ok c. refused c (read-tells old n lent c) (1, here refl, so-far .refused old ok .reading n lent);
+      judging = λ old ss rs left ok h.
+          let k = calls-refused old (so-far .refused old ok .judging) ss rs h in
+          record { unsound = old-unsound old ok; each = k .0; left-is = k .1 };
     }
 
 -- ---- the first AID

@@ -1,23 +1,35 @@
 -- What an outcome's parts give as one number, and where a record's first AID stands. Assumes nothing.
 use Prim.Native.Nat.{ℕ, _≤_}
 use native.Mathlib.Omega.{arith}
-use mathlib.Core.Path.{_≡_, refl, sym, ap, _∙_}
+use mathlib.Core.Path.{_≡_, refl, sym, ap, _∙_, subst}
+use mathlib.Core.Bool.{Bool, cond}
 use mathlib.Core.List.{List, [], _∷_}
 use mathlib.Core.Option.{Option, none, some}
 use lib.Dec.{leb, leb→le}
 use lib.ListN.{length}
 use Rattle.policy.specs.Contract.{Aid}
-use Rattle.policy.specs.Layout.{Layout}
+use Rattle.policy.specs.Layout.{Layout, narrow, small}
 use Rattle.policy.specs.Record.{Request, parse, firstAid}
 use Rattle.policy.specs.Judge.{Out}
 use Rattle.policy.specs.Settled.{Gives}
+use Rattle.policy.specs.Eras.{convert}
 use Rattle.policy.proofs.Sets.{and-r}
 use Rattle.policy.proofs.ParseFacts.{first-aid-part}
-use Rattle.card.specs.Packed.{joined, aidPlace}
+use Rattle.geometry.specs.declared.Card.the-variants.{Small}
+use Rattle.converter.specs.Converted.{Converted}
+use Rattle.converter.proofs.Written.{convert-is}
+use Rattle.card.specs.Packed.{joined, packed, aidPlace}
 use Rattle.card.specs.Calls.{Returned}
 
 pub packs : {o : Out} {number second r : ℕ} {left : List ℕ} → Gives o number second left → r ≡ joined number second → Returned o r left
 packs g e = record { result = e ∙ (λ i. joined (sym (g .answered) i) (sym (g .second-is) i)); left-is = sym (g .bytes-are) }
+
+-- ---- a conversion that was made, or was not
+pub conversion : {old lent left : List ℕ} {taken : Bool} → Converted Small old lent taken left → (b : Bool) → taken ≡ b → {r : ℕ} → r ≡ joined (cond b 0 1) (cond b 0 255)
+    → Returned (convert narrow small old lent) r left
+conversion {old} {lent} {left} h b e p =
+    let o = convert-is Small old lent b left (subst (λ (x : Bool). Converted Small old lent x left) e h) in
+    record { result = p ∙ sym (ap packed o); left-is = sym (ap (λ (z : Out). z .bytes) o) }
 
 -- ---- the place of an AID
 pub placed : (a : Aid) → (length a ≡ 0 → ⊥) → aidPlace a ≡ joined 5 (length a)

@@ -6,20 +6,22 @@ use mathlib.Core.Logic.{_⊎_, inl, inr, ⊎-elim}
 use mathlib.Core.Bool.{Bool, true, false, not, _&&_, cond}
 use mathlib.Core.List.{List, [], _∷_, _++_}
 use mathlib.Core.List.{List·Memᴰ·head as here, List·Memᴰ·tail as there}
-use lib.Dec.{T, leb, ltb}
+use lib.Dec.{T, eqb, leb, ltb}
 use lib.ListN.{length, drop}
-use Rattle.policy.specs.Layout.{small}
+use Rattle.policy.specs.Layout.{narrow, small}
 use Rattle.policy.specs.Causes.{_when_, answer}
 use Rattle.policy.specs.Tables.{decode}
 use Rattle.policy.specs.Lookup.{contractAt}
 use Rattle.policy.specs.Sound.{sound}
 use Rattle.policy.specs.Judge.{Out, refusal, judge, check, writeEmpty, loadRecord, readOut}
+use Rattle.policy.specs.Eras.{carried, convert}
 use Rattle.policy.specs.Claims.{RefusesWith}
 use Rattle.policy.proofs.Entries.{answers-always}
 use Rattle.geometry.specs.declared.Card.the-variants.{Small}
+use Rattle.image.proofs.Laid.{sound-laid}
 use Rattle.readout.proofs.Records.{measured}
 use Rattle.card.specs.Packed.{answerOf, secondOf}
-use Rattle.card.specs.Calls.{Returned, Checked, Emptied, Judged, ReadInto}
+use Rattle.card.specs.Calls.{Returned, Checked, Emptied, Converted, Judged, ReadInto}
 
 pub record Tells (o : Out) (r : ℕ) : Type 0 where
   pub answer : answerOf r ≡ o .answered
@@ -38,6 +40,26 @@ checked-tells image c = tells-either c (omega arith) (λ h. omega arith) (answer
 
 pub emptied-tells : (lent : List ℕ) {r : ℕ} {left : List ℕ} → Emptied lent r left → Tells (writeEmpty small lent) r
 emptied-tells lent c = tells-either c (omega arith) (λ h. let e = ap (λ (z : Out). z .second) (h .0) in omega arith) (answers-always small .emptying lent)
+
+-- ---- converting, by its two tests: the image is carried over, or the call is refused
+module _ (old lent : List ℕ) where
+  abbrev pub carry : Out
+  carry = record { answered = 0; second = 0; bytes = carried narrow small old }
+
+  abbrev pub Carried : Bool → Bool → Out → Type 0
+  Carried a b o = (o .answered ≡ answer (1 when not (a && b) ∷ [])) × ((T a × T b × (o ≡ carry)) ⊎ RefusesWith (1 ∷ []) 255 lent o)
+
+  carried-by : (a b : Bool) → Carried a b (cond (a && b) carry (refusal 1 255 lent))
+  carried-by true true = (refl, inl (tt, tt, refl))
+  carried-by true false = (refl, inr (1, here refl, refl))
+  carried-by false b = (refl, inr (1, here refl, refl))
+
+  pub converted : Carried (sound narrow old) (eqb (length lent) 1110) (convert narrow small old lent)
+  unfolding convert
+  converted = carried-by (sound narrow old) (eqb (length lent) 1110)
+
+  pub converted-tells : {r : ℕ} {left : List ℕ} → Converted old lent r left → Tells (convert narrow small old lent) r
+  converted-tells c = tells-either c (omega arith) (λ (ok, long, e). let q = ap (λ (z : Out). z .second) e in omega arith) (converted .1)
 
 pub judged-tells : (image rec : List ℕ) {r : ℕ} {left : List ℕ} → Judged image rec r left → Tells (judge small image rec) r
 judged-tells image rec c = tells-either c (omega arith) (λ h. omega arith) (answers-always small .judging image rec)
@@ -66,4 +88,4 @@ module _ (image : List ℕ) (n : ℕ) (lent : List ℕ) where
   wrote = wrote-by (sound small image) (ltb n 8 && decode small image .used n) (leb (length rec) (length lent))
 
   pub read-tells : {r : ℕ} {left : List ℕ} → ReadInto image n lent r left → Tells (readOut small image n lent) r
-  read-tells c = tells-either c (omega arith) (λ (ok, un, e). let low = measured Small image n ok _ refl in let q = ap (λ (z : Out). z .second) e in omega (arith, low .0, low .1)) (wrote .1)
+  read-tells c = tells-either c (omega arith) (λ (ok, un, e). let low = measured Small image n (sound-laid small ok) _ refl in let q = ap (λ (z : Out). z .second) e in omega (arith, low .0, low .1)) (wrote .1)

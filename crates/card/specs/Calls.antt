@@ -1,11 +1,12 @@
 -- What a call of each exported function returns and leaves: the functions' contracts, and what the demands speak of. `small` has the rules in
--- force, R-7's.
+-- force, R-2's.
 use Prim.Native.Nat.{ℕ}
 use mathlib.Core.Path.{_≡_}
 use mathlib.Core.List.{List, [], _∷_}
-use Rattle.policy.specs.Layout.{small}
+use Rattle.policy.specs.Layout.{narrow, small}
 use Rattle.policy.specs.Record.{firstAid}
 use Rattle.policy.specs.Judge.{Out, judge, check, writeEmpty, readOut}
+use Rattle.policy.specs.Eras.{convert}
 use Rattle.card.specs.Packed.{packed, aidPlace}
 
 -- a call that returned r and left these bytes has this outcome
@@ -20,6 +21,10 @@ Checked image r = Returned (check small image) r image
 -- card_empty
 abbrev pub Emptied : List ℕ → ℕ → List ℕ → Type 0
 Emptied lent r left = Returned (writeEmpty small lent) r left
+
+-- card_convert: an image of version 01, by R-7's rules
+abbrev pub Converted : List ℕ → List ℕ → ℕ → List ℕ → Type 0
+Converted old lent r left = Returned (convert narrow small old lent) r left
 
 -- card_judge
 abbrev pub Judged : List ℕ → List ℕ → ℕ → List ℕ → Type 0

@@ -10,7 +10,7 @@ use lib.Dec.{T, eqb, leb, ltb}
 use lib.ListN.{length, take, drop}
 use Rattle.policy.specs.Lists.{from}
 use Rattle.policy.specs.Contract.{Contract, lawful}
-use Rattle.policy.specs.Layout.{small}
+use Rattle.policy.specs.Layout.{narrow, small}
 use Rattle.policy.specs.Record.{Request, parse, proper}
 use Rattle.policy.specs.Causes.{Cause, _when_}
 use Rattle.policy.specs.Machine.{effect, causes4to7}
@@ -19,13 +19,13 @@ use Rattle.policy.specs.Lookup.{contractAt}
 use Rattle.policy.specs.Sound.{sound}
 use Rattle.policy.specs.Judge.{loadRecord}
 use Rattle.policy.specs.Records.{loadOf, requestOf}
-use Rattle.policy.specs.History.{SameContract, AllAllowed, StandsFor, machineAnswers, contractsAfter}
+use Rattle.policy.specs.History.{SameContract, AllValid, StandsFor, imageAfter, machineAnswers, contractsAfter}
 use Rattle.policy.specs.Numbering.{Numbered}
 use Rattle.policy.specs.Placing.{Placed}
 use Rattle.policy.specs.Eras.{imageThen, contractsThen}
 use Rattle.policy.specs.Claims.{CallsGranted, NeedsPresent, FitsLimits, IsFirst, allCauses}
 use Rattle.card.specs.Packed.{answerOf, secondOf}
-use Rattle.card.specs.Calls.{Checked, Emptied, Judged, ReadInto, AidFound, Calls}
+use Rattle.card.specs.Calls.{Checked, Emptied, Converted, Judged, ReadInto, AidFound, Calls}
 
 -- ---- demand 1: the answer and its second number are of document 01's table
 -- a refusal: one of these answers, this second number, and what was lent is left
@@ -39,7 +39,10 @@ pub record CallsAnswer : Type 0 where
       → ((answerOf r ≡ 0) × (secondOf r ≤ 8))
       ⊎ Refused (1 ∷ []) 255 image r image
   pub emptying : (lent : List ℕ) (r : ℕ) (left : List ℕ) → Emptied lent r left
-      → ((answerOf r ≡ 0) × (secondOf r ≡ 0) × (left ≡ emptyImage small) × (length lent ≡ 1094))
+      → ((answerOf r ≡ 0) × (secondOf r ≡ 0) × (left ≡ emptyImage small) × (length lent ≡ 1110))
+      ⊎ Refused (1 ∷ []) 255 lent r left
+  pub converting : (old lent : List ℕ) (r : ℕ) (left : List ℕ) → Converted old lent r left
+      → ((answerOf r ≡ 0) × (secondOf r ≡ 0) × (length lent ≡ 1110))
       ⊎ Refused (1 ∷ []) 255 lent r left
   pub judging : (image rec : List ℕ) (r : ℕ) (left : List ℕ) → Judged image rec r left
       → ((answerOf r ≡ 0) × (secondOf r < 8))
@@ -51,7 +54,9 @@ pub record CallsAnswer : Type 0 where
 -- ---- demand 2: 'The lowest number that applies is given, and a number is given only for its cause.'
 pub record CallsCause : Type 0 where
   pub checking : (image : List ℕ) (r : ℕ) → Checked image r → IsFirst (answerOf r) (1 when not (sound small image) ∷ [])
-  pub emptying : (lent : List ℕ) (r : ℕ) (left : List ℕ) → Emptied lent r left → IsFirst (answerOf r) (1 when not (eqb (length lent) 1094) ∷ [])
+  pub emptying : (lent : List ℕ) (r : ℕ) (left : List ℕ) → Emptied lent r left → IsFirst (answerOf r) (1 when not (eqb (length lent) 1110) ∷ [])
+  pub converting : (old lent : List ℕ) (r : ℕ) (left : List ℕ) → Converted old lent r left
+      → IsFirst (answerOf r) (1 when not (sound narrow old && eqb (length lent) 1110) ∷ [])
   pub reading : (image : List ℕ) (number : ℕ) (lent : List ℕ) (r : ℕ) (left : List ℕ) → ReadInto image number lent r left
       → IsFirst (answerOf r)
       (1 when not (sound small image)
@@ -65,9 +70,9 @@ pub record VerdictOfCall (image rec : List ℕ) (r : ℕ) : Type 0 where
   pub unsound : (T (sound small image) → ⊥) → answerOf r ≡ 1
   pub first-cause : (cs : List Contract) → StandsFor small image cs → IsFirst (answerOf r) (allCauses small cs rec)
   -- 'a well-formed record free of causes 3 to 6 is accepted exactly when the contracts it would leave installed' are lawful and fit
-  pub accepted-exactly : (cs : List Contract) (q : Request) → StandsFor small image cs → parse small rec ≡ some q → T (proper (q .aid) (q .change))
+  pub accepted-exactly : (cs : List Contract) (q : Request) → StandsFor small image cs → parse small rec ≡ some q → T (proper small (q .aid) (q .change))
       → ((k : Cause) → In k (causes4to7 small cs (q .aid) (q .change)) → k .number < 7 → T (k .applies) → ⊥)
-      → (answerOf r ≡ 0) ↔ (T (lawful (effect cs (q .aid) (q .change))) × FitsLimits small (effect cs (q .aid) (q .change)))
+      → (answerOf r ≡ 0) ↔ (T (lawful (effect small cs (q .aid) (q .change))) × FitsLimits small (effect small cs (q .aid) (q .change)))
   -- every sound image stands for some contracts
   pub sound-stands : T (sound small image) → (cs : List Contract) × StandsFor small image cs
 
@@ -78,7 +83,7 @@ CallsVerdict = (image rec : List ℕ) (r : ℕ) (left : List ℕ) → Judged ima
 -- a record is well formed, has no cause 3, and is the contract again; a card that accepts it holds the same four sets
 pub record Restores (c : Contract) (rec : List ℕ) : Type 0 where
   pub parses : parse small rec ≡ some (requestOf c)
-  pub is-proper : T (proper (c .aid) (loadOf c))
+  pub is-proper : T (proper small (c .aid) (loadOf c))
   pub loads-again : (image : List ℕ) (r : ℕ) (left : List ℕ) → Judged image rec r left → answerOf r ≡ 0
       → (m : ℕ) × T (decode small left .used m) × SameContract c (contractAt small (decode small left) m)
 
@@ -110,18 +115,31 @@ pub record AllRefused (image rs left : List ℕ) : Type 0 where
   pub each : (r : ℕ) → In r rs → (answerOf r ≡ 1) × (secondOf r ≡ 255)
   pub left-is : left ≡ image
 
+-- a card of version 01: records by document 01's rules, R-7's change, records by R-7's; its image, and the contracts that the machine then holds
+abbrev pub imageOld : List (List ℕ) → List (List ℕ) → List ℕ
+imageOld before middle = imageAfter narrow (imageThen before) middle
+
+abbrev pub contractsOld : List (List ℕ) → List (List ℕ) → List Contract
+contractsOld before middle = contractsAfter narrow (contractsThen before) middle
+
 pub record CallsHistory : Type 0 where
   -- from a call that wrote the empty image
   pub from-empty : (lent : List ℕ) (r : ℕ) (image : List ℕ) → Emptied lent r image → answerOf r ≡ 0
       → (ss : List (List ℕ)) (rs left : List ℕ) → Calls image ss rs left → HistoryOfCalls [] ss rs left
-  -- over R-7's change, on a card whose records before it were judged by document 01's rules: it goes on where it holds no method token of 128
-  -- or more, which the check tells,
-  pub told : (before : List (List ℕ)) (r : ℕ) → Checked (imageThen before) r → (answerOf r ≡ 0) ↔ AllAllowed small (contractsThen before)
-  pub over-change : (before ss : List (List ℕ)) (rs left : List ℕ) → AllAllowed small (contractsThen before) → Calls (imageThen before) ss rs left
-      → HistoryOfCalls (contractsThen before) ss rs left
-  -- and where it holds one: 'that card is unsound from then on'
-  pub left-out : (before ss : List (List ℕ)) (rs left : List ℕ) → (AllAllowed small (contractsThen before) → ⊥) → Calls (imageThen before) ss rs left
-      → AllRefused (imageThen before) rs left
+  -- from a call that converted a card of version 01
+  pub over-conversion : (before middle : List (List ℕ)) (lent : List ℕ) (r : ℕ) (image : List ℕ) → Converted (imageOld before middle) lent r image → answerOf r ≡ 0
+      → (ss : List (List ℕ)) (rs left : List ℕ) → Calls image ss rs left → HistoryOfCalls (contractsOld before middle) ss rs left
+  -- a buffer of the card's size takes every such card but those that R-7 left out, which held a method token of 128 or more at its change
+  pub told : (before middle : List (List ℕ)) (lent : List ℕ) (r : ℕ) (left : List ℕ) → Converted (imageOld before middle) lent r left → length lent ≡ 1110
+      → (answerOf r ≡ 0) ↔ AllValid narrow (contractsThen before)
+
+-- ---- R-2: 'numbers and list order kept': the tables stay, and so do the contracts that they stand for; 'the engine gives 1 for' version 01
+pub record CallsConvert : Type 0 where
+  pub kept : (old lent : List ℕ) (r : ℕ) (image : List ℕ) → Converted old lent r image → answerOf r ≡ 0
+      → T (sound narrow old) × (decode small image ≡ decode narrow old) × ((cs : List Contract) → StandsFor narrow old cs → StandsFor small image cs)
+  pub checking : (old : List ℕ) (r : ℕ) → T (sound narrow old) → Checked old r → Refused (1 ∷ []) 255 old r old
+  pub reading : (old : List ℕ) (number : ℕ) (lent : List ℕ) (r : ℕ) (left : List ℕ) → T (sound narrow old) → ReadInto old number lent r left → Refused (1 ∷ []) 0 lent r left
+  pub judging : (old : List ℕ) (ss : List (List ℕ)) (rs left : List ℕ) → T (sound narrow old) → Calls old ss rs left → AllRefused old rs left
 
 -- ---- the first AID: 0 for a malformed record, else 5 and the length of the AID, which stands there
 pub record AidTold (rec : List ℕ) (r : ℕ) : Type 0 where

@@ -1,7 +1,7 @@
-// The engine's C functions, on the card of 1,094 bytes, by the rules in force (R-7's). Each takes any bytes of any length: none asks anything of its caller.
+// The engine's C functions, on the card of 1,110 bytes, by the rules in force (R-2's). Each takes any bytes of any length: none asks anything of its caller.
 ghost use mathlib.Core.Path.{_≡_};
 ghost use Rattle.card.specs.Packed.{joined};
-ghost use Rattle.card.specs.Calls.{Checked, Emptied, Judged, ReadInto, AidFound};
+ghost use Rattle.card.specs.Calls.{Checked, Emptied, Converted, Judged, ReadInto, AidFound};
 use geometry::Card;
 
 // An answer and its second number in one number.
@@ -27,6 +27,17 @@ pub extern "C" fn card_empty(image: &mut [u8]) -> u32
 {
     let emptied = engine::empty::write_empty(image, Card::Small);
     join(emptied.number, emptied.second as u16)
+}
+
+// Converts an image of version 01.
+#[no_mangle]
+pub extern "C" fn card_convert(old: &[u8], image: &mut [u8]) -> u32
+    ensures { λ r. ⌜ Converted (now (old .entry)) (now (image .entry)) r (now (image .exit)) ⌝ }
+{
+    if converter::convert(old, Card::Small, image) {
+        return join(0, 0);
+    }
+    join(1, 255)
 }
 
 // Judges a record on an image, and changes the image where it is accepted.

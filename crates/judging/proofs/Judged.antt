@@ -40,7 +40,7 @@ module _ (L : Layout) (img s : List ℕ) {ok : Bool} (e : ok ≡ sound L img) wh
     pub malformed : {number second : ℕ} → r ≡ Malformed → (number ≡ 2) × (second ≡ 255) → Gives (judge L img s) number second img
     malformed q v = refuses (judge-malformed L img s (passed e h) (parsed-none p q)) v
 
-    module _ {x : Record} (q : r ≡ Whole x) {b : Bool} (d : b ≡ proper (aidIn s (x .aid)) (kindOf s (x .kind))) where
+    module _ {x : Record} (q : r ≡ Whole x) {b : Bool} (d : b ≡ proper L (aidIn s (x .aid)) (kindOf s (x .kind))) where
       pub improper : {number second : ℕ} → not b ≡ true → (number ≡ 3) × (second ≡ 255) → Gives (judge L img s) number second img
       improper t v = refuses (judge-improper L img s (recordOf s x) (passed e h) (parsed-some p q) (failed d t)) v
 

@@ -2,7 +2,6 @@
 use Prim.Native.Nat.{ℕ}
 use mathlib.Core.Path.{_≡_, refl}
 use mathlib.Core.List.{List, [], _∷_, _++_}
-use Rattle.policy.specs.Layout.{small}
 use Rattle.policy.specs.Marked.{loadH, loadB, loadC, removeH}
 use Rattle.policy.specs.Record.{parse, proper}
 use Rattle.policy.specs.Tables.{decode, encode, emptyImage}
@@ -10,10 +9,9 @@ use Rattle.policy.specs.Sound.{sound}
 use Rattle.policy.specs.Lookup.{numberOf, freeNumber, freeService, contractAt}
 use Rattle.policy.specs.Draft.{look, draft, numberFor}
 use Rattle.policy.specs.Judge.{judge}
-use Rattle.policy.specs.Records.{longestRecord}
 use Rattle.lines.specs.declared.Frame.the-variants.{Record, Bad}
 use Rattle.lines.specs.Lines.{digits}
-use Rattle.lines.specs.Frames.{longest, announced, session}
+use Rattle.lines.specs.Frames.{announced, session}
 use Rattle.lines.specs.Session.{printed}
 
 -- 1 1 0 0, 2 1 8 -, 3 1 0 1, 4 2 9 -
@@ -46,7 +44,3 @@ edges = (refl, refl, refl, refl, refl)
 -- lengths of 3, 4, 4,145 and 4,146
 pub lengths : (announced 0 3 ≡ Bad) × (announced 0 4 ≡ Record 4) × (announced 16 49 ≡ Record 4145) × (announced 16 50 ≡ Bad)
 lengths = (refl, refl, refl, refl)
-
--- the longest record that is read
-pub longest-record : longest ≡ longestRecord small
-longest-record = refl

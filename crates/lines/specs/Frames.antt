@@ -4,6 +4,8 @@ use mathlib.Core.Bool.{Bool, true, false, _&&_, cond}
 use mathlib.Core.List.{List, [], _∷_}
 use lib.Dec.{leb}
 use lib.ListN.{length, take, drop}
+use Rattle.policy.specs.Layout.{small}
+use Rattle.policy.specs.Records.{longestRecord}
 use Rattle.lines.specs.declared.Frame.{Frame}
 use Rattle.lines.specs.declared.Frame.the-variants.{Record, Bad}
 use Rattle.lines.specs.declared.Held.{Held}
@@ -11,7 +13,7 @@ use Rattle.lines.specs.declared.Held.the-variants as held
 
 -- the longest record
 abbrev pub longest : ℕ
-longest = 4145
+longest = longestRecord small
 
 -- what two length bytes, big-endian, announce
 abbrev pub announced : ℕ → ℕ → Frame

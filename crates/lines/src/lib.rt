@@ -99,6 +99,9 @@ pub fn bad_line(out: &mut [u8; 40], ordinal: u64) -> usize
     write_line(out, ordinal, Shown::None, 2, Shown::None)
 }
 
+// Bytes of the longest record.
+pub const LONGEST: usize = 4145;
+
 // What the two length bytes of an input announce.
 pub fn frame_length(high: u8, low: u8) -> Frame
     ensures { λ r. ⌜ r ≡ announced high low ⌝ }
@@ -107,7 +110,7 @@ pub fn frame_length(high: u8, low: u8) -> Frame
     if n < 4 {
         return Frame::Bad;
     }
-    if n > 4145 {
+    if n > LONGEST {
         return Frame::Bad;
     }
     Frame::Record(n)

@@ -162,7 +162,7 @@ fn run(image: &mut [u8], buf: &mut [u8]) -> Progress
 }
 
 fn main() {
-    let mut image = [0u8; 1094];
-    let mut buf = [0u8; 4145];
+    let mut image = [0u8; geometry::SMALL];
+    let mut buf = [0u8; lines::LONGEST];
     run(&mut image, &mut buf);
 }

@@ -51,13 +51,13 @@ returns-3 c =
     let e = c .before .before .before .before in
     let d = e .before .before in
     improper _ _ _ (d .before .before .is-sound .ensures) (d .before .if1 .left) (d .read-record .ensures) (e .r .given .1)
-    (c .before .before .is-proper .ensures) (c .before .if2 .taken) (c .refused3 .ensures)
+    (c .before .before .is-proper .ensures (d .before .before .before .before .before .before .args .c)) (c .before .if2 .taken) (c .refused3 .ensures)
 
 settle-requires : tie.Need-settle-requires
 settle-requires c κs =
     let e = c .before .before .before .before in
     let d = e .before .before in
-    let h = asked _ _ _ (d .before .before .is-sound .ensures) (d .before .if1 .left) (d .read-record .ensures) (e .r .given .1) (c .before .before .is-proper .ensures) (c .before .if2 .left) in
+    let h = asked _ _ _ (d .before .before .is-sound .ensures) (d .before .if1 .left) (d .read-record .ensures) (e .r .given .1) (c .before .before .is-proper .ensures (d .before .before .before .before .before .before .args .c)) (c .before .if2 .left) in
     (h, parsed-fits (d .read-record .ensures) (e .r .given .1))
 
 same-length-4 : tie.Need-same-length-4
@@ -69,7 +69,7 @@ returns-4 c =
     let e = f .before .before .before in
     let d = e .before .before in
     settles _ _ _ (d .before .before .is-sound .ensures) (d .before .if1 .left) (d .read-record .ensures) (e .r .given .1)
-    (f .before .is-proper .ensures) (f .if2 .left) (c .before .before .settle .ensures)
+    (f .before .is-proper .ensures (d .before .before .before .before .before .before .args .c)) (f .if2 .left) (c .before .before .settle .ensures)
 
 pub judge-spec : {M : Type 1} → statement M
 judge-spec =
