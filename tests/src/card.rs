@@ -1,11 +1,13 @@
-//! The five entries of a card engine, so that engines can be compared and timed alike.
+//! The six entries of a card engine, so that engines can be compared and timed alike.
 
 use crate::bytes;
 use crate::rules::Rules;
 use std::fmt;
 
 /// The bytes of an image.
-pub const IMAGE: usize = 1094;
+pub const IMAGE: usize = 1110;
+/// The bytes of an image of version 01, which a converter takes over.
+pub const OLD_IMAGE: usize = 1094;
 /// The bytes of the longest record.
 pub const LONGEST_RECORD: usize = 4145;
 
@@ -42,6 +44,7 @@ pub trait Card {
     fn name(&self) -> &'static str;
     fn check(&self, image: &[u8]) -> Verdict;
     fn empty(&self, image: &mut [u8]) -> Verdict;
+    fn convert(&self, old: &[u8], image: &mut [u8]) -> Verdict;
     fn judge(&self, image: &mut [u8], record: &[u8]) -> Verdict;
     fn read_out(&self, image: &[u8], number: u32, out: &mut [u8]) -> Verdict;
     fn aid<'a>(&self, record: &'a [u8]) -> &'a [u8];
@@ -63,7 +66,11 @@ impl Card for Bytes {
     }
 
     fn empty(&self, image: &mut [u8]) -> Verdict {
-        verdict(bytes::empty(image))
+        verdict(bytes::empty(self.0, image))
+    }
+
+    fn convert(&self, old: &[u8], image: &mut [u8]) -> Verdict {
+        verdict(bytes::convert(old, image))
     }
 
     fn judge(&self, image: &mut [u8], record: &[u8]) -> Verdict {
@@ -99,6 +106,10 @@ impl Card for Engine {
 
     fn empty(&self, image: &mut [u8]) -> Verdict {
         crate::engine::exact::empty(image)
+    }
+
+    fn convert(&self, old: &[u8], image: &mut [u8]) -> Verdict {
+        crate::engine::exact::convert(old, image)
     }
 
     fn judge(&self, image: &mut [u8], record: &[u8]) -> Verdict {

@@ -1,15 +1,15 @@
 //! One table: every case of the paper's "At the edges", its misreadings of the report, the report's worked example, and
 //! the edges of the requests that have landed. Each case starts on the empty image.
 
+pub mod early;
 mod edges;
 mod misread;
 pub mod tokens;
 pub mod worked;
 
-use crate::card::{Bytes, Card, Verdict, IMAGE};
-use crate::compare::{Compare, Tally};
+use crate::card::{Card, Verdict, BYTES};
+use crate::compare::{Compare, Difference, Tally};
 use crate::history::Event;
-use crate::rules::Rules;
 use crate::run::caught;
 use crate::write;
 
@@ -24,8 +24,8 @@ pub struct Case {
     pub name: &'static str,
     /// Whether the paper marks it.
     pub marked: bool,
-    /// Judged before the rules in force, by document 01's. Where there are none, no rules change.
-    pub before: Vec<Step>,
+    /// What is judged by the rules before each change that the case goes over, the earliest first.
+    pub before: Vec<Vec<Step>>,
     pub steps: Vec<Step>,
 }
 
@@ -37,7 +37,7 @@ pub struct Step {
 
 /// Every case, in the paper's order.
 pub fn all() -> Vec<Case> {
-    [edges::cases(), misread::cases(), worked::cases(), tokens::cases()].into_iter().flatten().collect()
+    [edges::cases(), misread::cases(), worked::cases(), tokens::cases(), early::cases()].into_iter().flatten().collect()
 }
 
 /// The case of this name.
@@ -50,12 +50,9 @@ impl Case {
     pub fn run(&self, cards: &[&dyn Card]) -> Result<Vec<Verdict>, String> {
         let judged = caught(|| {
             let (mut compare, mut tally) = (Compare::before(cards, 0, self.changes())?, Tally::default());
-            let mut judge = |steps: &[Step], compare: &mut Compare| {
-                steps.iter().map(|step| compare.step(&step.record, &mut tally)).collect::<Result<Vec<_>, _>>()
-            };
-            let before = judge(&self.before, &mut compare)?;
-            (0..self.changes()).try_for_each(|_| compare.change(&mut Tally::default()))?;
-            Ok([before, judge(&self.steps, &mut compare)?].concat())
+            let mut verdicts = self.begin(&mut compare, &mut tally)?;
+            verdicts.extend(judge(&self.steps, &mut compare, &mut tally)?);
+            Ok(verdicts)
         });
         let verdicts = judged.map_err(|difference| difference.to_string())?;
         match verdicts.iter().eq(self.expected()) {
@@ -64,39 +61,51 @@ impl Case {
         }
     }
 
-    /// The line that the program prints for the case. The verdicts before the rules in force stand before a bar.
-    pub fn line(&self, verdicts: &[Verdict]) -> String {
-        let (before, after) = verdicts.split_at(self.before.len());
-        let before = if before.is_empty() { String::new() } else { format!("{} | ", words(before)) };
-        format!("{}{}: {before}{}", if self.marked { "M " } else { "" }, self.name, words(after))
+    /// Judges what is before the rules in force, and goes over the changes.
+    fn begin(&self, compare: &mut Compare, tally: &mut Tally) -> Result<Vec<Verdict>, Difference> {
+        let mut verdicts = Vec::new();
+        for steps in &self.before {
+            verdicts.extend(judge(steps, compare, tally)?);
+            compare.change(tally)?;
+        }
+        Ok(verdicts)
     }
 
-    /// The records, and the change of the rules behind those before it.
+    /// The image that the rules in force find.
+    pub fn image(&self) -> Vec<u8> {
+        let cards: [&dyn Card; 1] = [&BYTES];
+        let mut compare = Compare::before(&cards, 0, self.changes()).expect("an empty card");
+        assert!(self.begin(&mut compare, &mut Tally::default()).is_ok(), "{}", self.name);
+        compare.image
+    }
+
+    /// The line that the program prints for the case. A bar stands where the rules change.
+    pub fn line(&self, verdicts: &[Verdict]) -> String {
+        let mut left = verdicts.iter();
+        let times = self.before.iter().chain([&self.steps]);
+        let times: Vec<String> = times.map(|steps| words(left.by_ref().take(steps.len()))).collect();
+        format!("{}{}: {}", if self.marked { "M " } else { "" }, self.name, times.join(" | "))
+    }
+
+    /// The records, and a change of the rules behind those before it.
     pub fn history(&self) -> Vec<Event> {
         let records = |steps: &[Step]| steps.iter().map(|step| Event::Record(step.record.clone())).collect::<Vec<_>>();
-        [records(&self.before), vec![Event::Change; self.changes()], records(&self.steps)].concat()
+        let before = self.before.iter().flat_map(|steps| [records(steps), vec![Event::Change]].concat());
+        before.chain(records(&self.steps)).collect()
     }
 
-    /// How often the rules change between what is before and the rest.
+    /// How often the rules change in the case.
     fn changes(&self) -> usize {
-        if self.before.is_empty() {
-            0
-        } else {
-            Rules::CHANGES
-        }
-    }
-
-    /// The image that the rules in force find: the empty one, or that of the records before.
-    pub fn image(&self) -> Vec<u8> {
-        let (card, mut image) = (Bytes(Rules::DOCUMENT_01), vec![0; IMAGE]);
-        card.empty(&mut image);
-        self.before.iter().for_each(|step| assert_eq!(card.judge(&mut image, &step.record), step.verdict));
-        image
+        self.before.len()
     }
 
     fn expected(&self) -> impl Iterator<Item = &Verdict> {
-        self.before.iter().chain(&self.steps).map(|step| &step.verdict)
+        self.before.iter().flatten().chain(&self.steps).map(|step| &step.verdict)
     }
+}
+
+fn judge(steps: &[Step], compare: &mut Compare, tally: &mut Tally) -> Result<Vec<Verdict>, Difference> {
+    steps.iter().map(|step| compare.step(&step.record, tally)).collect()
 }
 
 fn words<'a>(verdicts: impl IntoIterator<Item = &'a Verdict>) -> String {
@@ -111,8 +120,8 @@ fn case(name: &'static str, steps: Vec<Step>) -> Case {
     over(name, Vec::new(), steps)
 }
 
-/// A case over the change of the rules.
-fn over(name: &'static str, before: Vec<Step>, steps: Vec<Step>) -> Case {
+/// A case over the changes of the rules, with what comes before each of them.
+fn over(name: &'static str, before: Vec<Vec<Step>>, steps: Vec<Step>) -> Case {
     Case { name, marked: false, before, steps }
 }
 

@@ -1,7 +1,8 @@
 //! What is compared after each record: the plain machine, the byte engine, and every other engine.
 
-use crate::card::{Bytes, Card, Verdict, IMAGE, LONGEST_RECORD};
+use crate::card::{Bytes, Card, Verdict, IMAGE, LONGEST_RECORD, OLD_IMAGE};
 use crate::damage::Damage;
+use crate::early::Early;
 use crate::hex::to_hex;
 use crate::history::Event;
 use crate::machine::record::{self, Lists};
@@ -10,7 +11,7 @@ use crate::methods::{self, Held, Place};
 use crate::pairs::{possible, Kind, Pairs};
 use crate::random::Random;
 use crate::rules::Rules;
-use crate::tables;
+use crate::tables::{self, Tables};
 use std::collections::{BTreeMap, BTreeSet};
 use std::fmt;
 use std::hint::black_box;
@@ -68,14 +69,19 @@ pub struct Tally {
     pub left_out: u64,
     pub gone_on: u64,
     pub cleared: u64,
+    /// Images of version 01, damaged or not: those that are converted, and those that are refused.
+    pub converted: u64,
+    pub not_converted: u64,
+    /// What R-2 brought about in accepted records.
+    pub early: BTreeMap<Early, u64>,
     /// By their places in records: method tokens of 127 that are read, and of 128 where nothing else is wrong.
     pub methods: BTreeMap<Place, [u64; 2]>,
-    /// Method tokens that damage sets to 127 on an image that stays sound, and to 128: of services, and of unmet calls.
-    pub methods_held: [[u64; 2]; 2],
+    /// By their places in images: method tokens that damage sets to 127 on an image that stays sound, and to 128.
+    pub methods_held: BTreeMap<Held, [u64; 2]>,
 }
 
 /// The byte engine alone, by the rules before each change, the last change first.
-const BEFORE: [&[&dyn Card]; Rules::CHANGES] = [&[&Bytes(Rules::before(1))]];
+const BEFORE: [&[&dyn Card]; Rules::CHANGES] = [&[&Bytes(Rules::before(1))], &[&Bytes(Rules::before(2))]];
 
 /// One card in every engine, and the machine beside them.
 pub struct Compare<'a> {
@@ -90,7 +96,7 @@ pub struct Compare<'a> {
     /// Whether the card ever held, before a change, what the rules in force exclude.
     held_excluded: bool,
     pub machine: Machine,
-    /// The image, the same in every engine.
+    /// The image, the same in every engine. It has the version of the rules, but for a card left out before it was converted.
     pub image: Vec<u8>,
     seed: u64,
 }
@@ -104,12 +110,11 @@ impl<'a> Compare<'a> {
     /// An empty card, by the rules before the last so many changes.
     pub fn before(linked: &'a [&'a dyn Card], seed: u64, changes: usize) -> Result<Compare<'a>, String> {
         let most = Rules::CHANGES;
-        expect!(changes <= most, "a history has at most {most} change of the rules, here are {changes}");
+        expect!(changes <= most, "a history has at most {most} changes of the rules, here are {changes}");
         let cards = engines(linked, changes);
-        let mut image = vec![0; IMAGE];
-        image[..3].copy_from_slice(&[0x04, 0x46, 0x01]);
+        let image = Tables::default().write(Rules::before(changes));
         for card in cards {
-            let mut written = vec![0xA5; IMAGE];
+            let mut written = FILL[..image.len()].to_vec();
             let verdict = card.empty(&mut written);
             expect!(verdict == Verdict::new(0, 0), "{}: writing the empty image gives {verdict:?}", card.name());
             expect!(written == image, "{}: the empty image is {}", card.name(), to_hex(&written));
@@ -143,12 +148,20 @@ impl<'a> Compare<'a> {
         }
     }
 
-    /// The next rules come into force: their engines get the image's bytes as they are, and the machine goes on with the
-    /// contracts it holds. A card with a token that these rules exclude is unsound from then on.
+    /// The next rules come into force: their engines get the image's bytes as they are, or as they are converted where the
+    /// version changes, and the machine goes on with the contracts it holds. A card with a token that these rules exclude
+    /// is unsound from then on, and is not converted.
     pub fn change(&mut self, tally: &mut Tally) -> Result<(), Difference> {
         self.ahead -= 1;
         self.cards = engines(self.linked, self.ahead);
         self.left_out |= !self.machine.keeps_to(self.rules());
+        if self.image.len() == OLD_IMAGE && self.rules().early_grants {
+            let converted = self.converted_alike(&self.image, &[], tally)?;
+            if converted.is_none() != self.left_out {
+                return Err("the tests' own reader takes another card over than the rules do".to_string().into());
+            }
+            self.image = converted.unwrap_or_else(|| self.image.clone());
+        }
         if self.left_out {
             self.refused_alike(&[], &mut Pairs::default())?;
         } else {
@@ -166,20 +179,26 @@ impl<'a> Compare<'a> {
         Ok(())
     }
 
-    /// Judges a record and compares all that the paper determines. Before the last change, judging alone is compared.
+    /// Judges a record and compares all that the paper determines. Before the last change, judging is compared, and what the
+    /// engines in force make of the image, which is of an earlier version.
     pub fn step(&mut self, bytes: &[u8], tally: &mut Tally) -> Result<Verdict, Difference> {
+        let held = self.machine.clone();
         let mut pairs_before = Pairs::default();
         let pairs = if self.in_force() { &mut tally.pairs } else { &mut pairs_before };
         let verdict = match self.left_out {
             true => self.refused_alike(bytes, pairs)?,
             false => self.judge(bytes, pairs)?,
         };
+        let mut random = Random::of_bytes(self.seed, &[&self.image, bytes].concat());
         if !self.in_force() {
             tally.before += 1;
             self.held_excluded |= !self.machine.keeps_to(Rules::IN_FORCE);
+            self.damaged_alike(&Damage::default(), bytes, tally)?;
+            for draw in [Damage::one_byte, Damage::two_bytes] {
+                self.damaged_alike(&draw(&self.image, &mut random), bytes, tally)?;
+            }
             return Ok(verdict);
         }
-        let mut random = Random::of_bytes(self.seed, &[&self.image, bytes].concat());
         let before = self.image.clone();
         if !self.left_out {
             self.check_alike()?;
@@ -192,8 +211,23 @@ impl<'a> Compare<'a> {
         for draw in [Damage::one_byte, Damage::two_bytes, Damage::one_byte, Damage::two_bytes] {
             self.damaged_alike(&draw(&self.image, &mut random), bytes, tally)?;
         }
-        self.count(bytes, tally);
+        self.count(&held, bytes, verdict, tally);
         Ok(verdict)
+    }
+
+    /// An image of version 01: every engine in force refuses it at every entry but the converter, which takes it over when
+    /// it is sound by the last rules of that version. The new image has the same tables, in the same order.
+    fn converted_alike(&self, old: &[u8], bytes: &[u8], tally: &mut Tally) -> Result<Option<Vec<u8>>, String> {
+        let converted = Tables::of(Rules::R_7, old).map(|tables| tables.write(Rules::R_2));
+        *(if converted.is_some() { &mut tally.converted } else { &mut tally.not_converted }) += 1;
+        for card in self.linked {
+            unsound(*card, old, bytes)?;
+            match &converted {
+                Some(image) => converts(*card, old, IMAGE, Verdict::new(0, 0), image)?,
+                None => converts(*card, old, IMAGE, Verdict::new(1, 255), &FILL[..IMAGE])?,
+            }
+        }
+        Ok(converted)
     }
 
     /// A card that holds what the rules exclude is refused by every entry, whatever the record is, and left as it was.
@@ -220,7 +254,7 @@ impl<'a> Compare<'a> {
         let answer = self.machine.judge(self.rules(), bytes);
         let kind = Kind::of(bytes);
         pairs.count(kind, answer);
-        expect!(possible(kind, answer), "the paper has no answer {answer} to kind {kind}");
+        expect!(possible(self.rules(), kind, answer), "the paper has no answer {answer} to kind {kind}");
         let mut first = None;
         for card in self.cards {
             let (mut own, lent) = (before.clone(), bytes.to_vec());
@@ -236,7 +270,7 @@ impl<'a> Compare<'a> {
                 Some(given) => {
                     let first = self.cards[0].name();
                     expect!(verdict == *given, "{}, {first} {given:?}", place());
-                    let at = (0..IMAGE).find(|at| own[*at] != self.image[*at]);
+                    let at = (0..own.len()).find(|at| own[*at] != self.image[*at]);
                     expect!(at.is_none(), "{} and another byte {} than {first}", place(), at.unwrap_or(0));
                 }
             }
@@ -347,10 +381,19 @@ impl<'a> Compare<'a> {
     /// Engines agree on a damaged image, with the tests' own reader and with the machine.
     pub fn damaged_alike(&self, damage: &Damage, bytes: &[u8], tally: &mut Tally) -> Result<(), Difference> {
         let image = damage.done_to(&self.image);
+        let outcome = match image.len() {
+            OLD_IMAGE => self.converted_alike(&image, bytes, tally).map(|_| ()),
+            _ => self.judged_alike(image, damage, bytes, tally),
+        };
+        outcome.map_err(|words| Difference { words, damage: damage.clone() })
+    }
+
+    /// The same of an image of the version in force.
+    fn judged_alike(&self, image: Vec<u8>, damage: &Damage, bytes: &[u8], tally: &mut Tally) -> Result<(), String> {
         let stands_for = tables::contracts(self.rules(), &image);
         let held = self.held_at(damage);
         count_damage(damage, held, stands_for.is_some(), tally);
-        let outcome = match stands_for {
+        match stands_for {
             Some(machine) => {
                 let mut damaged = Compare { machine, image, left_out: false, ..*self };
                 let read = if held.is_some() { damaged.contracts_alike(tally) } else { Ok(()) };
@@ -360,8 +403,7 @@ impl<'a> Compare<'a> {
                 tally.pairs.count(Kind::of(bytes), 1);
                 self.cards.iter().try_for_each(|card| unsound(*card, &image, bytes))
             }
-        };
-        outcome.map_err(|words| Difference { words, damage: damage.clone() })
+        }
     }
 
     /// A damaged image that is sound is a card like any other.
@@ -377,13 +419,17 @@ impl<'a> Compare<'a> {
         methods::of_image(&self.image).into_iter().find(|(_, place)| *place == at).map(|(held, _)| held)
     }
 
-    fn count(&self, bytes: &[u8], tally: &mut Tally) {
+    /// What a record has shown, by the contracts that it found.
+    fn count(&self, held: &Machine, bytes: &[u8], verdict: Verdict, tally: &mut Tally) {
         tally.records += 1;
-        let read = record::read(self.rules(), bytes).is_ok();
-        let but_for_methods = !read && record::read(Rules::DOCUMENT_01, bytes).is_ok();
+        let read = record::read(self.rules(), bytes);
+        for early in read.iter().filter(|_| verdict.answer == 0).flat_map(|record| Early::of(held, record)) {
+            *tally.early.entry(early).or_default() += 1;
+        }
+        let but_for_methods = read.is_err() && record::read(Rules::DOCUMENT_01, bytes).is_ok();
         for (place, at) in methods::of_record(bytes) {
             match bytes[at] {
-                127 if read => tally.methods.entry(place).or_default()[0] += 1,
+                127 if read.is_ok() => tally.methods.entry(place).or_default()[0] += 1,
                 128 if but_for_methods => tally.methods.entry(place).or_default()[1] += 1,
                 _ => {}
             }
@@ -410,7 +456,7 @@ fn engines<'a>(linked: &'a [&'a dyn Card], changes: usize) -> &'a [&'a dyn Card]
 fn count_damage(damage: &Damage, held: Option<Held>, sound: bool, tally: &mut Tally) {
     *(if sound { &mut tally.damaged_sound } else { &mut tally.damaged_unsound }) += 1;
     if let Some(held) = held {
-        let counts = &mut tally.methods_held[usize::from(held == Held::Unmet)];
+        let counts = tally.methods_held.entry(held).or_default();
         match (damage.0[0].1, sound) {
             (127, true) => counts[0] += 1,
             (128, false) => counts[1] += 1,
@@ -446,21 +492,45 @@ fn unsound(card: &dyn Card, image: &[u8], bytes: &[u8]) -> Result<(), String> {
     Ok(())
 }
 
+/// Converting gives this verdict, and leaves this in a buffer of the size; the old image is only read.
+fn converts(card: &dyn Card, old: &[u8], size: usize, expected: Verdict, left: &[u8]) -> Result<(), String> {
+    let (lent, mut buffer) = (old.to_vec(), vec![FILL[0]; size]);
+    let verdict = card.convert(&lent, &mut buffer);
+    let place = || format!("{}: converting {} bytes into {size} gives {verdict:?}", card.name(), old.len());
+    expect!(*black_box(&lent) == *old, "{} and changes the old image", place());
+    expect!(verdict == expected, "{}, not {expected:?}", place());
+    let at = (0..size).find(|at| buffer[*at] != left[*at]);
+    expect!(at.is_none(), "{} and another byte {}", place(), at.unwrap_or(0));
+    Ok(())
+}
+
 /// Images, buffers and records of lengths that no card and no record has.
 pub fn lengths_alike(cards: &[&dyn Card]) -> Result<(), String> {
     let removal = [0, 10, 1, 2, 5, 0xF0, 0, 0, 0, 1];
+    let [old, new] = [Rules::R_7, Rules::R_2].map(|rules| Tables::default().write(rules));
+    let sized = |empty: &[u8], length: usize| {
+        let mut image = empty.to_vec();
+        image.resize(length, 0);
+        image
+    };
     for card in cards {
         let name = card.name();
-        for length in [0, 1, 3, 4, IMAGE - 1, IMAGE + 1, 2 * IMAGE, 65_536 + IMAGE] {
-            let mut image = vec![0; length];
-            let header = [0x04, 0x46, 0x01];
-            image[..length.min(3)].copy_from_slice(&header[..length.min(3)]);
-            unsound(*card, &image, &removal).map_err(|words| format!("{length} bytes: {words}"))?;
+        for length in [0, 1, 3, 4, OLD_IMAGE, IMAGE - 1, IMAGE + 1, 2 * IMAGE, 65_536 + IMAGE] {
+            for empty in [&old, &new] {
+                unsound(*card, &sized(empty, length), &removal).map_err(|words| format!("{length} bytes: {words}"))?;
+            }
             let mut buffer = vec![0xA5; length];
             let written = card.empty(&mut buffer);
             let left = buffer == vec![0xA5; length];
             expect!(written == Verdict::new(1, 255) && left, "{name}: empty image into {length} bytes: {written:?}");
+            converts(*card, &old, length, Verdict::new(1, 255), &vec![0xA5; length])?;
         }
+        for length in [0, 1, 3, 4, OLD_IMAGE - 1, OLD_IMAGE + 1, IMAGE, 2 * OLD_IMAGE, 65_536 + OLD_IMAGE] {
+            for empty in [&old, &new] {
+                converts(*card, &sized(empty, length), IMAGE, Verdict::new(1, 255), &FILL[..IMAGE])?;
+            }
+        }
+        converts(*card, &old, IMAGE, Verdict::new(0, 0), &new)?;
         let mut image = vec![0; IMAGE];
         card.empty(&mut image);
         for length in [removal.len(), 65_536 + removal.len()] {

@@ -1,5 +1,6 @@
 //! Damage to images: one or two bytes, where they are likely to tell.
 
+use crate::card::{IMAGE, OLD_IMAGE};
 use crate::methods;
 use crate::random::Random;
 
@@ -36,12 +37,15 @@ impl Damage {
     pub fn done_to(&self, image: &[u8]) -> Vec<u8> {
         let mut image = image.to_vec();
         for (at, byte) in &self.0 {
-            image[*at] = *byte;
+            // An image of version 01 ends before some places of version 02.
+            if let Some(place) = image.get_mut(*at) {
+                *place = *byte;
+            }
         }
         image
     }
 
-    /// Places and bytes, as in `3=0F,1093=01`.
+    /// Places and bytes, as in `3=0F,1109=01`.
     pub fn to_text(&self) -> String {
         self.0.iter().map(|(at, byte)| format!("{at}={byte:02X}")).collect::<Vec<_>>().join(",")
     }
@@ -51,7 +55,7 @@ impl Damage {
         let places = text.split(',').map(|place| {
             let (at, byte) = place.split_once('=')?;
             let at: usize = at.parse().ok()?;
-            (at < 1094).then_some((at, u8::from_str_radix(byte, 16).ok()?))
+            (at < IMAGE).then_some((at, u8::from_str_radix(byte, 16).ok()?))
         });
         places.collect::<Option<Vec<_>>>().map(Damage)
     }
@@ -68,15 +72,16 @@ fn changed(byte: u8, random: &mut Random) -> u8 {
 
 /// A place anywhere, or in a part of the image that is otherwise seldom reached.
 fn place(image: &[u8], random: &mut Random) -> usize {
+    let waiting_row = if image.len() == OLD_IMAGE { 19 } else { 20 };
     let count_or_length =
-        [468, 789, 4 + 17 * random.below(8), 469 + 20 * random.below(16), 790 + 19 * random.below(16)];
+        [468, 789, 4 + 17 * random.below(8), 469 + 20 * random.below(16), 790 + waiting_row * random.below(16)];
     match random.below(9) {
         0 => random.below(4),
         1 => random.between(4, 139),
         2 => random.between(140, 275),
         3 => random.between(276, 467),
         4 => 468 + random.below(1 + 20 * (usize::from(image[468]) + 1).min(16)),
-        5 => 789 + random.below(1 + 19 * (usize::from(image[789]) + 1).min(16)),
+        5 => 789 + random.below(1 + waiting_row * (usize::from(image[789]) + 1).min(16)),
         6 => count_or_length[random.below(5)],
         _ => random.below(image.len()),
     }
@@ -88,16 +93,18 @@ mod tests {
 
     #[test]
     fn damage_changes_the_bytes_it_names() {
-        let image = vec![0; 1094];
         let mut random = Random::new(5);
-        for _ in 0..200 {
+        for size in [OLD_IMAGE, IMAGE].repeat(200) {
+            let image = vec![0; size];
             let (one, two) = (Damage::one_byte(&image, &mut random), Damage::two_bytes(&image, &mut random));
             assert_eq!((one.0.len(), two.0.len()), (1, 2));
             let damaged = two.done_to(&image);
-            assert!((0..1094).all(|at| damaged[at] == image[at] || two.0.contains(&(at, damaged[at]))));
+            assert!((0..size).all(|at| damaged[at] == image[at] || two.0.contains(&(at, damaged[at]))));
             assert_eq!(Damage::from_text(&two.to_text()), Some(two));
         }
-        assert_eq!(Damage::from_text("1094=00"), None);
+        assert_eq!(Damage::from_text("1110=00"), None);
         assert_eq!(Damage::from_text("3"), None);
+        let past = Damage::from_text("1109=01").expect("a place of version 02");
+        assert_eq!((past.done_to(&[0; IMAGE])[1109], past.done_to(&[0; OLD_IMAGE])), (1, vec![0; OLD_IMAGE]));
     }
 }

@@ -1,4 +1,4 @@
-//! The proved engine behind safe functions: one for each of the five that its archive exports.
+//! The proved engine behind safe functions: one for each of the six that its archive exports.
 //! Every byte that an entry may write is lent to it for writing, and every length is that of a
 //! slice, so no call of these functions can reach outside what is lent. A refusal leaves every
 //! lent byte as it was.
@@ -32,15 +32,21 @@
 use crate::card::Verdict;
 use crate::refusal::Refusal;
 
-/// Whether an image is sound: the count of its packages, or [`Refusal::Unsound`], as of one that holds a
-/// method token of 128 or more. Any bytes of any length may be given.
+/// Whether an image is sound: the count of its packages, or [`Refusal::Unsound`], as of one of version 01 or one that
+/// holds a method token of 128 or more. Any bytes of any length may be given.
 pub fn check(image: &[u8]) -> Result<u32, Refusal> {
     meaning(exact::check(image))
 }
 
-/// Writes the empty image. A buffer that has not 1,094 bytes is [`Refusal::Unsound`].
+/// Writes the empty image. A buffer that has not 1,110 bytes is [`Refusal::Unsound`].
 pub fn empty(image: &mut [u8]) -> Result<(), Refusal> {
     meaning(exact::empty(image)).map(|_| ())
+}
+
+/// Takes an image of version 01, which has 1,094 bytes, into a buffer of 1,110 bytes: the same contracts, under the same
+/// numbers and in the same order. [`Refusal::Unsound`] when the old image is not sound, or either has another size.
+pub fn convert(old: &[u8], image: &mut [u8]) -> Result<(), Refusal> {
+    meaning(exact::convert(old, image)).map(|_| ())
 }
 
 /// Judges a record on an image. Accepted, the image is changed; the number is the package's (on
@@ -72,13 +78,14 @@ fn meaning(verdict: Verdict) -> Result<u32, Refusal> {
     }
 }
 
-/// The five functions with the numbers of their answers, as the comparison needs them.
+/// The six functions with the numbers of their answers, as the comparison needs them.
 pub mod exact {
     use crate::card::Verdict;
 
     extern "C" {
         fn card_check(image: *const u8, image_len: usize) -> u32;
         fn card_empty(image: *mut u8, image_len: usize) -> u32;
+        fn card_convert(old: *const u8, old_len: usize, image: *mut u8, image_len: usize) -> u32;
         fn card_judge(image: *mut u8, image_len: usize, record: *const u8, record_len: usize) -> u32;
         fn card_read_out(image: *const u8, image_len: usize, number: u32, out: *mut u8, out_len: usize) -> u32;
         fn card_aid(record: *const u8, record_len: usize) -> u32;
@@ -97,6 +104,12 @@ pub mod exact {
     pub fn empty(image: &mut [u8]) -> Verdict {
         // SAFETY: pointer and length are those of one slice lent for writing.
         verdict(unsafe { card_empty(image.as_mut_ptr(), image.len()) })
+    }
+
+    /// 0 with 0, or 1 with 255.
+    pub fn convert(old: &[u8], image: &mut [u8]) -> Verdict {
+        // SAFETY: each pointer has the length of its slice; the borrows keep the old image and the buffer apart.
+        verdict(unsafe { card_convert(old.as_ptr(), old.len(), image.as_mut_ptr(), image.len()) })
     }
 
     /// 0 with the package's number, or the cause, 1 to 11, with 255.

@@ -1,10 +1,15 @@
 //! Engines that are wrong on purpose, each in one way, to show that the comparison finds it: the
 //! paper's list of what a reviewer will try, its misreadings of the report, requests misread, and a few more.
 
-use crate::card::{Bytes, Card, Verdict, BYTES, IMAGE};
+use crate::bytes::layout::{aid, is_aid};
+use crate::bytes::relation::{Listed, Relation};
+use crate::card::{Bytes, Card, Verdict, BYTES, IMAGE, OLD_IMAGE};
+use crate::machine::record::{self, contradiction, Change};
+use crate::machine::Aid;
 use crate::methods::{self, Held};
 use crate::program::Failure;
 use crate::rules::Rules;
+use crate::tables::{Tables, Waiting};
 
 /// The byte engine with one of its entries replaced, or by other rules.
 pub struct Fault {
@@ -15,6 +20,7 @@ pub struct Fault {
 enum Entry {
     Check(fn(&[u8]) -> Verdict),
     Empty(fn(&mut [u8]) -> Verdict),
+    Convert(fn(&[u8], &mut [u8]) -> Verdict),
     Judge(fn(&mut [u8], &[u8]) -> Verdict),
     ReadOut(fn(&[u8], u32, &mut [u8]) -> Verdict),
     Aid(fn(&[u8]) -> &[u8]),
@@ -47,6 +53,13 @@ impl Card for Fault {
         match self.entry {
             Entry::Empty(empty) => empty(image),
             _ => self.bytes().empty(image),
+        }
+    }
+
+    fn convert(&self, old: &[u8], image: &mut [u8]) -> Verdict {
+        match self.entry {
+            Entry::Convert(convert) => convert(old, image),
+            _ => self.bytes().convert(old, image),
         }
     }
 
@@ -102,7 +115,37 @@ pub const FAULTS: &[Fault] = &[
     Fault { name: "unmet-128-sound", entry: Entry::Check(|image| lets_in(Held::Unmet, image)) },
     Fault { name: "goes-on-with-128", entry: Entry::Judge(goes_on_with_128) },
     Fault { name: "reads-out-128", entry: Entry::ReadOut(reads_out_128) },
-    Fault { name: "aid-with-128", entry: Entry::Aid(|record| Bytes(Rules::DOCUMENT_01).aid(record)) },
+    Fault { name: "aid-with-128", entry: Entry::Aid(|record| Bytes(TO_255).aid(record)) },
+    Fault { name: "rules-of-R-7", entry: Entry::Rules(Rules::R_7) },
+    Fault { name: "early-load-refused", entry: Entry::Judge(early_load_refused) },
+    Fault { name: "early-grant-refused", entry: Entry::Judge(early_grant_refused) },
+    Fault { name: "grants-go-with-service", entry: Entry::Judge(grants_go_with_service) },
+    Fault { name: "kept-grants-first", entry: Entry::Judge(kept_grants_first) },
+    Fault { name: "kept-grants-backwards", entry: Entry::Judge(kept_grants_backwards) },
+    Fault { name: "eleven-at-sixteen", entry: Entry::Judge(eleven_at_sixteen) },
+    Fault { name: "doubled-grant-twice", entry: Entry::Judge(doubled_grant_twice) },
+    Fault { name: "doubled-grant-moved", entry: Entry::Judge(doubled_grant_moved) },
+    Fault { name: "added-service-leaves", entry: Entry::Judge(|image, record| leaves(3, image, record)) },
+    Fault { name: "listed-callers-alone", entry: Entry::Judge(listed_callers_alone) },
+    Fault { name: "load-leaves", entry: Entry::Judge(|image, record| leaves(1, image, record)) },
+    Fault { name: "load-takes-all", entry: Entry::Judge(load_takes_all) },
+    Fault { name: "waiting-128-sound", entry: Entry::Check(|image| lets_in(Held::Waiting, image)) },
+    Fault { name: "settled-row-sound", entry: Entry::Check(settled_row_sound) },
+    Fault { name: "own-aid-row-sound", entry: Entry::Check(own_aid_row_sound) },
+    Fault { name: "installed-row-unsound", entry: Entry::Check(installed_row_unsound) },
+    Fault { name: "checks-version-01", entry: Entry::Check(|image| by_version(image).check(image)) },
+    Fault { name: "judges-version-01", entry: Entry::Judge(|image, record| by_version(image).judge(image, record)) },
+    Fault {
+        name: "reads-out-version-01",
+        entry: Entry::ReadOut(|image, n, out| by_version(image).read_out(image, n, out)),
+    },
+    Fault { name: "rows-of-19-bytes", entry: Entry::Convert(rows_of_19_bytes) },
+    Fault { name: "converts-backwards", entry: Entry::Convert(converts_backwards) },
+    Fault { name: "converts-128", entry: Entry::Convert(converts_128) },
+    Fault { name: "converts-unsound", entry: Entry::Convert(converts_unsound) },
+    Fault { name: "converts-into-more", entry: Entry::Convert(converts_into_more) },
+    Fault { name: "converts-with-a-count", entry: Entry::Convert(converts_with_a_count) },
+    Fault { name: "refused-conversion-writes", entry: Entry::Convert(refused_conversion_writes) },
 ];
 
 /// The fault that the option `--fault` names.
@@ -159,11 +202,11 @@ fn grants_lost(image: &mut [u8], record: &[u8]) -> Verdict {
     if verdict.answer == 0 && record[3] == 2 {
         let written = &record[4..];
         while image[789] > 0 {
-            let last = 790 + 19 * (usize::from(image[789]) - 1);
+            let last = 790 + 20 * (usize::from(image[789]) - 1);
             if !image[last..].starts_with(written) {
                 break;
             }
-            image[last..last + 19].fill(0);
+            image[last..last + 20].fill(0);
             image[789] -= 1;
         }
     }
@@ -190,10 +233,10 @@ fn left_over_read(image: &mut [u8], record: &[u8]) -> Verdict {
 }
 
 /// Looks at the record before the image.
-fn judges_unsound(image: &mut [u8], record: &[u8]) -> Verdict {
-    match crate::machine::record::read(Rules::IN_FORCE, record) {
+fn judges_unsound(image: &mut [u8], bytes: &[u8]) -> Verdict {
+    match record::read(Rules::IN_FORCE, bytes) {
         Err(_) => Verdict::new(2, 255),
-        Ok(_) => BYTES.judge(image, record),
+        Ok(_) => BYTES.judge(image, bytes),
     }
 }
 
@@ -244,10 +287,12 @@ fn aid_with_length(record: &[u8]) -> &[u8] {
     }
 }
 
+/// Method tokens go up to 255, as before R-7.
+const TO_255: Rules = Rules { most_method: 255, ..Rules::IN_FORCE };
 /// Method tokens stop at 128.
-const TO_128: Rules = Rules { most_method: 128 };
+const TO_128: Rules = Rules { most_method: 128, ..Rules::IN_FORCE };
 /// Method tokens stop at 126.
-const TO_126: Rules = Rules { most_method: 126 };
+const TO_126: Rules = Rules { most_method: 126, ..Rules::IN_FORCE };
 
 /// Reads a record whose method tokens go up to 128. Images are checked rightly.
 fn method_128_read(image: &mut [u8], record: &[u8]) -> Verdict {
@@ -269,20 +314,227 @@ fn method_127_refused(image: &mut [u8], record: &[u8]) -> Verdict {
 fn lets_in(part: Held, image: &[u8]) -> Verdict {
     let other = |image: &[u8]| methods::of_image(image).into_iter().any(|(held, at)| held != part && image[at] > 127);
     match image.len() == IMAGE && !other(image) {
-        true => Bytes(Rules::DOCUMENT_01).check(image),
+        true => Bytes(TO_255).check(image),
         false => BYTES.check(image),
     }
 }
 
-/// Judges records rightly, but by document 01's rules whether the image is sound.
+/// Judges records rightly, but lets any method token stand in the image.
 fn goes_on_with_128(image: &mut [u8], record: &[u8]) -> Verdict {
     match BYTES.aid(record).is_empty() {
         true => BYTES.judge(image, record),
-        false => Bytes(Rules::DOCUMENT_01).judge(image, record),
+        false => Bytes(TO_255).judge(image, record),
     }
 }
 
-/// Reads out of a card of document 01's rules.
+/// Reads out of a card with any method token.
 fn reads_out_128(image: &[u8], number: u32, out: &mut [u8]) -> Verdict {
-    Bytes(Rules::DOCUMENT_01).read_out(image, number, out)
+    Bytes(TO_255).read_out(image, number, out)
+}
+
+/// A load with a grant of a service that it does not provide contradicts itself, as before R-2.
+fn early_load_refused(image: &mut [u8], bytes: &[u8]) -> Verdict {
+    let read = record::read(Rules::IN_FORCE, bytes);
+    match read.is_ok_and(|record| contradiction(Rules::R_7, &record).is_some()) && BYTES.check(image).answer == 0 {
+        true => Verdict::new(3, 255),
+        false => BYTES.judge(image, bytes),
+    }
+}
+
+/// Kind 7 for a service not provided is 6, as before R-2.
+fn early_grant_refused(image: &mut [u8], bytes: &[u8]) -> Verdict {
+    let before = image.to_vec();
+    let verdict = BYTES.judge(image, bytes);
+    let early = |tables: Tables| {
+        tables.waiting.last().is_some_and(|grant| tables.service(grant.callee, grant.tokens).is_none())
+    };
+    if verdict.answer == 0 && bytes[3] == 7 && Tables::of(Rules::IN_FORCE, image).is_some_and(early) {
+        image.copy_from_slice(&before);
+        return Verdict::new(6, 255);
+    }
+    verdict
+}
+
+/// Judges rightly, and changes the waiting grants after an accepted record of the kind, by those before.
+fn after_kind(kind: u8, image: &mut [u8], bytes: &[u8], change: impl Fn(&[Waiting], &mut Vec<Waiting>)) -> Verdict {
+    let before = Tables::of(Rules::IN_FORCE, image);
+    let verdict = BYTES.judge(image, bytes);
+    if let (0, Some(before), Some(mut after)) = (verdict.answer, before, Tables::of(Rules::IN_FORCE, image)) {
+        if bytes[3] == kind {
+            change(&before.waiting, &mut after.waiting);
+            after.waiting.truncate(16);
+            image.copy_from_slice(&after.write(Rules::IN_FORCE));
+        }
+    }
+    verdict
+}
+
+/// The grants of a service that goes are lost.
+fn grants_go_with_service(image: &mut [u8], bytes: &[u8]) -> Verdict {
+    after_kind(4, image, bytes, |before, after| after.retain(|grant| before.contains(grant)))
+}
+
+/// They wait before the rows already there.
+fn kept_grants_first(image: &mut [u8], bytes: &[u8]) -> Verdict {
+    after_kind(4, image, bytes, |before, after| after.rotate_left(before.len()))
+}
+
+/// They wait by caller number downwards.
+fn kept_grants_backwards(image: &mut [u8], bytes: &[u8]) -> Verdict {
+    after_kind(4, image, bytes, |before, after| after[before.len()..].reverse())
+}
+
+/// Grants that become bits wait too.
+fn leaves(kind: u8, image: &mut [u8], bytes: &[u8]) -> Verdict {
+    after_kind(kind, image, bytes, |before, after| {
+        let settled: Vec<Waiting> = before.iter().filter(|grant| !after.contains(grant)).copied().collect();
+        after.extend(settled);
+    })
+}
+
+/// Kind 4 gives 11 where its grants would make 16.
+fn eleven_at_sixteen(image: &mut [u8], bytes: &[u8]) -> Verdict {
+    let before = image.to_vec();
+    let verdict = BYTES.judge(image, bytes);
+    if verdict.answer == 0 && bytes[3] == 4 && before[789] < 16 && image[789] == 16 {
+        image.copy_from_slice(&before);
+        return Verdict::new(11, 255);
+    }
+    verdict
+}
+
+/// The grants that kind 3 lists and that wait, before it and after it.
+fn doubled(bytes: &[u8], before: &[Waiting], after: &[Waiting]) -> Vec<Waiting> {
+    let Ok(record) = record::read(Rules::IN_FORCE, bytes) else { return Vec::new() };
+    let Change::AddService(tokens, callers) = record.change else { return Vec::new() };
+    let listed = |grant: &&Waiting| grant.tokens == tokens && callers.contains(&grant.caller) && after.contains(grant);
+    before.iter().filter(listed).copied().collect()
+}
+
+/// Kind 3 takes twice a grant that is in both places.
+fn doubled_grant_twice(image: &mut [u8], bytes: &[u8]) -> Verdict {
+    after_kind(3, image, bytes, |before, after| after.extend(doubled(bytes, before, after)))
+}
+
+/// Kind 3 moves a grant that is in both places behind the others.
+fn doubled_grant_moved(image: &mut [u8], bytes: &[u8]) -> Verdict {
+    after_kind(3, image, bytes, |before, after| {
+        let doubled = doubled(bytes, before, after);
+        after.retain(|grant| !doubled.contains(grant));
+        after.extend(doubled);
+    })
+}
+
+/// Kind 3 lets those alone call that it lists.
+fn listed_callers_alone(image: &mut [u8], bytes: &[u8]) -> Verdict {
+    let mut without = image.to_vec();
+    if let (Some(mut tables), Some(3)) = (Tables::of(Rules::IN_FORCE, image), bytes.get(3)) {
+        tables.waiting.clear();
+        without = tables.write(Rules::IN_FORCE);
+    }
+    match BYTES.judge(&mut without, bytes) {
+        refused @ Verdict { answer: 8, .. } => refused,
+        _ => BYTES.judge(image, bytes),
+    }
+}
+
+/// A load takes every grant to it out of the list, also those of services not provided.
+fn load_takes_all(image: &mut [u8], bytes: &[u8]) -> Verdict {
+    after_kind(1, image, bytes, |_, after| after.retain(|grant| grant.caller != Aid::new(BYTES.aid(bytes))))
+}
+
+/// Checks the image without the waiting rows that may stand there.
+fn check_without(image: &[u8], may_stand: impl Fn(&[u8], Listed) -> bool) -> Verdict {
+    let mut without = image.to_vec();
+    let whole = |row: &Listed| row.own < 8 && (5..=16).contains(&row.other[0]);
+    if image.len() == IMAGE && image[789] <= 16 {
+        Relation::Grants.close_up(&mut without, |tables, row| whole(&row) && may_stand(tables, row));
+    }
+    BYTES.check(&without)
+}
+
+/// A row may stand for a grant whose caller and service are on the card.
+fn settled_row_sound(image: &[u8]) -> Verdict {
+    check_without(image, |tables, row| Relation::Grants.bit(tables, row.own, row.row()).is_some())
+}
+
+/// A row may name its callee's own AID.
+fn own_aid_row_sound(image: &[u8]) -> Verdict {
+    check_without(image, |tables, row| is_aid(aid(tables, row.own), row.row().aid))
+}
+
+/// A row may not name an installed caller, as before R-2.
+fn installed_row_unsound(image: &[u8]) -> Verdict {
+    let installed = |tables: Tables| {
+        let mut packages = tables.packages.iter().flatten();
+        packages.any(|package| tables.waiting.iter().any(|grant| grant.caller == package.aid))
+    };
+    match Tables::of(Rules::IN_FORCE, image).is_some_and(installed) {
+        true => Verdict::new(1, 255),
+        false => BYTES.check(image),
+    }
+}
+
+/// The byte engine by the rules of the image's version.
+fn by_version(image: &[u8]) -> Bytes {
+    Bytes(if image.len() == OLD_IMAGE { Rules::R_7 } else { Rules::IN_FORCE })
+}
+
+/// Keeps the rows of version 01, and service numbers in them.
+fn rows_of_19_bytes(old: &[u8], image: &mut [u8]) -> Verdict {
+    let verdict = BYTES.convert(old, image);
+    if verdict.answer == 0 {
+        image[3..OLD_IMAGE].copy_from_slice(&old[3..]);
+        image[OLD_IMAGE..].fill(0);
+    }
+    verdict
+}
+
+/// Puts the waiting grants in the order from the last to the first.
+fn converts_backwards(old: &[u8], image: &mut [u8]) -> Verdict {
+    let verdict = BYTES.convert(old, image);
+    if let (0, Some(mut tables)) = (verdict.answer, Tables::of(Rules::R_2, image)) {
+        tables.waiting.reverse();
+        image.copy_from_slice(&tables.write(Rules::R_2));
+    }
+    verdict
+}
+
+/// Takes a card over that document 01's rules find sound.
+fn converts_128(old: &[u8], image: &mut [u8]) -> Verdict {
+    match (Tables::of(Rules::DOCUMENT_01, old), image.len()) {
+        (Some(tables), IMAGE) => {
+            image.copy_from_slice(&tables.write(Rules::R_2));
+            Verdict::new(0, 0)
+        }
+        _ => BYTES.convert(old, image),
+    }
+}
+
+/// Looks at a card's size and header alone.
+fn converts_unsound(old: &[u8], image: &mut [u8]) -> Verdict {
+    let verdict = BYTES.convert(old, image);
+    if verdict.answer == 1 && (old.len(), image.len()) == (OLD_IMAGE, IMAGE) && old.starts_with(&[0x04, 0x46, 0x01]) {
+        BYTES.empty(image);
+        return Verdict::new(0, 0);
+    }
+    verdict
+}
+
+fn converts_into_more(old: &[u8], image: &mut [u8]) -> Verdict {
+    let size = image.len().min(IMAGE);
+    BYTES.convert(old, &mut image[..size])
+}
+
+fn converts_with_a_count(old: &[u8], image: &mut [u8]) -> Verdict {
+    match BYTES.convert(old, image) {
+        Verdict { answer: 0, .. } => BYTES.check(image),
+        refused => refused,
+    }
+}
+
+/// Empties the buffer before it looks at the old image.
+fn refused_conversion_writes(old: &[u8], image: &mut [u8]) -> Verdict {
+    BYTES.empty(image);
+    BYTES.convert(old, image)
 }

@@ -1,7 +1,9 @@
 //! A nearly full card to time records on: 8 packages, each naming services of the others, and
 //! 15 rows in each list. AIDs have 16 bytes and differ at the end.
 
-use crate::card::{Card, BYTES, IMAGE};
+use crate::bytes::layout::Version;
+use crate::card::{Bytes, Card, BYTES};
+use crate::rules::Rules;
 use crate::write::{add_service, load, remove, remove_service, update, Row, Tokens};
 
 /// The package that kinds 1 and 2 load and remove.
@@ -11,7 +13,7 @@ const NEEDED: Tokens = (0, 0);
 const CALLED: Tokens = (0, 2);
 /// Called by package 1 alone, and needed by none.
 const LONELY: Tokens = (0, 6);
-/// Not provided by package 0, but called by package 1.
+/// Not provided by package 0, but called by package 1, and granted to it.
 const WISHED: Tokens = (9, 9);
 
 /// A record that the card accepts, and the image to judge it on.
@@ -27,7 +29,7 @@ pub struct Timed {
 /// One record of each kind. A load is judged on the card without its last package; each other
 /// record on the whole card. Kinds 5 to 8 change a list's end or its first row.
 pub fn timed() -> Vec<Timed> {
-    let before = card_without_last();
+    let before = card_without_last(Rules::IN_FORCE);
     let mut full = before.clone();
     assert_eq!(BYTES.judge(&mut full, &load_last()).answer, 0);
     let (own, next) = (package(0), package(1));
@@ -47,6 +49,13 @@ pub fn timed() -> Vec<Timed> {
     ]
 }
 
+/// The whole card as an image of version 01, to convert.
+pub fn old_card() -> Vec<u8> {
+    let mut full = card_without_last(Rules::R_7);
+    assert_eq!(Bytes(Rules::R_7).judge(&mut full, &load_last()).answer, 0);
+    full
+}
+
 fn package(number: u8) -> Vec<u8> {
     [vec![0xF0; 15], vec![number]].concat()
 }
@@ -63,8 +72,9 @@ fn services() -> Vec<Tokens> {
 
 /// The card with packages 0 to 6. Each grants six services to each other, calls four and needs two;
 /// it calls a service of the last package, which is unmet, and grants that package one of its own,
-/// which waits. Eight more rows in each list stay when the last package comes.
-fn card_without_last() -> Vec<u8> {
+/// which waits. Eight more rows in each list stay when the last package comes; one is a grant that waits for its service, where
+/// the rules have such.
+fn card_without_last(rules: Rules) -> Vec<u8> {
     let each = || 0..LAST;
     let pairs = || each().flat_map(move |own| each().filter(move |other| *other != own).map(move |other| (own, other)));
     let mut records: Vec<Vec<u8>> = each().map(|own| load(&package(own), &services(), &[], &[], &[])).collect();
@@ -82,12 +92,15 @@ fn card_without_last() -> Vec<u8> {
 
     records.extend(each().map(|own| update(7, &package(own), &stranger(10 + own), NEEDED)));
     records.extend(each().map(|own| update(7, &package(own), &package(LAST), NEEDED)));
-    records.push(update(7, &package(0), &stranger(10), LONELY));
+    records.push(match rules.early_grants {
+        true => update(7, &package(0), &package(1), WISHED),
+        false => update(7, &package(0), &stranger(10), LONELY),
+    });
 
-    let mut image = vec![0; IMAGE];
-    BYTES.empty(&mut image);
+    let (card, mut image) = (Bytes(rules), vec![0; Version::of(rules).size]);
+    card.empty(&mut image);
     for record in records {
-        assert_eq!(BYTES.judge(&mut image, &record).answer, 0);
+        assert_eq!(card.judge(&mut image, &record).answer, 0);
     }
     image
 }
@@ -105,8 +118,8 @@ fn load_last() -> Vec<u8> {
 #[cfg(test)]
 mod tests {
     use super::*;
-    use crate::card::linked;
-    use crate::rules::Rules;
+    use crate::card::{linked, IMAGE};
+    use crate::machine::{Aid, Row};
     use crate::tables;
 
     #[test]
@@ -116,11 +129,22 @@ mod tests {
             let packages = if timed.kind == 1 { 7 } else { 8 };
             assert_eq!((image[3].count_ones(), image[468], image[789]), (packages, 15, 15));
             let card = tables::contracts(Rules::IN_FORCE, image).expect("a sound image");
+            let early = |(callee, grant): &(&Aid, &Row)| !card.contracts[*callee].provides.contains(&grant.tokens);
+            assert_eq!(card.waiting().filter(early).count(), 1);
             for (aid, contract) in &card.contracts {
                 let others = card.contracts.keys().filter(|other| *other != aid);
                 let names = |other| contract.calls.iter().chain(&contract.grants).any(|row| row.other == other);
                 assert!(others.copied().all(names), "{aid:?} names every other package");
             }
+        }
+    }
+
+    #[test]
+    fn the_old_card_is_converted() {
+        let old = old_card();
+        assert_eq!((old[3], old[468], old[789]), (0xFF, 15, 15));
+        for card in linked() {
+            assert_eq!(card.convert(&old, &mut [0; IMAGE]).answer, 0);
         }
     }
 

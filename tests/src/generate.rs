@@ -27,6 +27,8 @@ enum Drive {
 /// The source of one history's records.
 pub struct Source {
     random: Random,
+    /// The rules of the time.
+    rules: Rules,
     drive: Drive,
     aids: Vec<Aid>,
     tokens: Vec<Tokens>,
@@ -38,14 +40,16 @@ impl Source {
         let mut random = Random::new(seed.wrapping_mul(0x1000_0000_01B3).wrapping_add(ordinal));
         let drives = [Drive::Mixed, Drive::Lists, Drive::Packages, Drive::Services];
         let drive = drives[random.below(drives.len())];
-        let (aids, tokens) = (few_aids(&mut random), few_tokens(&mut random, Rules::IN_FORCE, Vec::new()));
-        Source { random, drive, aids, tokens }
+        let rules = Rules::IN_FORCE;
+        let (aids, tokens) = (few_aids(&mut random), few_tokens(&mut random, rules, Vec::new()));
+        Source { random, rules, drive, aids, tokens }
     }
 
     /// How many changes of the rules the history goes over. It begins with the tokens of the rules before them.
     pub fn changes(&mut self) -> usize {
-        let changes = if self.random.percent(25) { self.random.between(1, Rules::CHANGES) } else { 0 };
-        self.tokens = few_tokens(&mut self.random, Rules::before(changes), Vec::new());
+        let changes = if self.random.percent(30) { self.random.between(1, Rules::CHANGES) } else { 0 };
+        self.rules = Rules::before(changes);
+        self.tokens = few_tokens(&mut self.random, self.rules, Vec::new());
         changes
     }
 
@@ -61,6 +65,7 @@ impl Source {
 
     /// From a change on the tokens are those of the new rules.
     pub fn change(&mut self, rules: Rules) {
+        self.rules = rules;
         let mut tokens = std::mem::take(&mut self.tokens);
         tokens.retain(|tokens| tokens.method <= rules.most_method);
         self.tokens = few_tokens(&mut self.random, rules, tokens);

@@ -7,7 +7,7 @@ use crate::hex::{from_hex, to_hex};
 pub enum Event {
     /// A record to judge, of any bytes.
     Record(Vec<u8>),
-    /// The next rules come into force.
+    /// The next rules come into force. Where these have another version of images, the card is converted.
     Change,
 }
 

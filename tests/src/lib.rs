@@ -14,6 +14,7 @@ pub mod refusal;
 // The comparison.
 pub mod compare;
 pub mod damage;
+pub mod early;
 pub mod faults;
 pub mod generate;
 pub mod history;

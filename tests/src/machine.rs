@@ -26,13 +26,13 @@ impl Machine {
     /// first cause that applies, or 0.
     pub fn judge(&mut self, rules: Rules, bytes: &[u8]) -> u32 {
         let Ok(record) = record::read(rules, bytes) else { return 2 };
-        if record::contradiction(&record).is_some() {
+        if record::contradiction(rules, &record).is_some() {
             return 3;
         }
-        if let Some(cause) = self.cause_before(&record) {
+        if let Some(cause) = self.cause_before(rules, &record) {
             return cause;
         }
-        let after = self.changed(&record);
+        let after = self.changed(rules, &record);
         if let Some(cause) = after.cause_after() {
             return cause;
         }
@@ -41,7 +41,7 @@ impl Machine {
     }
 
     /// Causes 4 to 7: the record against the contracts held.
-    fn cause_before(&self, record: &Record) -> Option<u32> {
+    fn cause_before(&self, rules: Rules, record: &Record) -> Option<u32> {
         let held = self.contracts.get(&record.aid);
         if let Change::Load(_) = record.change {
             return match held {
@@ -57,7 +57,10 @@ impl Machine {
             Change::RemoveService(tokens) => !contract.provides.contains(tokens),
             Change::AddCall(row) => contract.calls.contains(row),
             Change::RemoveCall(row) => !contract.calls.contains(row),
-            Change::AddGrant(row) => contract.grants.contains(row) || !contract.provides.contains(&row.tokens),
+            Change::AddGrant(row) => {
+                let too_early = !rules.early_grants && !contract.provides.contains(&row.tokens);
+                contract.grants.contains(row) || too_early
+            }
             Change::RemoveGrant(row) => !contract.grants.contains(row),
             Change::AddNeed(row) => contract.needs.contains(row) || !contract.calls.contains(row),
             Change::RemoveNeed(row) => !contract.needs.contains(row),
@@ -71,7 +74,7 @@ impl Machine {
     }
 
     /// The contracts after the record's change. No other contract than the named one changes.
-    fn changed(&self, record: &Record) -> Machine {
+    fn changed(&self, rules: Rules, record: &Record) -> Machine {
         let mut after = self.clone();
         match &record.change {
             Change::Load(lists) => {
@@ -82,7 +85,7 @@ impl Machine {
             }
             update => {
                 if let Some(contract) = after.contracts.get_mut(&record.aid) {
-                    change_contract(contract, update);
+                    change_contract(rules, contract, update);
                 }
             }
         }
@@ -130,17 +133,22 @@ impl Machine {
         held.all(|tokens| tokens.method <= rules.most_method)
     }
 
-    /// The grants whose caller is not installed, each after its provider.
+    /// Whether a grant of this contract waits: "until caller and service are both on the card".
+    pub fn waits(&self, contract: &Contract, grant: &Row) -> bool {
+        !(self.contracts.contains_key(&grant.other) && contract.provides.contains(&grant.tokens))
+    }
+
+    /// The grants that wait, each after its package.
     pub fn waiting(&self) -> impl Iterator<Item = (&Aid, &Row)> {
-        self.contracts
-            .iter()
-            .flat_map(|(aid, contract)| contract.grants.iter().map(move |grant| (aid, grant)))
-            .filter(|(_, grant)| !self.contracts.contains_key(&grant.other))
+        self.contracts.iter().flat_map(|(aid, contract)| {
+            let waiting = contract.grants.iter().filter(|grant| self.waits(contract, grant));
+            waiting.map(move |grant| (aid, grant))
+        })
     }
 }
 
 /// Kinds 3 to 10 on the contract that they name.
-fn change_contract(contract: &mut Contract, change: &Change) {
+fn change_contract(rules: Rules, contract: &mut Contract, change: &Change) {
     match change {
         Change::Load(_) | Change::Remove => {}
         Change::AddService(tokens, callers) => {
@@ -151,7 +159,7 @@ fn change_contract(contract: &mut Contract, change: &Change) {
         }
         Change::RemoveService(tokens) => {
             contract.provides.remove(tokens);
-            contract.grants.retain(|grant| grant.tokens != *tokens);
+            contract.grants.retain(|grant| rules.early_grants || grant.tokens != *tokens);
         }
         Change::AddCall(row) => {
             contract.calls.insert(*row);

@@ -1,5 +1,6 @@
 //! Where method tokens stand in records and in images, so that they can be set, and counted by their places.
 
+use crate::card::IMAGE;
 use std::fmt;
 
 /// A part of records that has tokens: one of a load's lists, or a kind of update.
@@ -66,18 +67,32 @@ fn walk(record: &[u8], found: &mut Vec<(Place, usize)>) -> Option<()> {
 }
 
 /// A part of images that has tokens.
-#[derive(Clone, Copy, Debug, PartialEq, Eq)]
+#[derive(Clone, Copy, Debug, PartialEq, Eq, PartialOrd, Ord)]
 pub enum Held {
     Provided,
     Unmet,
+    /// In version 02 alone.
+    Waiting,
 }
 
-/// The byte of each method token that an image of a card's size holds.
+impl fmt::Display for Held {
+    fn fmt(&self, f: &mut fmt::Formatter) -> fmt::Result {
+        f.write_str(match self {
+            Held::Provided => "services",
+            Held::Unmet => "unmet calls",
+            Held::Waiting => "waiting grants",
+        })
+    }
+}
+
+/// The byte of each method token that an image of either version holds.
 pub fn of_image(image: &[u8]) -> Vec<(Held, usize)> {
+    let count = |at: usize| usize::from(image[at]).min(16);
     let provided = (0..64).filter(|n| image[268 + n / 8] >> (n % 8) & 1 == 1);
-    let unmet = 0..usize::from(image[468]).min(16);
     let provided = provided.map(|n| (Held::Provided, 140 + 2 * n + 1));
-    provided.chain(unmet.map(|n| (Held::Unmet, 469 + 20 * n + 18))).collect()
+    let unmet = (0..count(468)).map(|n| (Held::Unmet, 469 + 20 * n + 18));
+    let waiting = (0..count(789)).filter(|_| image.len() == IMAGE).map(|n| (Held::Waiting, 790 + 20 * n + 19));
+    provided.chain(unmet).chain(waiting).collect()
 }
 
 #[cfg(test)]

@@ -1,5 +1,6 @@
 //! The pairs (kind, answer) that the paper makes possible, and a count of those seen.
 
+use crate::rules::Rules;
 use std::collections::BTreeMap;
 use std::fmt;
 
@@ -33,7 +34,7 @@ impl fmt::Display for Kind {
     }
 }
 
-/// Each kind with the answers that judging a record of it can give.
+/// Each kind with the answers that judging a record of it can give by the rules in force.
 ///
 /// For every kind: 1 on an image that is not sound, 2 for a record that cannot be read. 12 is for
 /// reading out alone. 3 needs a second AID or a list, which kinds 2 and 4 have not. 4 is for loads
@@ -47,16 +48,16 @@ pub const POSSIBLE: [(Kind, &[u32]); 12] = [
     // calls that stay are those that were granted: no 8.
     (Kind::Known(2), &[0, 1, 2, 5, 9, 10, 11]),
     // Unmet calls on the service become met, so they need a grant (8) and are fewer (no 10); its
-    // grants may wait (11). No service goes: no 9.
+    // grants to others that are not installed wait (11). No service goes: no 9.
     (Kind::Known(3), &[0, 1, 2, 3, 5, 6, 7, 8, 11]),
-    // Calls on the service become unmet (9, 10). Its grants go, and waiting ones are fewer: no 11.
-    // No call on it is met any longer: no 8.
-    (Kind::Known(4), &[0, 1, 2, 5, 6, 9, 10]),
+    // Calls on the service become unmet (9, 10), and its grants wait (11; before R-2 they went). No call on it is met any
+    // longer: no 8.
+    (Kind::Known(4), &[0, 1, 2, 5, 6, 9, 10, 11]),
     // The new call is met and may lack its grant (8), or it is unmet (10). Needs and grants stay.
     (Kind::Known(5), &[0, 1, 2, 3, 5, 6, 8, 10]),
     // A call goes, with its need: nothing can come about.
     (Kind::Known(6), &[0, 1, 2, 3, 5, 6]),
-    // One more grant, which may wait (11). Calls and needs stay.
+    // One more grant, which may wait (11), as that of a service not provided does since R-2. Calls and needs stay.
     (Kind::Known(7), &[0, 1, 2, 3, 5, 6, 11]),
     // A met call may lose its grant (8).
     (Kind::Known(8), &[0, 1, 2, 3, 5, 6, 8]),
@@ -68,8 +69,11 @@ pub const POSSIBLE: [(Kind, &[u32]); 12] = [
     (Kind::Missing, &[1, 2]),
 ];
 
-pub fn possible(kind: Kind, answer: u32) -> bool {
-    POSSIBLE.iter().any(|(known, answers)| *known == kind && answers.contains(&answer))
+/// Whether judging a record of the kind by the rules can give the answer.
+pub fn possible(rules: Rules, kind: Kind, answer: u32) -> bool {
+    let since_r_2 = (kind, answer) == (Kind::Known(4), 11);
+    let listed = POSSIBLE.iter().any(|(known, answers)| *known == kind && answers.contains(&answer));
+    listed && (rules.early_grants || !since_r_2)
 }
 
 /// How often each pair was seen.
@@ -131,10 +135,12 @@ mod tests {
     #[test]
     fn what_was_counted_is_not_missing() {
         let mut pairs = Pairs::default();
-        assert_eq!(pairs.coverage(), (0, 78));
+        assert_eq!(pairs.coverage(), (0, 79));
         pairs.count(Kind::Known(2), 11);
-        assert_eq!(pairs.coverage(), (1, 78));
+        assert_eq!(pairs.coverage(), (1, 79));
         assert!(!pairs.missing().contains(&(Kind::Known(2), 11)));
-        assert!(possible(Kind::Known(2), 11) && !possible(Kind::Known(4), 11));
+        let possible = |rules, kind| possible(rules, Kind::Known(kind), 11);
+        assert!(possible(Rules::IN_FORCE, 2) && possible(Rules::R_2, 4) && !possible(Rules::R_2, 5));
+        assert!(possible(Rules::R_7, 2) && !possible(Rules::R_7, 4));
     }
 }

@@ -6,7 +6,7 @@ use std::fmt;
 /// The cause of a refusal. Its number is the answer that an entry gives.
 #[derive(Clone, Copy, Debug, PartialEq, Eq, PartialOrd, Ord)]
 pub enum Refusal {
-    /// 1: the image is not sound, as one that holds a method token of 128 or more, or has not a card's size.
+    /// 1: the image is not sound, as one of version 01 or with a method token of 128 or more, or has not a card's size.
     Unsound = 1,
     /// 2: the record is malformed: its form is wrong, or a method token is 128 or more.
     Malformed = 2,

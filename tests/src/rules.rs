@@ -6,16 +6,20 @@
 pub struct Rules {
     /// A method token is from 0 to this.
     pub most_method: u8,
+    /// Whether a grant may name a service that its package does not yet provide. Images have version 02 then, else 01.
+    pub early_grants: bool,
 }
 
 impl Rules {
-    /// "Each token may be 0 to 255."
-    pub const DOCUMENT_01: Rules = Rules { most_method: 255 };
+    /// "Each token may be 0 to 255." "Granted services are among those provided."
+    pub const DOCUMENT_01: Rules = Rules { most_method: 255, early_grants: false };
     /// "Method tokens stop at 127." Interface tokens stay 0 to 255.
-    pub const R_7: Rules = Rules { most_method: 127 };
+    pub const R_7: Rules = Rules { most_method: 127, ..Rules::DOCUMENT_01 };
+    /// "Grants given before the service exists." A converter takes images over.
+    pub const R_2: Rules = Rules { early_grants: true, ..Rules::R_7 };
 
     /// The rules of every time, in order.
-    pub const ALL: [Rules; 2] = [Rules::DOCUMENT_01, Rules::R_7];
+    pub const ALL: [Rules; 3] = [Rules::DOCUMENT_01, Rules::R_7, Rules::R_2];
     /// The rules in force: the last.
     pub const IN_FORCE: Rules = Rules::before(0);
     /// How often the rules have changed.

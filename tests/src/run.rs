@@ -25,8 +25,12 @@ pub fn run(cards: &[&dyn Card], seed: u64, records: u64) -> Result<Tally, Failur
     let mut ordinal = 0;
     while tally.records < records {
         let mut history = Vec::new();
-        caught(|| one_history(cards, seed, ordinal, records, &mut history, &mut tally))
-            .map_err(|difference| shortest(cards, seed, &history, difference))?;
+        caught(|| one_history(cards, seed, ordinal, records, &mut history, &mut tally)).map_err(|difference| {
+            // A difference before a change: the changes to come tell by which rules it was.
+            let ahead = Source::new(seed, ordinal).changes() - changes(&history);
+            history.extend(vec![Event::Change; ahead]);
+            shortest(cards, seed, &history, difference)
+        })?;
         ordinal += 1;
     }
     Ok(tally)
@@ -51,7 +55,7 @@ fn one_history(
         for _ in 0..source.length_before() {
             next(Event::Record(source.record(&compare.machine)), &mut compare, tally)?;
         }
-        if source.clears() {
+        if source.clears() && !compare.left_out {
             while let Some(record) = source.clearing(&compare.machine) {
                 next(Event::Record(record), &mut compare, tally)?;
             }
@@ -69,20 +73,16 @@ fn one_history(
     Ok(())
 }
 
-/// Judges the records of a history everywhere, from the empty image. The damage is done to the first image that is
-/// judged by the rules in force and to every later one, besides that which is drawn.
+/// Judges the records of a history everywhere, from the empty image. The damage is done to each image besides that which
+/// is drawn.
 pub fn replay(cards: &[&dyn Card], seed: u64, history: &[Event], damage: &Damage) -> Result<Tally, Difference> {
     let mut tally = Tally::default();
     caught(|| {
         let mut compare = Compare::before(cards, seed, changes(history))?;
-        let damaged = |compare: &Compare, bytes: &[u8], tally: &mut Tally| match compare.in_force() {
-            true => compare.damaged_alike(damage, bytes, tally),
-            false => Ok(()),
-        };
-        damaged(&compare, &[], &mut tally)?;
+        compare.damaged_alike(damage, &[], &mut tally)?;
         history.iter().try_for_each(|event| {
             compare.event(event, &mut tally)?;
-            damaged(&compare, event.record(), &mut tally)
+            compare.damaged_alike(damage, event.record(), &mut tally)
         })
     })?;
     Ok(tally)

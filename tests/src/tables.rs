@@ -6,8 +6,8 @@
 use crate::machine::{Aid, Contract, Machine, Row, Tokens};
 use crate::rules::Rules;
 
-/// What an image's tables say.
-#[derive(Default)]
+/// What an image's tables say, whichever version it has.
+#[derive(Debug, Default, PartialEq, Eq)]
 pub struct Tables {
     pub packages: [Option<Package>; 8],
     /// The bits set, by callee, caller and service.
@@ -18,31 +18,33 @@ pub struct Tables {
     pub waiting: Vec<Waiting>,
 }
 
+#[derive(Debug, PartialEq, Eq)]
 pub struct Package {
     pub aid: Aid,
     pub services: [Option<Tokens>; 8],
 }
 
 /// A service that one package calls, is granted or needs of another.
-#[derive(Clone, Copy, PartialEq, Eq, PartialOrd, Ord)]
+#[derive(Clone, Copy, Debug, PartialEq, Eq, PartialOrd, Ord)]
 pub struct Bit {
     pub callee: usize,
     pub caller: usize,
     pub service: usize,
 }
 
-#[derive(PartialEq, Eq, PartialOrd, Ord)]
+#[derive(Clone, Copy, Debug, PartialEq, Eq, PartialOrd, Ord)]
 pub struct Unmet {
     pub callee: Aid,
     pub tokens: Tokens,
     pub caller: usize,
 }
 
-#[derive(PartialEq, Eq, PartialOrd, Ord)]
+/// A grant that waits. In an image of version 01 its service's number stands for the tokens.
+#[derive(Clone, Copy, Debug, PartialEq, Eq, PartialOrd, Ord)]
 pub struct Waiting {
     pub caller: Aid,
     pub callee: usize,
-    pub service: usize,
+    pub tokens: Tokens,
 }
 
 /// The contracts that an image stands for; `None` when it is not sound by the rules.
@@ -59,14 +61,15 @@ pub fn aid_at(image: &[u8], number: u32) -> Option<Aid> {
 impl Tables {
     /// The tables of an image that is sound by the rules.
     pub fn of(rules: Rules, image: &[u8]) -> Option<Tables> {
-        Tables::read(image).filter(|tables| tables.write() == image && tables.hold(rules))
+        Tables::read(rules, image).filter(|tables| tables.write(rules) == image && tables.hold(rules))
     }
 
-    fn read(image: &[u8]) -> Option<Tables> {
-        if image.len() != 1094 {
+    fn read(rules: Rules, image: &[u8]) -> Option<Tables> {
+        let (_, size, waiting_row) = form(rules);
+        if image.len() != size {
             return None;
         }
-        let mut packages = [const { None }; 8];
+        let mut packages: [Option<Package>; 8] = [const { None }; 8];
         for (number, place) in packages.iter_mut().enumerate() {
             if bit(image[3], number) {
                 let aid = read_aid(&image[4 + 17 * number..])?;
@@ -97,16 +100,22 @@ impl Tables {
             unmet.push(Unmet { callee: read_aid(row)?, tokens: read_tokens(&row[17..]), caller: row[19].into() });
         }
         let mut waiting = Vec::new();
-        for row in list(image, 789, 19)? {
-            waiting.push(Waiting { caller: read_aid(row)?, callee: row[17].into(), service: row[18].into() });
+        for row in list(image, 789, waiting_row)? {
+            let callee = usize::from(row[17]);
+            let tokens = match rules.early_grants {
+                true => read_tokens(&row[18..]),
+                false => (*packages.get(callee)?.as_ref()?.services.get(usize::from(row[18]))?)?,
+            };
+            waiting.push(Waiting { caller: read_aid(row)?, callee, tokens });
         }
         Some(Tables { packages, calls, grants, needs, unmet, waiting })
     }
 
-    /// The image with these tables.
-    pub fn write(&self) -> Vec<u8> {
-        let mut image = vec![0; 1094];
-        image[..3].copy_from_slice(&[0x04, 0x46, 0x01]);
+    /// The image with these tables, of the version that the rules have.
+    pub fn write(&self, rules: Rules) -> Vec<u8> {
+        let (header, size, waiting_row) = form(rules);
+        let mut image = vec![0; size];
+        image[..3].copy_from_slice(&header);
         for (number, package) in self.packages.iter().enumerate() {
             let Some(package) = package else { continue };
             image[3] |= 1 << number;
@@ -135,11 +144,21 @@ impl Tables {
         }
         image[789] = self.waiting.len() as u8;
         for (n, row) in self.waiting.iter().enumerate() {
-            let place = &mut image[790 + 19 * n..];
+            let place = &mut image[790 + waiting_row * n..];
             write_aid(place, row.caller);
-            place[17..19].copy_from_slice(&[row.callee as u8, row.service as u8]);
+            place[17] = row.callee as u8;
+            match rules.early_grants {
+                true => place[18..20].copy_from_slice(&[row.tokens.interface, row.tokens.method]),
+                false => place[18] = self.service(row.callee, row.tokens).expect("a service provided") as u8,
+            }
         }
         image
+    }
+
+    /// The number of the package's service with these tokens.
+    pub fn service(&self, package: usize, tokens: Tokens) -> Option<usize> {
+        let package = self.packages.get(package)?.as_ref()?;
+        package.services.iter().position(|service| *service == Some(tokens))
     }
 
     /// What a sound image has besides the right form.
@@ -149,8 +168,8 @@ impl Tables {
         let aids_differ = differ(installed().map(|package| package.aid));
         let tokens_differ = installed().all(|package| differ(package.services.iter().flatten()));
         let provided = installed().flat_map(|package| package.services.iter().flatten());
-        let methods = provided.chain(self.unmet.iter().map(|row| &row.tokens)).map(|tokens| tokens.method);
-        let methods_stop = methods.max().is_none_or(|most| most <= rules.most_method);
+        let listed = self.unmet.iter().map(|row| &row.tokens).chain(self.waiting.iter().map(|row| &row.tokens));
+        let methods_stop = provided.chain(listed).all(|tokens| tokens.method <= rules.most_method);
         let lawful = self.calls.iter().all(|call| self.grants.binary_search(call).is_ok());
         let rows_differ = differ(self.unmet.iter()) && differ(self.waiting.iter());
         let unmet_hold = self.unmet.iter().all(|row| {
@@ -159,9 +178,9 @@ impl Tables {
             number(row.caller).is_some_and(|caller| caller.aid != row.callee) && !provided
         });
         let waiting_hold = self.waiting.iter().all(|row| {
-            let services = number(row.callee).map(|callee| &callee.services);
-            let provided = services.is_some_and(|services| services.get(row.service).is_some_and(Option::is_some));
-            provided && installed().all(|package| package.aid != row.caller)
+            let here = installed().any(|package| package.aid == row.caller);
+            let provided = self.service(row.callee, row.tokens).is_some();
+            number(row.callee).is_some_and(|callee| callee.aid != row.caller) && !(here && provided)
         });
         aids_differ && tokens_differ && methods_stop && lawful && rows_differ && unmet_hold && waiting_hold
     }
@@ -191,8 +210,7 @@ impl Tables {
             contracts[row.caller].as_mut().unwrap().calls.insert(call);
         }
         for row in &self.waiting {
-            let tokens = self.row(row.callee, row.callee, row.service).tokens;
-            let grant = Row { other: row.caller, tokens };
+            let grant = Row { other: row.caller, tokens: row.tokens };
             contracts[row.callee].as_mut().unwrap().grants.insert(grant);
         }
         let aids = self.packages.iter().flatten().map(|package| package.aid);
@@ -203,6 +221,14 @@ impl Tables {
     pub fn row(&self, other: usize, provider: usize, service: usize) -> Row {
         let package = |n: usize| self.packages[n].as_ref().unwrap();
         Row { other: package(other).aid, tokens: package(provider).services[service].unwrap() }
+    }
+}
+
+/// Of the images that the rules have: the header, the size, and the bytes of a waiting grant.
+fn form(rules: Rules) -> ([u8; 3], usize, usize) {
+    match rules.early_grants {
+        true => ([0x04, 0x56, 0x02], 1110, 20),
+        false => ([0x04, 0x46, 0x01], 1094, 19),
     }
 }
 

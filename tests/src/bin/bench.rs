@@ -1,8 +1,8 @@
 //! Times a record of each kind on a nearly full card, every engine against the byte engine.
 //! `bench --help` lists the options.
 
-use second::card::{linked, Card, LONGEST_RECORD};
-use second::full_card::{timed, Timed};
+use second::card::{linked, Card, IMAGE, LONGEST_RECORD};
+use second::full_card::{old_card, timed, Timed};
 use second::program::{self, number, Failure};
 use second::{say, say_line};
 use std::hint::black_box;
@@ -11,10 +11,10 @@ use std::time::{Duration, Instant};
 
 const HELP: &str = "\
 bench [--rounds N]
-    times every kind, the check and the reading out on a nearly full card, N rounds (1,000) of 64 records each
+    times every kind, the check, the reading out and the conversion on a nearly full card, N rounds (1,000) of 64 each
 bench --count KIND [--calls N] [--of ENGINE]
-    calls one entry N times (1,000), for a profile; KIND is 1 to 10, check or read_out; ENGINE is bytes, or engine
-    when it is linked (the last one linked)
+    calls one entry N times (1,000), for a profile; KIND is 1 to 10, check, read_out or convert; ENGINE is bytes,
+    or engine when it is linked (the last one linked)
 
 Exit code: 0; 2 when the command line is bad.
 ";
@@ -77,6 +77,15 @@ fn entries() -> Vec<Entry> {
             assert_eq!(card.read_out(image, 0, black_box(&mut buffer)).answer, 0);
         }),
     });
+    entries.push(Entry {
+        name: "convert".to_string(),
+        operations: None,
+        image: old_card(),
+        call: Box::new(|card, old| {
+            let mut buffer = [0; IMAGE];
+            assert_eq!(card.convert(old, black_box(&mut buffer)).answer, 0);
+        }),
+    });
     entries
 }
 
@@ -110,7 +119,7 @@ fn print_table(cards: &[&dyn Card], rounds: usize) {
         times[1..].iter().for_each(|time| say!("{:>8.2}{:>8.2}", time.median / median, time.least / least));
         say_line!("{:>10}", entry.operations.map_or("-".to_string(), |operations| operations.to_string()));
     }
-    say_line!("Medians of {rounds} rounds of {BATCH} records, beside each the least. Table 8: the report's count of operations.");
+    say_line!("Medians of {rounds} rounds of {BATCH} calls, beside each the least. Table 8: the report's count of operations.");
 }
 
 /// The time of a call, for each engine. Engines take turns.
@@ -142,7 +151,7 @@ fn time(mut batches: Vec<Duration>) -> Time {
 
 fn repeat(card: &dyn Card, entry: &str, calls: usize) -> Result<(), Failure> {
     let named = |known: &Entry| known.name == entry || known.name.split(' ').next() == Some(entry);
-    let bad = || Failure::bad_use(format!("--count {entry}: not 1 to 10, check or read_out"));
+    let bad = || Failure::bad_use(format!("--count {entry}: not 1 to 10, check, read_out or convert"));
     let entry = entries().into_iter().find(named).ok_or_else(bad)?;
     let mut image = entry.image.clone();
     for _ in 0..calls {

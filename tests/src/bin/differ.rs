@@ -3,23 +3,26 @@
 use second::card::{linked, names, Card};
 use second::compare::Tally;
 use second::damage::Damage;
+use second::early::Early;
 use second::faults;
 use second::history::{changes, Event};
-use second::methods::Place;
+use second::methods::{Held, Place};
 use second::program::{self, number, Failure};
 use second::run::{replay, run, DEFAULT_RECORDS, DEFAULT_SEED};
 use second::say_line;
+use std::fmt::Display;
 use std::process::ExitCode;
 use std::time::Instant;
 
 const HELP: &str = "\
 differ [--seed N] [--records N] [--fault NAME]
     judges N random records (100,000) everywhere and compares all that comes out; a part of the histories begins by
-    the rules before the last change, and goes on over it
+    earlier rules, and goes on over their changes, where the card is converted
 differ --replay FILE [--damage PLACE=BYTE,...] [--seed N] [--fault NAME]
     the same with the records of a file, in hexadecimal, one on each line; the damage is done to each image besides.
     A line 'change' stands where the rules change: the records above it are judged by the rules before, by the machine
-    and the byte engine alone, and the card goes over as it is. Without such a line the rules in force judge them all
+    and the byte engine alone, and the card goes over as it is, or converted where images have another version. Without
+    such a line the rules in force judge them all
 
 A fault is an engine that is wrong on purpose and is compared too; a wrong name lists them all.
 Exit code: 0; 1 when something differs, or was never seen in 100,000 records or more, or the file is bad;
@@ -61,7 +64,7 @@ fn arguments(given: &[String]) -> Result<Arguments, Failure> {
             "--records" => arguments.records = number(name, value)?,
             "--replay" => arguments.replay = Some(value.to_string()),
             "--damage" => {
-                let bad = || Failure::bad_use(format!("{name} {value}: not as in 3=0F,1093=01"));
+                let bad = || Failure::bad_use(format!("{name} {value}: not as in 3=0F,1109=01"));
                 arguments.damage = Damage::from_text(value).ok_or_else(bad)?;
             }
             _ => arguments.fault = Some(faults::named(value)?),
@@ -99,9 +102,11 @@ fn report(tally: &Tally) -> String {
          {} contracts read out; damaged images: {} sound, {} not\n\
          records after which: unmet calls 15: {}, 16: {}; waiting grants 15: {}, 16: {}; \
          8 packages: {}; 8 services in one: {}\n\
-         histories over the change of the rules: {} gone on, {} of them cleared before; {} left out; records before: {}\n\
+         histories over changes of the rules: {} gone on, {} of them cleared before; {} left out; records before: {}\n\
+         images of version 01: {} converted, {} refused\n\
+         grants before their service: {}\n\
          method tokens 127 and 128 in records: {}\n\
-         on damaged images: services {} and {}, unmet calls {} and {}",
+         on damaged images: {}",
         tally.pairs,
         tally.records,
         tally.contracts_read,
@@ -117,20 +122,36 @@ fn report(tally: &Tally) -> String {
         tally.cleared,
         tally.left_out,
         tally.before,
-        methods(tally)
-            .map(|(place, [fine, wrong])| format!("{place} {fine} and {wrong}"))
-            .collect::<Vec<_>>()
-            .join(", "),
-        tally.methods_held[0][0],
-        tally.methods_held[0][1],
-        tally.methods_held[1][0],
-        tally.methods_held[1][1]
+        tally.converted,
+        tally.not_converted,
+        joined(early(tally).map(|(early, seen)| format!("{early} {seen}"))),
+        joined(methods(tally).map(both)),
+        joined(methods_held(tally).map(both)),
     )
+}
+
+fn joined(words: impl Iterator<Item = String>) -> String {
+    words.collect::<Vec<_>>().join(", ")
+}
+
+fn both((place, [fine, wrong]): (impl Display, [u64; 2])) -> String {
+    format!("{place} {fine} and {wrong}")
+}
+
+/// How often each thing was seen that R-2 brings about.
+fn early(tally: &Tally) -> impl Iterator<Item = (Early, u64)> + '_ {
+    Early::ALL.into_iter().map(|early| (early, tally.early.get(&early).copied().unwrap_or_default()))
 }
 
 /// How often a method token of 127, and one of 128, was seen in each place of records.
 fn methods(tally: &Tally) -> impl Iterator<Item = (Place, [u64; 2])> + '_ {
     Place::all().map(|place| (place, tally.methods.get(&place).copied().unwrap_or_default()))
+}
+
+/// How often damage set a method token to 127, and to 128, in each place of images.
+fn methods_held(tally: &Tally) -> impl Iterator<Item = (Held, [u64; 2])> + '_ {
+    let places = [Held::Provided, Held::Unmet, Held::Waiting].into_iter();
+    places.map(|place| (place, tally.methods_held.get(&place).copied().unwrap_or_default()))
 }
 
 /// A run as long as the default must have been everywhere.
@@ -146,10 +167,16 @@ fn everything_seen(tally: &Tally) -> Result<(), String> {
         return Err("a list or a card was never driven to its limit".to_string());
     }
     if tally.cleared == 0 || tally.left_out == 0 {
-        return Err("no card was cleared and went on over the change of the rules, or none was left out".to_string());
+        return Err("no card was cleared and went on over the changes of the rules, or none was left out".to_string());
     }
-    let [services, unmet] = tally.methods_held;
-    let on_images = [("services of images".to_string(), services), ("unmet calls of images".to_string(), unmet)];
+    if tally.converted == 0 || tally.not_converted == 0 {
+        return Err("no image of version 01 was converted, or none was refused".to_string());
+    }
+    let unseen = joined(early(tally).filter(|(_, seen)| *seen == 0).map(|(early, _)| early.to_string()));
+    if !unseen.is_empty() {
+        return Err(format!("grants before their service were never seen: {unseen}"));
+    }
+    let on_images = methods_held(tally).map(|(place, seen)| (format!("{place} of images"), seen));
     let places = methods(tally).map(|(place, seen)| (place.to_string(), seen)).chain(on_images);
     let unseen: Vec<String> = places.filter(|(_, seen)| seen.contains(&0)).map(|(place, _)| place).collect();
     match unseen.is_empty() {

@@ -1,7 +1,38 @@
-//! Where things are in an image of 1,094 bytes.
+//! Where things are in an image. Version 02, which the rules in force have, has 1,110 bytes, and version 01 had 1,094:
+//! all parts up to the waiting grants stand at the same places.
 
-pub const SIZE: usize = 1094;
-pub const HEADER: [u8; 3] = [0x04, 0x46, 0x01];
+use crate::rules::Rules;
+
+/// What the versions of images differ in.
+#[derive(PartialEq, Eq)]
+pub struct Version {
+    /// Length and version.
+    pub header: [u8; 3],
+    pub size: usize,
+    /// The bytes of a waiting grant.
+    pub waiting_row: usize,
+}
+
+/// A waiting grant is caller AID, callee number, service number.
+pub const VERSION_01: Version = Version { header: [0x04, 0x46, 0x01], size: 1094, waiting_row: 19 };
+/// A waiting grant is caller AID, callee number, tokens.
+pub const VERSION_02: Version = Version { header: [0x04, 0x56, 0x02], size: 1110, waiting_row: 20 };
+
+impl Version {
+    /// The version that the rules have.
+    pub fn of(rules: Rules) -> &'static Version {
+        match rules.early_grants {
+            true => &VERSION_02,
+            false => &VERSION_01,
+        }
+    }
+
+    /// The version whose images have this size; `None` when no version has it.
+    pub fn sized(size: usize) -> Option<&'static Version> {
+        [&VERSION_01, &VERSION_02].into_iter().find(|version| version.size == size)
+    }
+}
+
 pub const USED: usize = 3;
 pub const AIDS: usize = 4;
 pub const TOKENS: usize = 140;
@@ -16,13 +47,10 @@ pub const WAITING: usize = 789;
 pub const AID: usize = 17;
 /// Callee AID, tokens, caller number.
 pub const UNMET_ROW: usize = 20;
-/// Caller AID, callee number, service number.
-pub const WAITING_ROW: usize = 19;
 pub const MOST_ROWS: usize = 16;
 
-pub type Image = [u8; SIZE];
-pub type UnmetRow = [u8; UNMET_ROW];
-pub type WaitingRow = [u8; WAITING_ROW];
+/// The bytes of an image of either version.
+pub type Image = [u8];
 
 pub fn used(image: &Image, package: usize) -> bool {
     image[USED] >> package & 1 == 1
@@ -43,13 +71,13 @@ pub fn aid(image: &Image, package: usize) -> &[u8; AID] {
 }
 
 /// The AID without its fill: the length byte and the bytes, as records write it.
-pub fn written(aid: &[u8]) -> &[u8] {
+pub fn written(aid: &[u8; AID]) -> &[u8] {
     &aid[..1 + usize::from(aid[0])]
 }
 
 /// Whether an AID of the tables is this one, which is given as records write it. Of one length,
 /// AIDs mostly differ in the last byte.
-pub fn is_aid(stored: &[u8], written: &[u8]) -> bool {
+pub fn is_aid(stored: &[u8; AID], written: &[u8]) -> bool {
     let last = written.len() - 1;
     stored[0] == written[0] && stored[last] == written[last] && stored[..last] == written[..last]
 }
@@ -98,43 +126,4 @@ pub fn service(image: &Image, package: usize, wanted: [u8; 2]) -> Option<usize> 
 pub fn provided(image: &Image, callee: &[u8], tokens: [u8; 2]) -> Option<(usize, usize)> {
     let package = package(image, callee)?;
     Some((package, service(image, package, tokens)?))
-}
-
-/// The number of the package with this AID, which is given as tables hold it.
-pub fn package_held(image: &Image, held: &[u8; AID]) -> Option<usize> {
-    packages(image).find(|&n| aid(image, n) == held)
-}
-
-/// The rows that the list of unmet calls holds.
-pub fn unmet(image: &Image) -> &[UnmetRow] {
-    &image[UNMET + 1..WAITING].as_chunks().0[..usize::from(image[UNMET])]
-}
-
-/// The rows that the list of waiting grants holds.
-pub fn waiting(image: &Image) -> &[WaitingRow] {
-    &image[WAITING + 1..].as_chunks().0[..usize::from(image[WAITING])]
-}
-
-pub fn unmet_callee(row: &UnmetRow) -> &[u8; AID] {
-    row.first_chunk().unwrap()
-}
-
-pub fn unmet_tokens(row: &UnmetRow) -> [u8; 2] {
-    [row[AID], row[AID + 1]]
-}
-
-pub fn unmet_caller(row: &UnmetRow) -> usize {
-    usize::from(row[AID + 2])
-}
-
-pub fn waiting_caller(row: &WaitingRow) -> &[u8; AID] {
-    row.first_chunk().unwrap()
-}
-
-pub fn waiting_callee(row: &WaitingRow) -> usize {
-    usize::from(row[AID])
-}
-
-pub fn waiting_service(row: &WaitingRow) -> usize {
-    usize::from(row[AID + 1])
 }

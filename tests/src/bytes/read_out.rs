@@ -1,6 +1,7 @@
 //! Reading a package's contract out of an image, as a record of kind 1.
 
 use super::layout::*;
+use super::relation::{Listed, Relation};
 
 /// Writes the record and gives its length; 12 when the buffer is shorter.
 pub fn read_out(image: &Image, number: usize, out: &mut [u8]) -> Result<usize, u32> {
@@ -19,6 +20,7 @@ pub fn read_out(image: &Image, number: usize, out: &mut [u8]) -> Result<usize, u
 
 /// Hands over, in order, the parts of the record after its first four bytes.
 fn each_part(image: &Image, number: usize, put: &mut impl FnMut(&[u8])) {
+    let own = |row: &Listed| row.own == number;
     put(written(aid(image, number)));
 
     put(&[provides(image, number).count_ones() as u8]);
@@ -26,7 +28,7 @@ fn each_part(image: &Image, number: usize, put: &mut impl FnMut(&[u8])) {
         put(&tokens(image, number, service));
     }
 
-    let unmet = || unmet(image).iter().filter(|row| unmet_caller(row) == number);
+    let unmet = || Relation::Calls.rows(image).filter(own);
     put(&[ones(&image[cell(CALLS, number, 0)..][..8]) + unmet().count() as u8]);
     for callee in 0..8 {
         for service in bits(calls(image, number, callee)) {
@@ -35,11 +37,11 @@ fn each_part(image: &Image, number: usize, put: &mut impl FnMut(&[u8])) {
         }
     }
     for row in unmet() {
-        put(written(row));
-        put(&unmet_tokens(row));
+        put(written(row.other));
+        put(&row.tokens);
     }
 
-    let waiting = || waiting(image).iter().filter(|row| waiting_callee(row) == number);
+    let waiting = || Relation::Grants.rows(image).filter(own);
     put(&[ones(&image[cell(GRANTS, number, 0)..][..8]) + waiting().count() as u8]);
     for caller in 0..8 {
         for service in bits(grants(image, number, caller)) {
@@ -48,8 +50,8 @@ fn each_part(image: &Image, number: usize, put: &mut impl FnMut(&[u8])) {
         }
     }
     for row in waiting() {
-        put(written(row));
-        put(&tokens(image, number, waiting_service(row)));
+        put(written(row.other));
+        put(&row.tokens);
     }
 
     put(&[ones(&image[cell(NEEDS, number, 0)..][..8])]);

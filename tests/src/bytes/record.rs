@@ -170,9 +170,9 @@ fn read_aid(rest: &[u8]) -> Option<(&[u8], &[u8])> {
 }
 
 /// Cause 3.
-pub fn contradicts(record: &Record) -> bool {
+pub fn contradicts(rules: Rules, record: &Record) -> bool {
     match record.change {
-        Change::Load(load) => load_contradicts(record.aid, &load),
+        Change::Load(load) => load_contradicts(rules, record.aid, &load),
         Change::AddService(_, callers) => repeats(callers) || callers.into_iter().any(|caller| caller == record.aid),
         Change::Remove | Change::RemoveService(_) => false,
         Change::AddCall(row)
@@ -184,14 +184,14 @@ pub fn contradicts(record: &Record) -> bool {
     }
 }
 
-fn load_contradicts(own: &[u8], load: &Load) -> bool {
+fn load_contradicts(rules: Rules, own: &[u8], load: &Load) -> bool {
     let Load { provides, mut calls, mut grants, mut needs } = *load;
     repeats(provides.iter())
         || repeats(calls)
         || repeats(grants)
         || repeats(needs)
         || calls.any(|row| row.aid == own)
-        || grants.any(|row| row.aid == own || !provides.contains(&row.tokens))
+        || grants.any(|row| row.aid == own || !rules.early_grants && !provides.contains(&row.tokens))
         || needs.any(|row| !load.calls.into_iter().any(|call| call == row))
 }
 

@@ -132,14 +132,14 @@ fn over_the_change() -> Vec<Case> {
         records.into_iter().map(|record| no(1, record)).collect::<Vec<_>>()
     };
     vec![
-        over("R-7: a card that provides 128 at the change", vec![yes(0, server(PAST))], all_refused()),
-        over("R-7: a card with an unmet call of 128 at the change", vec![yes(0, caller(PAST))], all_refused()),
-        over(
+        over_r_7("R-7: a card that provides 128 at the change", vec![yes(0, server(PAST))], all_refused()),
+        over_r_7("R-7: a card with an unmet call of 128 at the change", vec![yes(0, caller(PAST))], all_refused()),
+        over_r_7(
             "R-7: a card that provides 128, which is called, and 255, which is not, at the change",
             vec![yes(0, server(PAST)), yes(1, caller(PAST)), yes(1, add_service(C, HIGHEST, &[]))],
             all_refused(),
         ),
-        over(
+        over_r_7(
             "R-7: 128 and 255 are taken off the card before the change",
             vec![
                 yes(0, server(PAST)),
@@ -156,12 +156,12 @@ fn over_the_change() -> Vec<Case> {
                 yes(1, remove(C)),
             ],
         ),
-        over(
+        over_r_7(
             "R-7: a package with 128 is removed before the change",
             vec![yes(0, server(PAST)), yes(1, load(B, &[], &[], &[], &[])), yes(0, remove(H))],
             vec![no(2, server(PAST)), yes(0, server(LAST)), yes(1, remove(B))],
         ),
-        over(
+        over_r_7(
             "R-7: a card that holds 127 goes on over the change",
             vec![yes(0, server(LAST)), yes(1, caller(LAST)), yes(1, update(5, C, X, LAST))],
             vec![
@@ -172,10 +172,15 @@ fn over_the_change() -> Vec<Case> {
                 yes(0, remove_service(H, LAST)),
             ],
         ),
-        over(
+        over_r_7(
             "R-7: what is refused before the change leaves no token",
             vec![yes(0, load(H, &[(0, 0)], &[], &[], &[])), no(8, load(C, &[PAST], &[row(H, (0, 0))], &[], &[]))],
             vec![yes(1, load(C, &[LAST], &[], &[], &[]))],
         ),
     ]
+}
+
+/// A case over R-7's change, and at once over those since.
+fn over_r_7(name: &'static str, before: Vec<Step>, steps: Vec<Step>) -> Case {
+    over(name, vec![before, Vec::new()], steps)
 }

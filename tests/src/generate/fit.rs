@@ -81,7 +81,9 @@ impl Source {
                 grants.push(Row { other: *caller, tokens: call.tokens });
             }
         }
-        let waiting = held.waiting().filter(|(_, grant)| grant.other != own).count();
+        let settles =
+            |callee: &Aid, grant: &Row| grant.other == own && held.contracts[callee].provides.contains(&grant.tokens);
+        let waiting = held.waiting().filter(|(callee, grant)| !settles(callee, grant)).count();
         grants.extend(self.load_grants(own, &services, held, waiting));
         grants.sort();
         grants.dedup();
@@ -105,7 +107,9 @@ impl Source {
 
     /// Grants to packages on the card, and some that wait.
     fn load_grants(&mut self, own: Aid, services: &[Tokens], held: &Machine, waiting: usize) -> Vec<Row> {
-        let (mut here, mut absent) = (Vec::new(), Vec::new());
+        let early = self.early(own, |tokens| !services.contains(tokens));
+        let mut absent = self.some(&early, |_| 10);
+        let mut here = Vec::new();
         for other in self.aids.iter().filter(|other| **other != own) {
             let rows = services.iter().map(|tokens| Row { other: *other, tokens: *tokens });
             match held.contracts.contains_key(other) {
@@ -118,6 +122,13 @@ impl Source {
         absent.truncate(self.rows_more(waiting).min(16));
         grants.extend(absent);
         grants
+    }
+
+    /// Grants of services that the package does not provide, where the rules have them.
+    fn early(&self, own: Aid, not_provided: impl Fn(&Tokens) -> bool) -> Vec<Row> {
+        let others = self.aids.iter().filter(|other| self.rules.early_grants && **other != own);
+        let tokens = || self.tokens.iter().filter(|tokens| not_provided(tokens));
+        others.flat_map(|other| tokens().map(|tokens| Row { other: *other, tokens: *tokens })).collect()
     }
 
     /// How many rows to add to a list that has `now`: a few, or up to 15, 16 or 17 of them.
@@ -133,24 +144,28 @@ impl Source {
         }
     }
 
+    /// A service, mostly one that is called or granted already. Its callers are listed, and some of those it is granted to.
     fn fit_new_service(&mut self, held: &Machine) -> Option<Vec<u8>> {
         let (own, contract) = self.installed(held, |_| true)?;
-        let new: Vec<Tokens> =
-            self.tokens.iter().filter(|tokens| !contract.provides.contains(tokens)).copied().collect();
+        let called = held.unmet().filter(|(_, call)| call.other == own).map(|(_, call)| call.tokens);
+        let mut new: Vec<Tokens> = called.chain(contract.grants.iter().map(|grant| grant.tokens)).collect();
+        if self.random.percent(50) {
+            new = self.tokens.clone();
+        }
+        new.retain(|tokens| !contract.provides.contains(tokens));
         let tokens = *self.random.pick(&new)?;
-        let called = Row { other: own, tokens };
         let mut callers: Vec<Aid> = Vec::new();
-        for (caller, call) in held.unmet() {
-            if *call == called && self.random.percent(80) {
+        for (caller, _) in held.unmet().filter(|(_, call)| **call == Row { other: own, tokens }) {
+            let listed = if contract.grants_to(*caller, tokens) { 40 } else { 80 };
+            if self.random.percent(listed) {
                 callers.push(*caller);
             }
         }
-        for _ in 0..self.random.between(0, 4) {
-            let other = self.aid();
-            if other != own && !callers.contains(&other) {
-                callers.push(other);
-            }
-        }
+        let granted = contract.grants.iter().filter(|grant| grant.tokens == tokens && self.random.percent(30));
+        callers.extend(granted.map(|grant| grant.other));
+        callers.extend((0..self.random.between(0, 4)).map(|_| self.aid()).filter(|other| *other != own));
+        callers.sort();
+        callers.dedup();
         self.random.shuffle(&mut callers);
         let callers: Vec<_> = callers.iter().map(|caller| caller.bytes().to_vec()).collect();
         Some(write::add_service(own.bytes(), pair(tokens), &callers))
@@ -171,13 +186,21 @@ impl Source {
         Some(write::update(5, own.bytes(), row.other.bytes(), pair(row.tokens)))
     }
 
-    /// A grant to a package on the card, or one that waits.
+    /// A grant to a package on the card, or one that waits: for its caller, or for its service, which may be called.
     fn fit_new_grant(&mut self, held: &Machine) -> Option<Vec<u8>> {
-        let (own, contract) = self.installed(held, |contract| !contract.provides.is_empty())?;
+        let early = self.rules.early_grants && self.random.percent(25);
+        let (own, contract) = self.installed(held, |contract| early || !contract.provides.is_empty())?;
         let waits = self.random.percent(if self.drive == Drive::Lists { 70 } else { 30 });
         let mut rows = Vec::new();
         for other in self.aids.iter().filter(|other| **other != own && held.contracts.contains_key(*other) != waits) {
             rows.extend(contract.provides.iter().map(|tokens| Row { other: *other, tokens: *tokens }));
+        }
+        if early {
+            let called = held.unmet().filter(|(_, call)| call.other == own && self.random.percent(60));
+            rows = called.map(|(caller, call)| Row { other: *caller, tokens: call.tokens }).collect();
+        }
+        if early && rows.is_empty() {
+            rows = self.early(own, |tokens| !contract.provides.contains(tokens));
         }
         rows.retain(|row| !contract.grants.contains(row));
         let row = self.random.pick(&rows)?;

@@ -7,8 +7,8 @@ use crate::machine::{Aid, Row, Tokens};
 
 use super::encode;
 
-/// An image part by part. Parts after the header that are zero throughout are left out.
-pub fn image(image: &Image) -> String {
+/// An image part by part, of the version that its size says. Parts after the header that are zero throughout are left out.
+pub fn image(image: &Image, version: &Version) -> String {
     let mut parts = vec![(3, "length, version".to_string()), (1, "used package numbers, bit by bit".to_string())];
     parts.extend((0..8).map(|n| (AID, format!("AID of package {n}: length, bytes, fill"))));
     parts.extend((0..8).map(|n| (16, format!("tokens of package {n}, two bytes for each service"))));
@@ -19,7 +19,9 @@ pub fn image(image: &Image) -> String {
     parts.push((1, "count of unmet calls".to_string()));
     parts.extend((0..MOST_ROWS).map(|n| (UNMET_ROW, format!("unmet call {n}: callee AID, tokens, caller"))));
     parts.push((1, "count of waiting grants".to_string()));
-    parts.extend((0..MOST_ROWS).map(|n| (WAITING_ROW, format!("waiting grant {n}: caller AID, callee, service"))));
+    let service = if *version == VERSION_01 { "service" } else { "tokens" };
+    let waiting = |n| (version.waiting_row, format!("waiting grant {n}: caller AID, callee, {service}"));
+    parts.extend((0..MOST_ROWS).map(waiting));
     lines(image, &parts, |at, part| at < AIDS || part.iter().any(|byte| *byte != 0))
 }
 

@@ -5,19 +5,15 @@ use super::fault::{Fault, Place};
 use super::names::{tokens, tokens_word, Names};
 use super::record_text::{self, calls, grants, needs, Said};
 use super::words::{lines, Line, Word};
-use crate::bytes::layout::{Image, MOST_ROWS, SIZE};
+use crate::bytes::layout::MOST_ROWS;
 use crate::machine::{Aid, Row};
+use crate::rules::Rules;
 use crate::tables::{Bit, Package, Tables, Unmet, Waiting};
 
 /// The text of an image's tables, which reads as that image again.
 pub fn write(tables: &Tables, names: &Names) -> String {
     let packages = (0..).zip(&tables.packages).filter_map(|(number, package)| Some((number, package.as_ref()?)));
-    let mut text = format!(
-        "# {}, {}, {}\n",
-        counted(packages.clone().count(), "package"),
-        counted(tables.unmet.len(), "unmet call"),
-        counted(tables.waiting.len(), "waiting grant")
-    );
+    let mut text = format!("# {}\n", counts(tables));
     for (number, package) in packages {
         text.push_str(&format!("package {number} {}\n", names.word(package.aid)));
         for row in package_rows(tables, number, package, names) {
@@ -30,10 +26,17 @@ pub fn write(tables: &Tables, names: &Names) -> String {
         text.push_str(&format!("unmet {} {}\n", own(row.caller), calls(&call, names)));
     }
     for row in &tables.waiting {
-        let grant = Row { other: row.caller, ..tables.row(row.callee, row.callee, row.service) };
+        let grant = Row { other: row.caller, tokens: row.tokens };
         text.push_str(&format!("waiting {} {}\n", own(row.callee), grants(&grant, names)));
     }
     text
+}
+
+/// How much the tables have.
+pub fn counts(tables: &Tables) -> String {
+    let packages = counted(tables.packages.iter().flatten().count(), "package");
+    let (unmet, waiting) = (tables.unmet.len(), tables.waiting.len());
+    format!("{packages}, {}, {}", counted(unmet, "unmet call"), counted(waiting, "waiting grant"))
 }
 
 fn counted(count: usize, what: &str) -> String {
@@ -56,8 +59,8 @@ fn package_rows(tables: &Tables, number: usize, package: &Package, names: &Names
     rows
 }
 
-/// Reads a text as the image that it describes, which is sound.
-pub fn read(text: &str) -> Result<Image, Fault> {
+/// Reads a text as the image that it describes, which is sound, and of the version in force.
+pub fn read(text: &str) -> Result<Vec<u8>, Fault> {
     let mut reading = Reading::default();
     for mut line in lines(text) {
         reading.line(&mut line)?;
@@ -178,7 +181,7 @@ impl Reading {
     }
 
     /// Puts the rows in place, grants first: a call must be granted, and a need called.
-    fn finish(mut self) -> Result<Image, Fault> {
+    fn finish(mut self) -> Result<Vec<u8>, Fault> {
         let mut rows = std::mem::take(&mut self.rows);
         rows.sort_by_key(|(_, stated)| match stated {
             Stated::Grant(..) => 0,
@@ -189,9 +192,7 @@ impl Reading {
         for (place, stated) in rows {
             self.put(stated).map_err(|words| Fault::text(place, words))?;
         }
-        let mut image = [0; SIZE];
-        image.copy_from_slice(&self.tables.write());
-        Ok(image)
+        Ok(self.tables.write(Rules::IN_FORCE))
     }
 
     fn put(&mut self, stated: Stated) -> Result<(), String> {
@@ -228,11 +229,13 @@ impl Reading {
             }
             Stated::Waiting(own, row) => {
                 let callee = self.installed(own).ok_or("the package that grants is no package here")?;
-                let service = self.provided(callee, row).ok_or("the package does not provide this")?;
-                if self.installed(row.other).is_some() {
-                    return Err("the caller is a package here: the grant does not wait".to_string());
+                if own == row.other {
+                    return Err("a package does not grant to itself".to_string());
                 }
-                add(&mut self.tables.waiting, Waiting { caller: row.other, callee, service })?;
+                if self.installed(row.other).is_some() && self.provided(callee, row).is_some() {
+                    return Err("caller and service are on the card: the grant does not wait".to_string());
+                }
+                add(&mut self.tables.waiting, Waiting { caller: row.other, callee, tokens: row.tokens })?;
                 fits(self.tables.waiting.len(), "waiting grants")
             }
         }

@@ -5,6 +5,7 @@ use super::names::{tokens, tokens_word, Names};
 use super::words::{lines, Line, Word};
 use crate::machine::record::{contradiction, Change, Lists, Part, Record, MOST_CALLERS, MOST_PROVIDES, MOST_ROWS};
 use crate::machine::{Aid, Row, Tokens};
+use crate::rules::Rules;
 use std::collections::BTreeMap;
 
 /// A record of a text, its place, and where the rows of its lists stand.
@@ -18,7 +19,7 @@ pub struct Placed {
 impl Placed {
     /// A fault where the record contradicts itself: a card answers 3 to it.
     pub fn consistent(&self) -> Result<(), Fault> {
-        match contradiction(&self.record) {
+        match contradiction(Rules::IN_FORCE, &self.record) {
             None => Ok(()),
             Some((part, clash)) => {
                 let place = self.parts.get(&part).copied().unwrap_or(self.place);

@@ -7,8 +7,8 @@ use super::names::Names;
 use super::record_text::{self, Text};
 use super::words::utf8;
 use super::{dump, image_text, unsound};
-use crate::bytes::layout::Image;
-use crate::card::{linked, Card, Verdict, IMAGE};
+use crate::bytes::layout::VERSION_02;
+use crate::card::{linked, Card, Verdict, IMAGE, OLD_IMAGE};
 use crate::hex::to_hex;
 use crate::machine::record::{self, Record};
 use crate::program::{asks_help, Failure, BAD_INPUT, BAD_USE};
@@ -43,7 +43,7 @@ impl From<String> for Done {
     }
 }
 
-const COMMANDS: [Command; 6] = [
+const COMMANDS: [Command; 7] = [
     Command {
         name: "encode",
         about: "records as text -> their bytes, a line of hexadecimal for each record",
@@ -58,13 +58,13 @@ const COMMANDS: [Command; 6] = [
     },
     Command {
         name: "show",
-        about: "an image, a dump in hexadecimal -> text; of an image that is not sound, each reason with its byte",
+        about: "an image, a dump in hexadecimal, of version 02 or 01 -> text; if it is not sound, each reason with its byte",
         options: &["--raw", "--names", "--out"],
         run: show,
     },
     Command {
         name: "build",
-        about: "a sound image as text -> its bytes, a dump in hexadecimal",
+        about: "a sound image as text -> its bytes in version 02, a dump in hexadecimal",
         options: &["--raw", "--out"],
         run: build,
     },
@@ -73,6 +73,12 @@ const COMMANDS: [Command; 6] = [
         about: "an image, or records, in hexadecimal -> a dump with words, a part on each line",
         options: &["--raw", "--record", "--out"],
         run: dump,
+    },
+    Command {
+        name: "convert",
+        about: "an image of version 01, a dump in hexadecimal -> version 02, with the numbers and the order of the lists",
+        options: &["--raw", "--save", "--out"],
+        run: convert,
     },
     Command {
         name: "judge",
@@ -89,7 +95,7 @@ const OPTIONS: [(&str, &str, &str); 7] = [
     ("--record", "", "the input is records, not an image"),
     ("--names", "FILE", "a text whose 'name' lines give AIDs their names"),
     ("--image", "FILE", "begin with this image, not with the empty one"),
-    ("--save", "FILE", "write the image after the last record there"),
+    ("--save", "FILE", "write the image there: the one after the last record, or the converted one"),
     ("--out", "FILE", "write there, not to standard output"),
 ];
 
@@ -99,7 +105,7 @@ struct Options {
     as_is: bool,
     record: bool,
     names: Names,
-    image: Option<Image>,
+    image: Option<Vec<u8>>,
     save: Option<String>,
     out: Option<String>,
     input: Option<String>,
@@ -133,7 +139,7 @@ pub fn run(arguments: &[String], input: &mut dyn Read) -> Result<Vec<u8>, Failur
     }
 }
 
-/// Whose answers `judge` gives: the last engine that is linked.
+/// Whose answers `judge` and `convert` give: the last engine that is linked.
 const ANSWERING: &str = match cfg!(feature = "engine") {
     true => "the proved engine",
     false => "the second engine; built with '--features engine', of the proved engine",
@@ -196,7 +202,7 @@ fn options(command: &Command, arguments: &[String]) -> Result<Options, Failure> 
     }
     if let Some(file) = image {
         let bytes = read_file(&file)?;
-        let image = image_bytes(options.raw, &bytes).and_then(|bytes| unsound::sized(&bytes).copied());
+        let image = image_bytes(options.raw, &bytes).and_then(judgeable);
         options.image = Some(image.map_err(|fault| bad_input(&file, &[fault]))?);
     }
     Ok(options)
@@ -235,11 +241,23 @@ fn image_bytes(raw: bool, bytes: &[u8]) -> Result<Vec<u8>, Fault> {
     }
 }
 
-/// An image's bytes as they are written: raw, or a dump.
-fn image_out(raw: bool, image: &Image) -> Vec<u8> {
+/// What is said of an image of version 01.
+const CONVERT_FIRST: &str =
+    "the image has version 01, and has to be converted before it can be judged: 'cardtool convert'";
+
+/// An image that records can be judged on.
+fn judgeable(image: Vec<u8>) -> Result<Vec<u8>, Fault> {
+    match *unsound::version(&image)? == VERSION_02 {
+        true => Ok(image),
+        false => Err(Fault::byte(2, CONVERT_FIRST)),
+    }
+}
+
+/// The bytes of an image of version 02 as they are written: raw, or a dump.
+fn image_out(raw: bool, image: &[u8]) -> Vec<u8> {
     match raw {
         true => image.to_vec(),
-        false => dump::image(image).into_bytes(),
+        false => dump::image(image, &VERSION_02).into_bytes(),
     }
 }
 
@@ -295,8 +313,12 @@ fn decode(options: &Options, bytes: &[u8]) -> Result<Done, Vec<Fault>> {
 
 fn show(options: &Options, bytes: &[u8]) -> Result<Done, Vec<Fault>> {
     let image = image_bytes(options.raw, bytes).map_err(one)?;
-    let Some(tables) = Tables::of(Rules::IN_FORCE, &image) else { return Err(unsound::faults(&image)) };
-    Ok((options.names.text() + &image_text::write(&tables, &options.names)).into())
+    let (rules, version) = match image.len() {
+        OLD_IMAGE => (Rules::R_7, format!("# {CONVERT_FIRST}\n")),
+        _ => (Rules::IN_FORCE, String::new()),
+    };
+    let Some(tables) = Tables::of(rules, &image) else { return Err(unsound::faults(&image)) };
+    Ok((options.names.text() + &version + &image_text::write(&tables, &options.names)).into())
 }
 
 fn build(options: &Options, bytes: &[u8]) -> Result<Done, Vec<Fault>> {
@@ -310,14 +332,27 @@ fn dump(options: &Options, bytes: &[u8]) -> Result<Done, Vec<Fault>> {
         return Ok(records.iter().map(dump::record).collect::<Vec<_>>().join("\n").into());
     }
     let image = image_bytes(options.raw, bytes).map_err(one)?;
-    Ok(dump::image(unsound::sized(&image).map_err(one)?).into())
+    Ok(dump::image(&image, unsound::version(&image).map_err(one)?).into())
+}
+
+fn convert(options: &Options, bytes: &[u8]) -> Result<Done, Vec<Fault>> {
+    let old = image_bytes(options.raw, bytes).map_err(one)?;
+    if *unsound::version(&old).map_err(one)? == VERSION_02 {
+        return Err(one(Fault::byte(2, "the image has version 02: there is nothing to convert")));
+    }
+    let Some(tables) = Tables::of(Rules::R_7, &old) else { return Err(unsound::faults(&old)) };
+    let mut image = [0; IMAGE];
+    let words = match Refusal::of(answering().convert(&old, &mut image).answer) {
+        None => format!("converted to version 02: {}\n", image_text::counts(&tables)),
+        Some(refusal) => format!("refused, {refusal}\n"),
+    };
+    Ok(Done { output: words.into_bytes(), saved: Some(image_out(options.raw, &image)) })
 }
 
 fn judge(options: &Options, bytes: &[u8]) -> Result<Done, Vec<Fault>> {
     let text = text_of(bytes).map_err(one)?;
-    let cards = linked();
-    let card: &dyn Card = cards[cards.len() - 1];
-    let mut image = options.image.unwrap_or_else(|| empty(card));
+    let card = answering();
+    let mut image = options.image.clone().unwrap_or_else(|| empty(card));
     let mut lines = String::new();
     for (ordinal, placed) in (1..).zip(&text.records) {
         let verdict = card.judge(&mut image, &encode::bytes(&placed.record));
@@ -328,8 +363,14 @@ fn judge(options: &Options, bytes: &[u8]) -> Result<Done, Vec<Fault>> {
     Ok(Done { output: lines.into_bytes(), saved: Some(image_out(options.raw, &image)) })
 }
 
-fn empty(card: &dyn Card) -> Image {
-    let mut image = [0; IMAGE];
+/// The last engine that is linked.
+fn answering() -> &'static dyn Card {
+    let cards = linked();
+    cards[cards.len() - 1]
+}
+
+fn empty(card: &dyn Card) -> Vec<u8> {
+    let mut image = vec![0; IMAGE];
     card.empty(&mut image);
     image
 }

@@ -4,19 +4,21 @@ use super::fault::Fault;
 use crate::bytes::layout::*;
 use crate::rules::Rules;
 
-/// Bytes that are as many as an image has.
-pub fn sized(bytes: &[u8]) -> Result<&Image, Fault> {
-    let words = || format!("an image has {SIZE} bytes, here are {}", bytes.len());
-    bytes.try_into().map_err(|_| Fault::byte(bytes.len().min(SIZE), words()))
+/// The version of an image, by its size.
+pub fn version(bytes: &[u8]) -> Result<&'static Version, Fault> {
+    let [old, new] = [VERSION_01.size, VERSION_02.size];
+    let words = || format!("an image has {new} bytes, or {old} in version 01, here are {}", bytes.len());
+    Version::sized(bytes.len()).ok_or_else(|| Fault::byte(bytes.len().min(new), words()))
 }
 
-/// Everything that keeps an image from being sound; nothing when it is sound.
+/// Everything that keeps an image from being sound; nothing when it is sound. One of version 01 is judged by the last rules
+/// that had that version.
 pub fn faults(bytes: &[u8]) -> Vec<Fault> {
-    let image = match sized(bytes) {
-        Ok(image) => image,
+    let version = match version(bytes) {
+        Ok(version) => version,
         Err(fault) => return vec![fault],
     };
-    let mut look = Look { image, faults: Vec::new() };
+    let mut look = Look { image: bytes, version, faults: Vec::new() };
     look.header();
     for package in 0..8 {
         look.package(package);
@@ -35,6 +37,7 @@ pub fn faults(bytes: &[u8]) -> Vec<Fault> {
 
 struct Look<'a> {
     image: &'a Image,
+    version: &'static Version,
     faults: Vec<(usize, String)>,
 }
 
@@ -44,7 +47,7 @@ impl Look<'_> {
     }
 
     fn header(&mut self) {
-        for (at, byte) in HEADER.into_iter().enumerate() {
+        for (at, byte) in self.version.header.into_iter().enumerate() {
             if self.image[at] != byte {
                 self.say(at, format!("the header has {byte:02X} here, not {:02X}", self.image[at]));
             }
@@ -82,17 +85,13 @@ impl Look<'_> {
         }
     }
 
-    /// A method token past the end may come from a card of earlier rules, and then nothing is damaged.
+    /// A card of version 01 may come from earlier rules, and then nothing is damaged.
     fn method(&mut self, at: usize, whose: &str) {
         let (method, most) = (self.image[at], Rules::IN_FORCE.most_method);
         if method > most {
-            self.say(
-                at,
-                format!(
-                    "{whose} has the method token {method}, not 0 to {most}: since R-7 method tokens stop at {most}, \
-                     and a card made before may hold more"
-                ),
-            );
+            let since = format!(": since R-7 method tokens stop at {most}, and a card made before may hold more");
+            let since = if *self.version == VERSION_01 { &since } else { "" };
+            self.say(at, format!("{whose} has the method token {method}, not 0 to {most}{since}"));
         }
     }
 
@@ -124,40 +123,68 @@ impl Look<'_> {
 
     fn unmet(&mut self) {
         for at in self.list(UNMET, UNMET_ROW, "unmet call") {
-            let row: &UnmetRow = self.image[at..].first_chunk().unwrap();
-            let (callee, caller) = (unmet_callee(row), unmet_caller(row));
+            let caller = usize::from(self.image[at + AID + 2]);
             self.method(at + AID + 1, "the unmet call");
             if !self.valid_aid(at, "the callee's AID") {
                 continue;
             }
+            let callee = self.installed(at);
             if caller >= 8 || !used(self.image, caller) {
                 self.say(at + AID + 2, format!("the caller is package {caller}, which is not used"));
-            } else if aid(self.image, caller) == callee {
+            } else if callee == Some(caller) {
                 self.say(at, format!("package {caller} calls itself"));
             }
-            if package_held(self.image, callee)
-                .is_some_and(|callee| service(self.image, callee, unmet_tokens(row)).is_some())
-            {
+            if callee.is_some_and(|callee| self.provided(at + AID, callee).is_some()) {
                 self.say(at, "the service is provided on the card, and the call is said to be unmet");
             }
         }
     }
 
     fn waiting(&mut self) {
-        for at in self.list(WAITING, WAITING_ROW, "waiting grant") {
-            let row: &WaitingRow = self.image[at..].first_chunk().unwrap();
-            let (callee, service) = (waiting_callee(row), waiting_service(row));
-            if self.valid_aid(at, "the caller's AID") {
-                if let Some(caller) = package_held(self.image, waiting_caller(row)) {
-                    self.say(at, format!("the caller is package {caller}, and the grant is said to wait"));
-                }
+        for at in self.list(WAITING, self.version.waiting_row, "waiting grant") {
+            let callee = usize::from(self.image[at + AID]);
+            let caller = if self.valid_aid(at, "the caller's AID") { self.installed(at) } else { None };
+            if *self.version != VERSION_01 {
+                self.method(at + AID + 2, "the waiting grant");
             }
             if callee >= 8 || !used(self.image, callee) {
                 self.say(at + AID, format!("the callee is package {callee}, which is not used"));
-            } else if service >= 8 || provides(self.image, callee) >> service & 1 == 0 {
-                self.say(at + AID + 1, format!("package {callee} does not provide service {service}"));
+                continue;
+            }
+            let service = match *self.version == VERSION_01 {
+                true => self.numbered(at + AID + 1, callee),
+                false => self.provided(at + AID + 1, callee),
+            };
+            match (caller, service) {
+                (Some(caller), _) if caller == callee => self.say(at, format!("package {callee} grants to itself")),
+                (Some(caller), Some(service)) => {
+                    let words = format!("the caller is package {caller} and service {service} is provided");
+                    self.say(at, format!("{words}, and the grant is said to wait"));
+                }
+                _ => {}
             }
         }
+    }
+
+    /// The number of the package whose AID stands here.
+    fn installed(&self, at: usize) -> Option<usize> {
+        let stored = self.image[at..].first_chunk()?;
+        packages(self.image).find(|&number| aid(self.image, number) == stored)
+    }
+
+    /// The number of the package's service whose tokens stand here.
+    fn provided(&self, at: usize, package: usize) -> Option<usize> {
+        service(self.image, package, [self.image[at], self.image[at + 1]])
+    }
+
+    /// The number of a service that stands here, in version 01. The package provides it.
+    fn numbered(&mut self, at: usize, package: usize) -> Option<usize> {
+        let service = usize::from(self.image[at]);
+        let provided = service < 8 && provides(self.image, package) >> service & 1 == 1;
+        if !provided {
+            self.say(at, format!("package {package} does not provide service {service}"));
+        }
+        provided.then_some(service)
     }
 
     /// The places of the rows that a list holds. Its count, the places past it and repeated rows are

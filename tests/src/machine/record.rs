@@ -145,9 +145,10 @@ pub enum Clash {
 }
 
 /// Cause 3: a part of the record that contradicts the rest, or names its own AID as the other end.
-pub fn contradiction(record: &Record) -> Option<(Part, Clash)> {
+pub fn contradiction(rules: Rules, record: &Record) -> Option<(Part, Clash)> {
     let own = |other: &Aid| *other == record.aid;
     let own_row = |row: &Row| own(&row.other);
+    let too_early = |grant: &Row, provides: &[Tokens]| !rules.early_grants && !provides.contains(&grant.tokens);
     match &record.change {
         Change::Load(Lists { provides, calls, grants, needs }) => None
             .or(found(Part::Provides, Clash::Repeated, repeated(provides)))
@@ -158,7 +159,7 @@ pub fn contradiction(record: &Record) -> Option<(Part, Clash)> {
             .or(found(Part::Grants, Clash::OwnAid, grants.iter().position(own_row)))
             .or(found(Part::Needs, Clash::OwnAid, needs.iter().position(own_row)))
             .or(found(Part::Needs, Clash::NotCalled, needs.iter().position(|need| !calls.contains(need))))
-            .or(found(Part::Grants, Clash::NotProvided, grants.iter().position(|row| !provides.contains(&row.tokens)))),
+            .or(found(Part::Grants, Clash::NotProvided, grants.iter().position(|row| too_early(row, provides)))),
         Change::AddService(_, callers) => found(Part::Callers, Clash::Repeated, repeated(callers)).or(found(
             Part::Callers,
             Clash::OwnAid,

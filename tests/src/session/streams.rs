@@ -39,10 +39,11 @@ pub fn paper() -> Vec<Vec<u8>> {
     named("the four records of the session").steps.into_iter().map(|step| step.record).collect()
 }
 
-/// What the paper says of lengths, of kinds, of tokens, of the longest record, and of the end; and ordinals of every width.
+/// What the paper says of lengths, of kinds, of the longest record, and of the end; what requests change; and ordinals of every
+/// width.
 pub fn edges() -> Vec<Stream> {
     let one = vec![Stream::new("the paper's four records", paper().concat()), Stream::new("no bytes", Vec::new())];
-    [one, single_bytes(), lengths(), kinds(), tokens(), longest(), counts()].concat()
+    [one, single_bytes(), lengths(), kinds(), requests(), longest(), counts()].concat()
 }
 
 /// A single byte, alone and behind records.
@@ -98,9 +99,10 @@ fn kinds() -> Vec<Stream> {
     streams
 }
 
-/// Method tokens of 127 and 128 in every place, a case on each card; and every method, in one record each.
-fn tokens() -> Vec<Stream> {
-    let cases = cases::tokens::cases().into_iter().filter(|case| case.before.is_empty());
+/// Method tokens of 127 and 128 in every place, and grants before their service, a case on each card; and every method, in one
+/// record each.
+fn requests() -> Vec<Stream> {
+    let cases = cases::tokens::cases().into_iter().chain(cases::early::cases()).filter(|case| case.before.is_empty());
     let records = |case: &Case| case.steps.iter().flat_map(|step| step.record.clone()).collect();
     let mut streams: Vec<_> = cases.map(|case| Stream::new(case.name, records(&case))).collect();
     let called = (0..=255).flat_map(|method| [update(5, C, H, (method, method)), update(6, C, H, (method, method))]);

@@ -1,0 +1,154 @@
+//! Calls and grants. Each of them has a table of bits, for what is on the card at both ends, and a list for the rest:
+//! unmet calls and waiting grants. A list is a count byte and 16 places of rows.
+
+use super::layout::*;
+use super::record::Row;
+
+#[derive(Clone, Copy)]
+pub enum Relation {
+    /// Of a caller, on callees; the list has the unmet ones.
+    Calls,
+    /// Of a callee, to callers; the list has the waiting ones.
+    Grants,
+}
+
+/// A row of a list, of the contract that the package with the number `own` has.
+#[derive(Clone, Copy)]
+pub struct Listed<'a> {
+    pub own: usize,
+    pub other: &'a [u8; AID],
+    pub tokens: [u8; 2],
+}
+
+impl<'a> Listed<'a> {
+    pub fn is(&self, own: usize, row: Row) -> bool {
+        self.own == own && self.tokens == row.tokens && is_aid(self.other, row.aid)
+    }
+
+    /// As records write it. The AID is valid.
+    pub fn row(&self) -> Row<'a> {
+        Row { aid: written(self.other), tokens: self.tokens }
+    }
+}
+
+impl Relation {
+    /// Where the list begins, and how many bytes a row of it has.
+    pub fn list(self, image: &Image) -> (usize, usize) {
+        match self {
+            Relation::Calls => (UNMET, UNMET_ROW),
+            Relation::Grants if image.len() == VERSION_01.size => (WAITING, VERSION_01.waiting_row),
+            Relation::Grants => (WAITING, VERSION_02.waiting_row),
+        }
+    }
+
+    /// How many rows the list has.
+    pub fn count(self, image: &Image) -> usize {
+        usize::from(image[self.list(image).0])
+    }
+
+    /// The rows of the list, in order.
+    pub fn rows(self, image: &Image) -> impl Iterator<Item = Listed<'_>> {
+        let (start, size) = self.list(image);
+        let places = image[start + 1..].chunks_exact(size).take(usize::from(image[start]));
+        places.filter_map(move |place| self.listed(image, place))
+    }
+
+    /// What the bytes of a row say. In version 01 a waiting grant has its service's number, and it says nothing where its
+    /// callee provides no such service.
+    fn listed<'a>(self, tables: &[u8], place: &'a [u8]) -> Option<Listed<'a>> {
+        let (other, rest) = place.split_first_chunk()?;
+        let provided = |own: usize, service: u8| own < 8 && service < 8 && provides(tables, own) >> service & 1 == 1;
+        let (own, tokens) = match (self, rest) {
+            (Relation::Calls, &[interface, method, own]) => (own.into(), [interface, method]),
+            (Relation::Grants, &[own, interface, method]) => (own.into(), [interface, method]),
+            (Relation::Grants, &[own, service]) if provided(own.into(), service) => {
+                (own.into(), tokens(tables, own.into(), service.into()))
+            }
+            _ => return None,
+        };
+        Some(Listed { own, other, tokens })
+    }
+
+    /// The byte and the bit of a row whose caller, callee and service are on the card; `None` while it belongs in the list.
+    pub fn bit(self, image: &Image, own: usize, row: Row) -> Option<(usize, u8)> {
+        match self {
+            Relation::Calls => {
+                let (callee, service) = provided(image, row.aid, row.tokens)?;
+                Some((cell(CALLS, own, callee), 1 << service))
+            }
+            Relation::Grants => {
+                let service = service(image, own, row.tokens)?;
+                Some((cell(GRANTS, own, package(image, row.aid)?), 1 << service))
+            }
+        }
+    }
+
+    /// Whether the contract has the row, as a bit or in the list.
+    pub fn has(self, image: &Image, own: usize, row: Row) -> bool {
+        match self.bit(image, own, row) {
+            Some((at, bit)) => image[at] & bit != 0,
+            None => self.rows(image).any(|listed| listed.is(own, row)),
+        }
+    }
+
+    /// Adds a row: its bit, or at the end of the list.
+    pub fn put(self, image: &mut Image, own: usize, row: Row) {
+        match self.bit(image, own, row) {
+            Some((at, bit)) => image[at] |= bit,
+            None => self.append(image, own, row),
+        }
+    }
+
+    /// Takes a row out: its bit, or out of the list.
+    pub fn take(self, image: &mut Image, own: usize, row: Row) {
+        match self.bit(image, own, row) {
+            Some((at, bit)) => image[at] &= !bit,
+            None => self.close_up(image, |_, listed| listed.is(own, row)),
+        }
+    }
+
+    /// Turns the rows of the list that have a bit by now into bits, and closes up the others in order.
+    pub fn settle(self, image: &mut Image) {
+        self.close_up(image, |tables, listed| match self.bit(tables, listed.own, listed.row()) {
+            Some((at, bit)) => {
+                tables[at] |= bit;
+                true
+            }
+            None => false,
+        });
+    }
+
+    /// Takes out of the list the rows that `leaves` names, and closes up the others in order. With each row it gets the
+    /// tables, which stand before the lists.
+    pub fn close_up(self, image: &mut Image, mut leaves: impl FnMut(&mut [u8], Listed) -> bool) {
+        let (start, size) = self.list(image);
+        let (tables, list) = image.split_at_mut(start);
+        let (count, rows) = list.split_first_mut().unwrap();
+        let end = size * usize::from(*count);
+        let mut kept = 0;
+        for at in (0..end).step_by(size) {
+            if !self.listed(tables, &rows[at..at + size]).is_some_and(|listed| leaves(tables, listed)) {
+                rows.copy_within(at..at + size, kept);
+                kept += size;
+            }
+        }
+        rows[kept..end].fill(0);
+        *count = (kept / size) as u8;
+    }
+
+    /// Puts a row at the end of the list. The place there is zero, so the AID needs no fill.
+    pub fn append(self, image: &mut Image, own: usize, row: Row) {
+        let (start, size) = self.list(image);
+        let at = start + 1 + size * usize::from(image[start]);
+        let ([interface, method], number) = (row.tokens, own as u8);
+        let rest: &[u8] = match self {
+            Relation::Calls => &[interface, method, number],
+            Relation::Grants if size == VERSION_02.waiting_row => &[number, interface, method],
+            // In version 01 a grant waits for its caller alone.
+            Relation::Grants => &[number, service(image, own, row.tokens).expect("a service provided") as u8],
+        };
+        image[at..at + row.aid.len()].copy_from_slice(row.aid);
+        image[at + AID..at + size].copy_from_slice(rest);
+        image[start] += 1;
+    }
+}
