@@ -1,8 +1,9 @@
 //! The table of cases holds on the machine and on every engine.
 
 use second::card::{linked, Card, Verdict, BYTES, IMAGE};
-use second::cases::{all, named, tokens, worked};
+use second::cases::{all, early, named, tokens, worked};
 use second::damage::Damage;
+use second::early::Early;
 use second::methods::Place;
 use second::run::replay;
 use std::collections::BTreeSet;
@@ -48,6 +49,21 @@ fn every_place_of_tokens_has_its_case() {
     }
     assert!(seen.iter().flatten().all(|count| *count > 0), "{seen:?}");
     assert_eq!((left_out, gone_on, cleared), (3, 4, 2));
+}
+
+/// Each thing that R-2 brings about has its case, and cards go over the conversion.
+#[test]
+fn every_early_grant_has_its_case() {
+    let cards = linked();
+    let (mut seen, mut left_out, mut gone_on) = (BTreeSet::new(), 0, 0);
+    for case in early::cases() {
+        let tally = replay(&cards, 0, &case.history(), &Damage::default())
+            .unwrap_or_else(|difference| panic!("{}: {difference}", case.name));
+        seen.extend(tally.early.keys().copied());
+        (left_out, gone_on) = (left_out + tally.left_out, gone_on + tally.gone_on);
+    }
+    assert_eq!(seen, BTreeSet::from(Early::ALL));
+    assert_eq!((left_out, gone_on), (1, 4));
 }
 
 /// The report's Examples 5 to 8: the mapping, the tables of jTicket's needs and ePurse's grants.

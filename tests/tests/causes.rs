@@ -1,6 +1,7 @@
 //! Each cause by itself, and the lowest number where several apply.
 
-use second::card::{linked, Bytes, Card, Verdict};
+use second::bytes::layout::Version;
+use second::card::{linked, Bytes, Card, Verdict, IMAGE, OLD_IMAGE};
 use second::cases::{B, C, H, X};
 use second::compare::{Compare, Tally};
 use second::machine::Machine;
@@ -82,7 +83,14 @@ fn the_longest_record_has_4145_bytes() {
     assert_eq!(answers(&[longest]), [9]);
 }
 
-/// The machine and the byte engine, each by both rules.
+/// What the machine and the byte engine answer to a record on the empty card, each by the rules.
+fn answers_by(rules: Rules, record: &[u8]) -> [u32; 2] {
+    let mut image = vec![0; Version::of(rules).size];
+    Bytes(rules).empty(&mut image);
+    [Machine::default().judge(rules, record), Bytes(rules).judge(&mut image, record).answer]
+}
+
+/// The machine and the byte engine, each by the rules of every time.
 #[test]
 fn cause_2_a_method_token() {
     let methods = [0, 1, 126, 127, 128, 129, 200, 254, 255];
@@ -103,11 +111,8 @@ fn cause_2_a_method_token() {
     };
     for (interface, method) in [0, 127, 128, 255].into_iter().flat_map(|one| methods.map(|other| (one, other))) {
         for (n, record) in at((interface, method)).into_iter().enumerate() {
-            for (rules, most) in [(Rules::DOCUMENT_01, 255), (Rules::R_7, 127)] {
-                let mut image = vec![0; 1094];
-                Bytes(rules).empty(&mut image);
-                let answers =
-                    [Machine::default().judge(rules, &record), Bytes(rules).judge(&mut image, &record).answer];
+            for (rules, most) in [(Rules::DOCUMENT_01, 255), (Rules::R_7, 127), (Rules::R_2, 127)] {
+                let answers = answers_by(rules, &record);
                 let read = method <= most;
                 assert!(answers.iter().all(|answer| (*answer == 2) != read), "{n}, {interface}.{method}: {answers:?}");
                 assert_eq!(Bytes(rules).aid(&record), if read { H } else { &[] });
@@ -149,13 +154,29 @@ fn cause_3_a_record_against_itself() {
         load(H, &[S], &[], &[row(H, S)], &[]),
         load(H, &[], &[call()], &[], &[row(H, S)]),
         load(H, &[], &[call()], &[], &[row(X, T)]),
-        load(H, &[S], &[], &[row(X, T)], &[]),
         add_service(H, S, &[H.to_vec()]),
         add_service(H, S, &[C.to_vec(), B.to_vec(), C.to_vec()]),
     ];
     assert_eq!(answers(&records), vec![3; records.len()]);
     let updates: Vec<Vec<u8>> = (5..=10).map(|kind| update(kind, H, H, S)).collect();
     assert_eq!(answers(&updates), [3; 6]);
+}
+
+/// A load's grant of a service that it does not provide was 3, and is accepted since R-2. What else is wrong stays so.
+#[test]
+fn early_grants_were_cause_3() {
+    let early = [row(X, T), row(C, T)];
+    for (provides, grants) in [(vec![], &early[..1]), (vec![S], &early[..]), (vec![(1, 0)], &early[1..])] {
+        let record = load(H, &provides, &[], grants, &[]);
+        for (rules, answer) in [(Rules::DOCUMENT_01, 3), (Rules::R_7, 3), (Rules::R_2, 0)] {
+            assert_eq!(answers_by(rules, &record), [answer; 2], "{rules:?}");
+        }
+    }
+    for grants in [[row(X, T), row(X, T)], [row(X, T), row(H, T)]] {
+        for rules in Rules::ALL {
+            assert_eq!(answers_by(rules, &load(H, &[], &[], &grants, &[])), [3; 2], "{rules:?}");
+        }
+    }
 }
 
 #[test]
@@ -190,12 +211,78 @@ fn cause_6_nothing_to_change() {
         update(8, H, B, S),
         update(10, C, X, S),
         update(10, C, H, T),
-        // A service not provided, and one not called.
-        update(7, H, C, T),
+        // A service not called.
         update(9, C, X, T),
         update(9, C, B, S),
     ];
-    assert_eq!(answers(&records), [vec![0, 0], vec![6; 16]].concat());
+    assert_eq!(answers(&records), [vec![0, 0], vec![6; 15]].concat());
+}
+
+/// Kind 7 for a service not provided was 6, and is so since R-2 only where the contract has the grant.
+#[test]
+fn cause_6_of_early_grants() {
+    let records = [
+        load(H, &[S], &[], &[row(B, T)], &[]),
+        load(C, &[], &[], &[], &[]),
+        update(7, H, B, T),
+        update(7, H, C, T),
+        update(7, H, C, T),
+        update(8, H, X, T),
+        update(8, H, C, T),
+        update(8, H, C, T),
+        add_service(H, T, &[]),
+        update(7, H, B, T),
+    ];
+    assert_eq!(answers(&records), [0, 0, 6, 0, 6, 6, 0, 6, 0, 6]);
+    for rules in [Rules::DOCUMENT_01, Rules::R_7] {
+        let (mut machine, mut image) = (Machine::default(), vec![0; OLD_IMAGE]);
+        Bytes(rules).empty(&mut image);
+        let mut judge = |record: &[u8]| [machine.judge(rules, record), Bytes(rules).judge(&mut image, record).answer];
+        assert_eq!(judge(&load(H, &[S], &[], &[row(B, S)], &[])), [0; 2]);
+        assert_eq!(judge(&update(7, H, C, T)), [6; 2]);
+        assert_eq!(judge(&update(8, H, C, T)), [6; 2]);
+        // Its grants go with the service.
+        assert_eq!(judge(&remove_service(H, S)), [0; 2]);
+        assert_eq!(judge(&update(8, H, B, S)), [6; 2]);
+    }
+}
+
+/// A met call would stand without its grant, also where another grant waits.
+#[test]
+fn cause_8_looks_at_grants_that_waited() {
+    let records = [
+        load(H, &[], &[], &[row(C, S), row(B, T)], &[]),
+        load(C, &[], &[row(H, S), row(H, T)], &[], &[]),
+        add_service(H, S, &[]),
+        add_service(H, T, &[]),
+        add_service(H, T, &[B.to_vec()]),
+        load(B, &[], &[row(H, S)], &[], &[]),
+        load(B, &[], &[row(H, T)], &[], &[]),
+        add_service(H, T, &[C.to_vec()]),
+        update(8, H, B, T),
+    ];
+    assert_eq!(answers(&records), [0, 0, 0, 8, 8, 8, 0, 0, 8]);
+}
+
+/// "More than 16 waiting grants afterwards": kind 4 comes to it, after 9 and 10.
+#[test]
+fn cause_11_of_kind_4() {
+    let early: Vec<Row> = strangers(16).into_iter().map(|(aid, _)| row(&aid, T)).collect();
+    let mut records = vec![
+        load(C, &[], &[row(H, S)], &[], &[]),
+        load(B, &[], &unmet(15), &[], &[]),
+        load(H, &[S], &[], &[vec![row(C, S)], early].concat(), &[]),
+        // 10 and 11 apply; then 9 too; then 11 alone; then neither.
+        update(5, B, X, (8, 0)),
+        remove_service(H, S),
+        update(9, C, H, S),
+        remove_service(H, S),
+        update(6, C, H, S),
+        remove_service(H, S),
+        update(8, H, &strangers(1)[0].0, T),
+    ];
+    records.push(remove_service(H, S));
+    assert_eq!(answers(&records), [0, 0, 0, 0, 10, 0, 9, 0, 11, 0, 0]);
 }
 
 #[test]
@@ -223,8 +310,9 @@ fn the_lowest_number_is_given() {
     assert_eq!(answers(&records), [2, 3, 0, 3, 6, 7, 0, 0, 8, 9, 10, 11, 0]);
     // 1 before 2.
     for card in linked() {
-        let mut image = vec![0; 1094];
+        let mut image = vec![0; IMAGE];
         assert_eq!(card.judge(&mut image, &[]), Verdict::new(1, 255));
+        assert_eq!(card.judge(&mut image[..OLD_IMAGE], &[]), Verdict::new(1, 255));
         assert_eq!(card.judge(&mut image[..5], &[]), Verdict::new(1, 255));
     }
 }

@@ -2,7 +2,7 @@
 //! those of an image, and the header's numbers are those of the answers and sizes.
 
 use second::bytes::layout::*;
-use second::card::{IMAGE, LONGEST_RECORD};
+use second::card::{IMAGE, LONGEST_RECORD, OLD_IMAGE};
 use second::refusal::Refusal;
 use std::collections::BTreeSet;
 use std::fs;
@@ -50,7 +50,7 @@ fn place(name: &str) -> PathBuf {
     let _ = fs::remove_dir_all(&place);
     fs::create_dir_all(place.join("tests/target")).expect("a directory");
     fs::create_dir_all(place.join("examples")).expect("a directory");
-    for example in ["club.txt", "log.txt"] {
+    for example in ["club.txt", "log.txt", "old.image"] {
         fs::copy(root().join("examples").join(example), place.join("examples").join(example)).expect(example);
     }
     place
@@ -76,7 +76,7 @@ fn run_as_printed(text: &str, directory: &Path) -> usize {
 #[test]
 fn the_readmes_commands_print_what_stands_there() {
     let text = section(&document("README.md"), "## Records and images as text");
-    assert_eq!(run_as_printed(&text, &place("readme")), 9);
+    assert_eq!(run_as_printed(&text, &place("readme")), 13);
 }
 
 #[test]
@@ -98,7 +98,7 @@ fn number(cell: &str) -> Option<usize> {
 
 #[test]
 fn the_offsets_of_packages_and_rows_are_right() {
-    let rows = table_rows(&section(&document("docs/FORMATS.md"), "## The image, 1,094 bytes"));
+    let rows = table_rows(&section(&document("docs/FORMATS.md"), "## The image, 1,110 bytes"));
     let numbers: Vec<Vec<usize>> =
         rows.iter().filter_map(|row| row.iter().map(|cell| number(cell)).collect()).collect();
     let (packages, lists): (Vec<_>, Vec<_>) = numbers.into_iter().partition(|row| row.len() == 7);
@@ -107,13 +107,23 @@ fn the_offsets_of_packages_and_rows_are_right() {
         [vec![n, AIDS + AID * n, tokens_at(n, 0), PROVIDES + n], cells.to_vec()].concat()
     };
     assert_eq!(packages, (0..8).map(package).collect::<Vec<_>>());
-    let list = |n: usize| vec![n, UNMET + 1 + UNMET_ROW * n, WAITING + 1 + WAITING_ROW * n];
+    let list = |n: usize| vec![n, UNMET + 1 + UNMET_ROW * n, WAITING + 1 + VERSION_02.waiting_row * n];
     assert_eq!(lists, (0..MOST_ROWS).map(list).collect::<Vec<_>>());
+}
+
+/// The rows of version 01's waiting grants.
+#[test]
+fn the_offsets_of_old_rows_are_right() {
+    let rows = table_rows(&section(&document("docs/FORMATS.md"), "## Version 01 of the image, 1,094 bytes"));
+    let numbers: Vec<Vec<usize>> =
+        rows.iter().filter_map(|row| row.iter().map(|cell| number(cell)).collect()).collect();
+    let old = |n: usize| vec![n, WAITING + 1 + VERSION_01.waiting_row * n];
+    assert_eq!(numbers, (0..MOST_ROWS).map(old).collect::<Vec<_>>());
 }
 
 #[test]
 fn the_areas_begin_where_an_image_has_them() {
-    let rows = table_rows(&section(&document("docs/FORMATS.md"), "## The image, 1,094 bytes"));
+    let rows = table_rows(&section(&document("docs/FORMATS.md"), "## The image, 1,110 bytes"));
     let areas: Vec<(usize, usize)> = rows
         .iter()
         .filter(|row| row.len() == 4)
@@ -123,7 +133,7 @@ fn the_areas_begin_where_an_image_has_them() {
         })
         .collect();
     let starts =
-        [0, 2, USED, AIDS, TOKENS, PROVIDES, CALLS, GRANTS, NEEDS, UNMET, UNMET + 1, WAITING, WAITING + 1, SIZE];
+        [0, 2, USED, AIDS, TOKENS, PROVIDES, CALLS, GRANTS, NEEDS, UNMET, UNMET + 1, WAITING, WAITING + 1, IMAGE];
     assert_eq!(areas, starts.map(|start| (start, start)));
 }
 
@@ -148,7 +158,8 @@ fn the_headers_numbers_are_those_of_the_card() {
         let value = header.lines().find_map(|line| line.strip_prefix(&format!("#define {name} ")));
         value.and_then(number).expect(name)
     };
-    assert_eq!((defined("CARD_IMAGE_SIZE"), defined("CARD_RECORD_SIZE")), (IMAGE, LONGEST_RECORD));
+    let sizes = ["CARD_IMAGE_SIZE", "CARD_OLD_IMAGE_SIZE", "CARD_RECORD_SIZE"].map(defined);
+    assert_eq!(sizes, [IMAGE, OLD_IMAGE, LONGEST_RECORD]);
     let answers = section(&header, "enum card_answer {").replace(',', " ");
     let answers: Vec<usize> = answers
         .lines()

@@ -8,7 +8,7 @@ use second::faults::FAULTS;
 use second::history::{changes, Event};
 use second::run::{replay, run};
 
-const SEED: u64 = 1;
+const SEED: u64 = 3;
 
 #[test]
 fn every_fault_is_found() {
@@ -20,13 +20,14 @@ fn every_fault_is_found() {
         let (difference, history) = (failure.difference, failure.history);
         assert!(!difference.words.is_empty(), "{name}");
         let records = history.len() - changes(&history);
-        assert!(records <= 5, "{name} took {records} records");
+        // A list has 16 rows, and some faults show when it is full.
+        assert!(records <= 16, "{name} took {records} records");
         let again = replay(&cards, SEED, &history, &difference.damage).is_err() || lengths_alike(&cards).is_err();
         assert!(again, "{name}: the shortest history does not fail");
     }
 }
 
-/// The table of cases finds all but four, which need 15 unmet calls, bytes left over, one damaged byte, and another size.
+/// The table of cases finds all but seven, which need 15 unmet calls, bytes left over, a damaged byte, and another size.
 #[test]
 fn the_cases_find_most_faults() {
     std::panic::set_hook(Box::new(|_| {}));
@@ -35,30 +36,32 @@ fn the_cases_find_most_faults() {
         all().iter().all(|case| case.run(&cards).is_ok())
     });
     let missed: Vec<&str> = missed.map(|fault| fault.name()).collect();
-    assert_eq!(missed, ["ten-uncounted", "left-over-read", "last-byte-unchecked", "empty-any-length"]);
+    let [counted, left_over] = ["ten-uncounted", "left-over-read"];
+    let damaged = ["last-byte-unchecked", "settled-row-sound", "own-aid-row-sound"];
+    let sized = ["empty-any-length", "converts-into-more"];
+    let expected = [counted, left_over, damaged[0], sized[0], damaged[1], damaged[2], sized[1]];
+    assert_eq!(missed, expected);
 }
 
-/// A difference that shows on a card of earlier rules alone has its history over the change, which is replayed from its
+/// A difference that shows on a card of earlier rules alone has its history over the changes, which is replayed from its
 /// lines.
 #[test]
-fn a_history_over_the_change_is_replayed() {
+fn a_history_over_the_changes_is_replayed() {
     std::panic::set_hook(Box::new(|_| {}));
-    let fault = FAULTS.iter().find(|fault| fault.name() == "reads-out-128").expect("the fault");
-    let cards: [&dyn Card; 2] = [&BYTES, fault];
-    let found = (SEED..).find_map(|seed| {
-        let failure = run(&cards, seed, 20_000).err().expect("a difference");
-        (changes(&failure.history) == 1).then_some((seed, failure))
-    });
-    let (seed, failure) = found.expect("a history over the change");
-    let lines: Vec<String> = failure.history.iter().map(Event::to_text).collect();
-    let read: Vec<Event> = lines.iter().filter_map(|line| Event::from_text(line)).collect();
-    assert_eq!(read, failure.history);
-    assert!(replay(&cards, seed, &read, &failure.difference.damage).is_err(), "{lines:?}");
-    assert!(replay(&[&BYTES], seed, &read, &failure.difference.damage).is_ok(), "{lines:?}");
+    for name in ["converts-128", "converts-backwards"] {
+        let fault = FAULTS.iter().find(|fault| fault.name() == name).expect("the fault");
+        let cards: [&dyn Card; 2] = [&BYTES, fault];
+        let failure = run(&cards, SEED, 20_000).err().expect("a difference");
+        assert!(changes(&failure.history) > 0, "{name}");
+        let lines: Vec<String> = failure.history.iter().map(Event::to_text).collect();
+        let read: Vec<Event> = lines.iter().filter_map(|line| Event::from_text(line)).collect();
+        assert_eq!(read, failure.history);
+        assert!(replay(&cards, SEED, &read, &failure.difference.damage).is_err(), "{lines:?}");
+        assert!(replay(&[&BYTES], SEED, &read, &failure.difference.damage).is_ok(), "{lines:?}");
+    }
     // No more changes can be told than there were.
-    let twice = [read, vec![Event::Change]].concat();
-    let words = replay(&[&BYTES], seed, &twice, &Damage::default()).err().expect("a difference").words;
-    assert_eq!(words, "a history has at most 1 change of the rules, here are 2");
+    let words = replay(&[&BYTES], SEED, &vec![Event::Change; 3], &Damage::default()).err().expect("a difference").words;
+    assert_eq!(words, "a history has at most 2 changes of the rules, here are 3");
 }
 
 #[test]
@@ -75,8 +78,9 @@ fn no_record_of_a_shortest_history_can_be_dropped() {
 
 #[test]
 fn a_short_run_finds_nothing_in_the_byte_engine() {
-    let tally = run(&[&BYTES], SEED, 2_000).ok().expect("no difference");
-    assert_eq!(tally.records, 2_000);
+    let tally = run(&[&BYTES], SEED, 8_000).ok().expect("no difference");
+    assert_eq!(tally.records, 8_000);
     assert!(tally.left_out > 0 && tally.cleared > 0 && tally.before > 0);
     assert!(tally.contracts_read > 1_000 && tally.damaged_sound > 100 && tally.damaged_unsound > 1_000);
+    assert!(tally.converted > 20 && tally.not_converted > 100 && tally.early.len() > 5);
 }

@@ -63,10 +63,10 @@ fn raw_bytes_in_and_out() {
     let raw = tool("encode --raw", STORY.as_bytes()).expect("bytes");
     assert_eq!(raw.len(), 24 + 22 + 30 + 10);
     assert_eq!(tool("decode --raw", &raw), Ok(STORY.as_bytes().to_vec()));
-    let image = text("show", "04 46 01 \n 1094:");
+    let image = text("show", "04 56 02 \n 1110:");
     assert_eq!(image, "# 0 packages, 0 unmet calls, 0 waiting grants\n");
     let raw = tool("build --raw", image.as_bytes()).expect("an image");
-    assert_eq!(raw.len(), 1094);
+    assert_eq!(raw.len(), 1110);
     assert_eq!(tool("show --raw -", &raw), Ok(image.into_bytes()));
 }
 
@@ -97,7 +97,7 @@ fn files_and_names() {
         &format!("{story}: line 1, column 1: 'l' is no hexadecimal digit"),
     );
     // The place is in the image's file, not in that of the records.
-    let words = format!("{names}: byte 19: an image has 1094 bytes, here are 19");
+    let words = format!("{names}: byte 19: an image has 1110 bytes, or 1094 in version 01, here are 19");
     fails(&format!("judge --raw --image {names}"), b"", BAD_INPUT, &words);
 }
 
@@ -136,9 +136,11 @@ fn bad_input_is_1_with_its_place() {
     );
     let second = b"\x00\x0A\x01\x02\x05\xF0\x00\x00\x00\x01\x00\x04\x01\x0B";
     fails("decode --raw", second, BAD_INPUT, "standard input: byte 13: record 2: the kind is 11, not 1 to 10");
-    fails("show", b"04 46", BAD_INPUT, "standard input: byte 2: an image has 1094 bytes, here are 2");
-    fails("dump", b"04 46", BAD_INPUT, "standard input: byte 2: an image has 1094 bytes, here are 2");
-    fails("show", b"04 46 02 01\n1094:", BAD_INPUT, "standard input: byte 2: the header has 01 here, not 02\nstandard input: byte 4: the AID of package 0 has the length 0, not 5 to 16");
+    for command in ["show", "dump", "convert"] {
+        let words = "standard input: byte 2: an image has 1110 bytes, or 1094 in version 01, here are 2";
+        fails(command, b"04 56", BAD_INPUT, words);
+    }
+    fails("show", b"04 56 03 01\n1110:", BAD_INPUT, "standard input: byte 2: the header has 02 here, not 03\nstandard input: byte 4: the AID of package 0 has the length 0, not 5 to 16");
     fails("build", b"package 9", BAD_INPUT, "standard input: line 1, column 9: '9' is not a number from 0 to 7");
 }
 
@@ -173,14 +175,92 @@ fn method_tokens_stop_at_127() {
          standard input: byte 487: the unmet call has the method token 255, not 0 to 127: {since}"
     );
     fails("show", old.as_bytes(), BAD_INPUT, &words);
+    fails("convert", old.as_bytes(), BAD_INPUT, &words);
     // Its bytes can be looked at.
     assert!(text("dump", old).contains(" 140: 00 80 "), "{}", text("dump", old));
-    let image = file("old-image");
-    std::fs::write(&image, old).expect("a file");
+    // The same tokens in version 02.
+    let new = old.replace("04 46 01", "04 56 02").replace("1094:", "1110:");
+    fails("show", new.as_bytes(), BAD_INPUT, &words.replace(&format!(": {since}"), ""));
+    let image = file("new-image");
+    std::fs::write(&image, new).expect("a file");
     assert_eq!(
         text(&format!("judge --image {}", image.display()), "unload F000000001"),
         "1 unload F000000001: refused, 1: the image is not sound, or has not a card's size\n"
     );
+}
+
+/// A card of version 01: a package that provides 1.2 and 1.3, and grants the second to one that is not installed.
+const OLD: &str = "\
+0: 04 46 01 01 05 F0 00 00 00 01
+140: 01 02 01 03
+268: 03
+789: 01 05 F0 00 00 00 02
+807: 00 01
+1094:
+";
+
+/// An image of version 01 is shown and dumped, and has to be converted before it is judged.
+#[test]
+fn an_old_image_is_converted() {
+    let (old, new) = (file("old"), file("converted"));
+    std::fs::write(&old, OLD).expect("a file");
+    let [old, new] = [old, new].map(|file| file.display().to_string());
+    let first = "the image has version 01, and has to be converted before it can be judged: 'cardtool convert'";
+    let shown =
+        "# 1 package, 0 unmet calls, 1 waiting grant\npackage 0 F000000001\n    service 0 1.2\n    service 1 1.3\n\
+                 waiting F000000001 grants 1.3 to F000000002\n";
+    assert_eq!(text(&format!("show {old}"), ""), format!("# {first}\n{shown}"));
+    assert!(text(&format!("dump {old}"), "").contains("# waiting grant 0: caller AID, callee, service\n1094:\n"));
+    fails(&format!("judge --image {old}"), b"", BAD_INPUT, &format!("{old}: byte 2: {first}"));
+
+    let said = "converted to version 02: 1 package, 0 unmet calls, 1 waiting grant\n";
+    assert_eq!(text(&format!("convert {old} --save {new}"), ""), said);
+    assert_eq!(text(&format!("show {new}"), ""), shown);
+    assert!(text(&format!("dump {new}"), "").contains("# waiting grant 0: caller AID, callee, tokens\n1110:\n"));
+    // What is shown of the old image builds the converted one.
+    assert_eq!(text("build", &text(&format!("show {old}"), "")), std::fs::read_to_string(&new).expect("a file"));
+    fails(
+        &format!("convert {new}"),
+        b"",
+        BAD_INPUT,
+        &format!("{new}: byte 2: the image has version 02: there is nothing to convert"),
+    );
+    assert_eq!(
+        text(
+            &format!("judge --image {new}"),
+            "add F000000001 grants 1.4 to F000000002\nremove F000000001 provides 1.3"
+        ),
+        "1 add F000000001 grants 1.4 to F000000002: accepted, package 0\n\
+         2 remove F000000001 provides 1.3: accepted, package 0\n"
+    );
+    let raw = tool("build --raw", shown.as_bytes()).expect("an image");
+    let bytes = second::host::hexadecimal::dump(OLD).expect("bytes");
+    tool(&format!("convert --raw --save {new}"), &bytes).expect("converted");
+    assert_eq!(std::fs::read(&new).expect("a file"), raw);
+    // One that is not sound is not converted, and nothing is saved.
+    let absent = file("not-converted");
+    let _ = std::fs::remove_file(&absent);
+    fails(
+        &format!("convert --save {}", absent.display()),
+        OLD.replace("807: 00 01", "807: 00 02").as_bytes(),
+        BAD_INPUT,
+        "standard input: byte 808: package 0 does not provide service 2",
+    );
+    assert!(!absent.exists());
+}
+
+/// Grants of services that are not provided, as records and in an image.
+#[test]
+fn grants_before_their_service() {
+    let story = "load F000000001\n    grants 0.0 to F000000002\nadd F000000001 provides 0.0\n";
+    assert_eq!(text("decode", &text("encode", story)), story);
+    let image = file("early").display().to_string();
+    text(&format!("judge --save {image}"), "load F000000001\n grants 0.0 to F000000002\nload F000000002");
+    let shown = "# 2 packages, 0 unmet calls, 1 waiting grant\npackage 0 F000000001\npackage 1 F000000002\n\
+                 waiting F000000001 grants 0.0 to F000000002\n";
+    assert_eq!(text(&format!("show {image}"), ""), shown);
+    text(&format!("judge --image {image} --save {image}"), "add F000000001 provides 0.0");
+    assert!(text(&format!("show {image}"), "").contains("    service 0 0.0\n    grants 0.0 to F000000002\n"));
 }
 
 #[test]
@@ -196,20 +276,30 @@ fn records_that_contradict_themselves_are_written_as_they_are_on_request() {
 
 #[test]
 fn bad_use_is_2() {
-    fails("code", b"", BAD_USE, "'code' is no command; there are encode, decode, show, build, dump, judge and --help");
+    fails(
+        "code",
+        b"",
+        BAD_USE,
+        "'code' is no command; there are encode, decode, show, build, dump, convert, judge and --help",
+    );
     fails("encode --names x", b"", BAD_USE, "'--names' is no option of encode; there are --raw, --as-is, --out");
     fails("encode --out", b"", BAD_USE, "--out lacks its FILE");
     fails("encode a b", b"", BAD_USE, "'b': one FILE can be read, and one stands before it");
     for arguments in ["encode no-such-file", "decode --names no-such-file", "encode --out no-such-directory/file"] {
         assert_eq!(tool(arguments, b"").expect_err(arguments).code, BAD_USE);
     }
-    fails("", b"", BAD_USE, "a command is missing; there are encode, decode, show, build, dump, judge and --help");
+    fails(
+        "",
+        b"",
+        BAD_USE,
+        "a command is missing; there are encode, decode, show, build, dump, convert, judge and --help",
+    );
 }
 
 #[test]
 fn every_command_has_help() {
     let help = text("--help", "");
-    for command in ["encode", "decode", "show", "build", "dump", "judge"] {
+    for command in ["encode", "decode", "show", "build", "dump", "convert", "judge"] {
         assert!(help.contains(&format!("\n  {command} ")), "{help}");
         let own = text(&format!("{command} --help"), "");
         assert!(own.starts_with(&format!("cardtool {command} ")) && own.contains("--out FILE"), "{own}");

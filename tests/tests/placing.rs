@@ -1,21 +1,27 @@
-//! The placing rules, against images written down by hand from the paper's offsets.
+//! The placing rules, against images written down by hand from the offsets of the paper and of R-2.
 
-use second::card::{linked, Card, Verdict, IMAGE};
+use second::card::{linked, Bytes, Card, Verdict, IMAGE, OLD_IMAGE};
 use second::cases::{B, C, H, X};
+use second::rules::Rules;
 use second::write::{add_service, load, remove, remove_service, update, Row, Tokens};
 
 const D: &[u8] = &[0xF0, 0, 0, 0, 4, 0];
 
 /// The image after records that are all accepted, the same from every engine.
 fn after(records: &[Vec<u8>]) -> Vec<u8> {
-    let mut images = linked().into_iter().map(|card| after_with(card, records));
+    let mut images = linked().into_iter().map(|card| after_with(card, IMAGE, records));
     let first = images.next().expect("an engine");
     assert!(images.all(|image| image == first));
     first
 }
 
-fn after_with(card: &dyn Card, records: &[Vec<u8>]) -> Vec<u8> {
-    let mut image = vec![0; IMAGE];
+/// The version 01 image after records that were all accepted by R-7's rules.
+fn old_after(records: &[Vec<u8>]) -> Vec<u8> {
+    after_with(&Bytes(Rules::R_7), OLD_IMAGE, records)
+}
+
+fn after_with(card: &dyn Card, size: usize, records: &[Vec<u8>]) -> Vec<u8> {
+    let mut image = vec![0; size];
     card.empty(&mut image);
     for (n, record) in records.iter().enumerate() {
         assert_eq!(card.judge(&mut image, record).answer, 0, "{}: record {n}", card.name());
@@ -25,8 +31,17 @@ fn after_with(card: &dyn Card, records: &[Vec<u8>]) -> Vec<u8> {
 
 /// An image that is zero but for the header and some places.
 fn image(places: &[(usize, &[u8])]) -> Vec<u8> {
-    let mut image = vec![0; IMAGE];
-    image[..3].copy_from_slice(&[0x04, 0x46, 0x01]);
+    with_places(IMAGE, [0x04, 0x56, 0x02], places)
+}
+
+/// One of version 01.
+fn old_image(places: &[(usize, &[u8])]) -> Vec<u8> {
+    with_places(OLD_IMAGE, [0x04, 0x46, 0x01], places)
+}
+
+fn with_places(size: usize, header: [u8; 3], places: &[(usize, &[u8])]) -> Vec<u8> {
+    let mut image = vec![0; size];
+    image[..3].copy_from_slice(&header);
     for (at, bytes) in places {
         image[*at..at + bytes.len()].copy_from_slice(bytes);
     }
@@ -43,10 +58,10 @@ fn unmet(image: &[u8]) -> Vec<(u8, Tokens, u8)> {
     rows.map(|row| (row[5], (row[17], row[18]), row[19])).collect()
 }
 
-/// The waiting grants of an image: the last byte of the caller's AID, the callee, the service.
-fn waiting(image: &[u8]) -> Vec<(u8, u8, u8)> {
-    let rows = image[790..].chunks(19).take(image[789].into());
-    rows.map(|row| (row[5], row[17], row[18])).collect()
+/// The waiting grants of an image: the last byte of the caller's AID, the callee, the tokens.
+fn waiting(image: &[u8]) -> Vec<(u8, u8, Tokens)> {
+    let rows = image[790..].chunks(20).take(image[789].into());
+    rows.map(|row| (row[5], row[17], (row[18], row[19]))).collect()
 }
 
 #[test]
@@ -62,7 +77,7 @@ fn a_first_load() {
         (486, &[5, 6, 0]),
         (789, &[1]),
         (790, &[6, 0xF0, 0, 0, 0, 4, 0]),
-        (807, &[0, 1]),
+        (807, &[0, 3, 4]),
     ]);
     assert_eq!(after(&[record]), expected);
 }
@@ -127,7 +142,8 @@ fn removing_a_service_clears_its_place() {
     assert_eq!(image[268], 0x02);
     assert_eq!((image[276 + 16], image[340 + 2]), (0x02, 0x02));
     assert_eq!(unmet(&image), [(9, (0, 0), 1), (1, (1, 1), 2)]);
-    assert_eq!(waiting(&image), [(9, 0, 1)]);
+    // The grant that was a bit waits behind those already there.
+    assert_eq!(waiting(&image), [(9, 0, (1, 1)), (9, 0, (2, 2)), (2, 0, (1, 1))]);
 }
 
 #[test]
@@ -148,7 +164,10 @@ fn after_a_removal_unmet_calls_come_by_caller_then_service() {
 fn after_a_removal_grants_wait_by_callee_then_service() {
     let server = |aid| load(aid, &[(0, 0), (0, 1)], &[], &[row(X, (0, 0)), row(C, (0, 1)), row(C, (0, 0))], &[]);
     let image = after(&[server(H), load(C, &[(1, 1)], &[], &[row(X, (1, 1))], &[]), server(B), remove(C)]);
-    assert_eq!(waiting(&image), [(9, 0, 0), (9, 2, 0), (2, 0, 0), (2, 0, 1), (2, 2, 0), (2, 2, 1)]);
+    assert_eq!(
+        waiting(&image),
+        [(9, 0, (0, 0)), (9, 2, (0, 0)), (2, 0, (0, 0)), (2, 0, (0, 1)), (2, 2, (0, 0)), (2, 2, (0, 1))]
+    );
 }
 
 #[test]
@@ -158,7 +177,7 @@ fn new_rows_come_in_record_order() {
     let image =
         after(&[load(H, &[(0, 0), (0, 1)], &calls, &grants, &[]), add_service(H, (0, 2), &[X.into(), B.into()])]);
     assert_eq!(unmet(&image), [(9, (3, 3), 0), (3, (1, 1), 0), (9, (2, 2), 0)]);
-    assert_eq!(waiting(&image), [(9, 0, 1), (2, 0, 0), (9, 0, 0), (9, 0, 2), (3, 0, 2)]);
+    assert_eq!(waiting(&image), [(9, 0, (0, 1)), (2, 0, (0, 0)), (9, 0, (0, 0)), (9, 0, (0, 2)), (3, 0, (0, 2))]);
 }
 
 #[test]
@@ -167,8 +186,8 @@ fn what_leaves_a_list_is_closed_up() {
     let grants = [row(X, (0, 0)), row(C, (0, 0)), row(B, (0, 0))];
     let image = after(&[load(H, &[(0, 0)], &calls, &grants, &[]), update(6, H, X, (0, 1)), update(8, H, X, (0, 0))]);
     assert_eq!(unmet(&image), [(9, (0, 0), 0), (9, (0, 2), 0), (9, (0, 3), 0)]);
-    assert_eq!(waiting(&image), [(2, 0, 0), (3, 0, 0)]);
-    assert!(image[469 + 60..789].iter().chain(&image[790 + 38..]).all(|byte| *byte == 0));
+    assert_eq!(waiting(&image), [(2, 0, (0, 0)), (3, 0, (0, 0))]);
+    assert!(image[469 + 60..789].iter().chain(&image[790 + 40..]).all(|byte| *byte == 0));
 }
 
 #[test]
@@ -183,7 +202,174 @@ fn a_list_that_passes_16_on_the_way_fits() {
         remove(H),
     ]);
     assert_eq!(unmet(&image), [(9, (9, 9), 2), (1, (0, 0), 1), (1, (0, 0), 2)]);
-    assert_eq!(waiting(&image), [(1, 1, 0)]);
+    assert_eq!(waiting(&image), [(1, 1, (1, 1))]);
+}
+
+const S: Tokens = (0, 0);
+const T: Tokens = (0, 1);
+const U: Tokens = (0, 2);
+
+fn bare(aid: &[u8]) -> Vec<u8> {
+    load(aid, &[], &[], &[], &[])
+}
+
+/// "Kind 4 keeps the grants, which wait behind the rows already there, by caller number."
+#[test]
+fn a_service_that_goes_leaves_its_grants_by_caller() {
+    let image = after(&[
+        bare(C),
+        bare(B),
+        load(H, &[S, T], &[], &[row(X, S), row(X, T), row(B, S), row(C, S), row(B, T), row(B, U)], &[]),
+        remove_service(H, S),
+    ]);
+    assert_eq!(waiting(&image), [(9, 2, S), (9, 2, T), (3, 2, U), (2, 2, S), (3, 2, S)]);
+    assert_eq!((image[268 + 2], image[340 + 16], image[340 + 17]), (0x02, 0, 0x02));
+    assert_eq!(image[140 + 32..][..4], [0, 0, 0, 1]);
+}
+
+/// "Kind 3 takes once a grant that is in both places." What became a bit leaves, the others keep their place, and new rows
+/// follow in record order.
+#[test]
+fn an_added_service_settles_its_grants() {
+    let before = [
+        bare(C),
+        load(H, &[T], &[], &[row(D, S), row(C, S), row(X, U), row(B, S), row(C, U)], &[]),
+        bare(B),
+        update(5, B, H, S),
+    ];
+    let image = after(&[&before[..], &[add_service(H, S, &[])]].concat());
+    assert_eq!(waiting(&image), [(4, 1, S), (9, 1, U), (2, 1, U)]);
+    assert_eq!((image[340 + 8], image[340 + 10], image[276 + 17]), (0x02, 0x02, 0x02));
+    // D, C and B are in both places; X and another are in the record alone.
+    let other = [0xF0, 0, 0, 0, 8];
+    let callers = [other.to_vec(), B.to_vec(), D.to_vec(), X.to_vec(), C.to_vec()];
+    let listed = after(&[&before[..], &[add_service(H, S, &callers)]].concat());
+    assert_eq!(waiting(&listed), [(4, 1, S), (9, 1, U), (2, 1, U), (8, 1, S), (9, 1, S)]);
+    assert_eq!(listed[..789], image[..789]);
+}
+
+/// A load turns those grants to it into bits whose service is provided; the others go on waiting, in place.
+#[test]
+fn a_load_settles_grants_of_services_provided() {
+    let image = after(&[
+        load(H, &[S], &[], &[row(C, T), row(X, S), row(C, S), row(X, T)], &[]),
+        load(B, &[T], &[], &[row(C, T), row(C, S)], &[]),
+        load(C, &[U], &[], &[row(X, S), row(H, U), row(H, T), row(B, S), row(B, U), row(X, U)], &[]),
+    ]);
+    // Of C's own grants those to H and B of what it provides are bits.
+    let expected = [(2, 0, T), (9, 0, S), (9, 0, T), (2, 1, S), (9, 2, S), (1, 2, T), (3, 2, S), (9, 2, U)];
+    assert_eq!(waiting(&image), expected);
+    assert_eq!((image[340 + 2], image[340 + 8 + 2]), (0x01, 0x01));
+    assert_eq!(image[340 + 16..][..8], [0x01, 0x01, 0, 0, 0, 0, 0, 0]);
+}
+
+/// After kind 2 grants wait by callee number then service number, behind the rows that stay. The package's own go.
+#[test]
+fn after_a_removal_early_grants_stay_in_place() {
+    let server = |aid| load(aid, &[T, S], &[], &[row(C, U), row(C, S), row(X, U), row(C, T)], &[]);
+    let image = after(&[server(H), load(C, &[], &[], &[row(H, S), row(X, S)], &[]), server(B), remove(C)]);
+    let early = [(2, 0, U), (9, 0, U), (2, 2, U), (9, 2, U)];
+    assert_eq!(waiting(&image), [&early[..], &[(2, 0, T), (2, 0, S), (2, 2, T), (2, 2, S)]].concat());
+}
+
+/// Kind 7 puts a row at the end where the caller or the service is not there, and kind 8 closes the list up.
+#[test]
+fn early_grants_are_added_and_removed() {
+    let begun = [load(H, &[S], &[], &[row(X, T), row(C, T)], &[]), bare(C), update(7, H, C, U), update(7, H, C, S)];
+    let image = after(&begun);
+    assert_eq!(waiting(&image), [(9, 0, T), (2, 0, T), (2, 0, U)]);
+    assert_eq!(image[340 + 1], 0x01);
+    let image = after(&[&begun[..], &[update(8, H, C, T), update(8, H, C, S)]].concat());
+    assert_eq!(waiting(&image), [(9, 0, T), (2, 0, U)]);
+    assert_eq!(image[340 + 1], 0);
+    assert!(image[790 + 40..].iter().all(|byte| *byte == 0));
+}
+
+#[test]
+fn early_grants_are_read_out_behind_the_bits() {
+    let grants = [row(X, T), row(C, T), row(C, S), row(B, S)];
+    let image = after(&[load(H, &[S], &[], &grants, &[]), bare(C), update(7, H, B, U)]);
+    let expected = load(H, &[S], &[], &[row(C, S), row(X, T), row(C, T), row(B, S), row(B, U)], &[]);
+    for card in linked() {
+        let mut buffer = vec![0xA5; expected.len()];
+        assert_eq!(card.read_out(&image, 0, &mut buffer), Verdict::new(0, expected.len() as u32));
+        assert_eq!(buffer, expected);
+    }
+}
+
+/// Version 01, by the rules of then: rows of 19 bytes with service numbers, which went with their service.
+#[test]
+fn an_old_image_has_service_numbers() {
+    let server = load(H, &[S, T, U], &[row(X, U)], &[row(D, U), row(X, T), row(D, S)], &[]);
+    let expected = [
+        (3, &[0x01][..]),
+        (4, &[5, 0xF0, 0, 0, 0, 1]),
+        (140, &[0, 0, 0, 0, 0, 2]),
+        (268, &[0x05]),
+        (468, &[1]),
+        (469, &[5, 0xF0, 0, 0, 0, 9]),
+        (486, &[0, 2, 0]),
+        (789, &[2]),
+        (790, &[6, 0xF0, 0, 0, 0, 4, 0]),
+        (807, &[0, 2]),
+        (809, &[6, 0xF0, 0, 0, 0, 4, 0]),
+        (826, &[0, 0]),
+    ];
+    assert_eq!(old_after(&[server, remove_service(H, T)]), old_image(&expected));
+}
+
+/// "A converter takes sound version 01 images, numbers and list order kept."
+#[test]
+fn conversion_keeps_numbers_and_order() {
+    let front: [(usize, &[u8]); 12] = [
+        // Packages 1 (H) and 3 (C); H has the services 1 and 6, and grants the first to C, which calls and needs it.
+        (3, &[0x0A]),
+        (4 + 17, &[5, 0xF0, 0, 0, 0, 1]),
+        (4 + 51, &[5, 0xF0, 0, 0, 0, 2]),
+        (140 + 16 + 2, &[3, 4]),
+        (140 + 16 + 12, &[5, 127]),
+        (140 + 48, &[255, 0]),
+        (268 + 1, &[0x42, 0, 0x01]),
+        (276 + 24 + 1, &[0x02]),
+        (340 + 8 + 3, &[0x02]),
+        (404 + 24 + 1, &[0x02]),
+        (468, &[1, 5, 0xF0, 0, 0, 0, 9]),
+        (486, &[7, 7, 3]),
+    ];
+    let old = [
+        (789, &[4, 6, 0xF0, 0, 0, 0, 4, 0][..]),
+        (807, &[1, 6]),
+        (809, &[5, 0xF0, 0, 0, 0, 9]),
+        (826, &[3, 0]),
+        (828, &[6, 0xF0, 0, 0, 0, 4, 0]),
+        (845, &[1, 1]),
+        (847, &[5, 0xF0, 0, 0, 0, 9]),
+        (864, &[1, 1]),
+    ];
+    let new = [
+        (789, &[4, 6, 0xF0, 0, 0, 0, 4, 0][..]),
+        (807, &[1, 5, 127]),
+        (810, &[5, 0xF0, 0, 0, 0, 9]),
+        (827, &[3, 255, 0]),
+        (830, &[6, 0xF0, 0, 0, 0, 4, 0]),
+        (847, &[1, 3, 4]),
+        (850, &[5, 0xF0, 0, 0, 0, 9]),
+        (867, &[1, 3, 4]),
+    ];
+    let (old, new) = (old_image(&[&front[..], &old].concat()), image(&[&front[..], &new].concat()));
+    for card in linked() {
+        let mut buffer = vec![0xA5; IMAGE];
+        assert_eq!(card.convert(&old, &mut buffer), Verdict::new(0, 0));
+        assert_eq!(buffer, new);
+        assert_eq!(card.check(&buffer), Verdict::new(0, 2));
+        // What was converted is not taken for an old image, whole or cut to its size.
+        let mut untouched = vec![0xA5; IMAGE];
+        for no_old in [&new[..], &new[..OLD_IMAGE], &old[1..], &[]] {
+            assert_eq!(card.convert(no_old, &mut untouched), Verdict::new(1, 255));
+        }
+        assert_eq!(card.convert(&old, &mut untouched[1..]), Verdict::new(1, 255));
+        assert_eq!(untouched, [0xA5; IMAGE]);
+    }
 }
 
 #[test]

@@ -109,13 +109,13 @@ fn a_bad_command_line_is_2() {
     fails("bench --bogus", 2, "bench: '--bogus' is not known; there are --rounds, --count, --calls, --of and --help\n");
     fails("bench --rounds", 2, "bench: --rounds lacks its value\n");
     fails("bench --rounds x", 2, "bench: --rounds x: not a number, or too large\n");
-    fails("bench --count 11", 2, "bench: --count 11: not 1 to 10, check or read_out\n");
+    fails("bench --count 11", 2, "bench: --count 11: not 1 to 10, check, read_out or convert\n");
     fails("bench --count 1 --of no", 2, "bench: --of: no such engine is linked\n");
     fails("cases --bogus", 2, "cases: '--bogus' is not known; there are --records, --fault and --help\n");
     fails("cases --fault", 2, "cases: either --records or --fault NAME can be given\n");
-    fails("differ --damage 3", 2, "differ: --damage 3: not as in 3=0F,1093=01\n");
+    fails("differ --damage 3", 2, "differ: --damage 3: not as in 3=0F,1109=01\n");
     fails("differ --replay no-such-file", 2, "differ: no-such-file: No such file or directory (os error 2)\n");
-    let missing = "a command is missing; there are encode, decode, show, build, dump, judge and --help";
+    let missing = "a command is missing; there are encode, decode, show, build, dump, convert, judge and --help";
     fails("cardtool", 2, &format!("cardtool: {missing}\n"));
 }
 
@@ -133,7 +133,7 @@ fn an_argument_that_is_no_text_is_told() {
 fn a_difference_is_1() {
     let runs = [
         ("differ --fault grants-lost", "differ: the comparison failed\n"),
-        ("cases --fault grants-lost", "cases: 4 cases failed\n"),
+        ("cases --fault grants-lost", "cases: 6 cases failed\n"),
     ];
     for (run, words) in runs {
         let ended = program(run).output().expect(run);
@@ -142,9 +142,9 @@ fn a_difference_is_1() {
     }
 }
 
-/// A history over the change of the rules, as `differ` prints one that fails and `cases --records` prints those of cases.
+/// A history over the changes of the rules, as `differ` prints one that fails and `cases --records` prints those of cases.
 #[test]
-fn a_history_over_the_change_is_replayed() {
+fn a_history_over_the_changes_is_replayed() {
     let place = PathBuf::from(env!("CARGO_TARGET_TMPDIR"));
     let run = |name: &str, lines: &str, more: &[&str]| {
         let file = place.join(name);
@@ -157,10 +157,10 @@ fn a_history_over_the_change_is_replayed() {
     for (name, lines, said) in [("left-out", &left_out, "0 gone on"), ("gone-on", &gone_on, "1 gone on")] {
         let ended = run(name, lines, &[]);
         assert_eq!((ended.status.code(), errors(&ended).as_str()), (Some(0), ""), "{name}: {}", printed(&ended));
-        assert!(printed(&ended).contains(&format!("histories over the change of the rules: {said}")), "{name}");
+        assert!(printed(&ended).contains(&format!("histories over changes of the rules: {said}")), "{name}");
     }
-    let ended = run("left-out-fault", &left_out, &["--fault", "provided-128-sound"]);
-    let words = "FAILED: provided-128-sound: checking the unsound image gives 0 with 1\n";
+    let ended = run("left-out-fault", &left_out, &["--fault", "converts-128"]);
+    let words = "FAILED: converts-128: converting 1094 bytes into 1110 gives 0 with 0, not 1 with 255\n";
     assert!(ended.status.code() == Some(1) && printed(&ended).ends_with(words), "{}", printed(&ended));
     let ended = run("bad-line", "00 00\nchanges\n", &[]);
     let bad = place.join("bad-line").display().to_string();

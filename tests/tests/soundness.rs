@@ -1,6 +1,7 @@
 //! Each condition of a sound image, broken by itself. The engines and the tests' own reader agree.
 
-use second::card::{linked, Bytes, Card, Verdict, BYTES, IMAGE};
+use second::bytes::layout::Version;
+use second::card::{linked, Bytes, Card, Verdict, IMAGE};
 use second::cases::{B, C, H, X};
 use second::rules::Rules;
 use second::tables;
@@ -8,10 +9,12 @@ use second::write::{load, remove, remove_service, Row, Tokens};
 
 /// Bytes put at a place.
 type Edit = (usize, &'static [u8]);
+/// Edits with what they are.
+type Edits = &'static [(&'static str, &'static [Edit])];
 
 /// Packages 0 (H), 2 (C, which calls and needs a service of H) and 3 (a longer AID); number 1 and
-/// H's service 1 are unused; two unmet calls of C and two waiting grants of H.
-fn sample() -> Vec<u8> {
+/// H's service 1 are unused; two unmet calls of C and two waiting grants of H. Both versions can hold it.
+fn sample(rules: Rules) -> Vec<u8> {
     let row = |other: &[u8], tokens: Tokens| -> Row { (other.to_vec(), tokens) };
     let records = [
         load(H, &[(1, 1), (1, 2), (1, 3)], &[], &[row(C, (1, 1)), row(C, (1, 3)), row(X, (1, 1)), row(X, (1, 3))], &[]),
@@ -21,10 +24,10 @@ fn sample() -> Vec<u8> {
         remove(B),
         remove_service(H, (1, 2)),
     ];
-    let mut image = vec![0; IMAGE];
-    BYTES.empty(&mut image);
+    let mut image = vec![0; Version::of(rules).size];
+    Bytes(rules).empty(&mut image);
     for record in records {
-        assert_eq!(BYTES.judge(&mut image, &record).answer, 0);
+        assert_eq!(Bytes(rules).judge(&mut image, &record).answer, 0);
     }
     assert_eq!((image[3], image[268], image[468], image[789]), (0x0D, 0x05, 2, 2));
     image
@@ -33,8 +36,8 @@ fn sample() -> Vec<u8> {
 const UNMET: usize = 469;
 const WAITING: usize = 790;
 
-/// Edits that leave the image sound.
-const HARMLESS: &[(&str, &[Edit])] = &[
+/// Edits that leave an image of either version sound.
+const HARMLESS: Edits = &[
     ("another AID", &[(4 + 34 + 5, &[7])]),
     ("an AID that takes its fill", &[(4 + 34, &[6])]),
     ("other tokens", &[(140, &[9, 9])]),
@@ -52,14 +55,28 @@ const HARMLESS: &[(&str, &[Edit])] = &[
     ("an unmet call of another", &[(UNMET + 19, &[0])]),
     ("two callers of one unmet service", &[(UNMET + 20, &[5, 0xF0, 0, 0, 0, 9]), (UNMET + 20 + 17, &[5, 5, 0])]),
     ("a list without its last row", &[(468, &[1]), (UNMET + 20, &[0; 20])]),
-    ("a waiting grant by another", &[(WAITING + 17, &[2, 0])]),
+    ("waiting: another caller", &[(WAITING + 5, &[7])]),
 ];
 
-/// Edits that break one condition each.
-const HARMFUL: &[(&str, &[Edit])] = &[
+/// Edits of waiting grants that leave an image of version 02 sound.
+const HARMLESS_02: Edits = &[
+    ("a waiting grant by another", &[(WAITING + 17, &[2, 2, 2])]),
+    ("waiting: a service not provided", &[(WAITING + 18, &[1, 2])]),
+    ("waiting: a service not provided, to an installed caller", &[(WAITING + 5, &[2]), (WAITING + 18, &[9, 9])]),
+    ("waiting: a service that another provides, to that other", &[(WAITING + 5, &[2]), (WAITING + 18, &[2, 2])]),
+    ("waiting: a method token of 127", &[(WAITING + 20 + 18, &[1, 127])]),
+    ("waiting: an interface token of 255", &[(WAITING + 18, &[255, 127])]),
+    ("waiting: tokens 0, 0", &[(WAITING + 18, &[0, 0])]),
+];
+
+/// Edits of waiting grants that leave an image of version 01 sound.
+const HARMLESS_01: Edits = &[("a waiting grant by another", &[(WAITING + 17, &[2, 0])])];
+
+/// Edits that break one condition each, in either version.
+const HARMFUL: Edits = &[
     ("length, high", &[(0, &[0x05])]),
     ("length, low", &[(1, &[0x47])]),
-    ("version", &[(2, &[0x02])]),
+    ("version", &[(2, &[0x03])]),
     ("a used number without AID", &[(3, &[0x0F])]),
     ("an unused number with AID", &[(3, &[0x05])]),
     ("AID length 4", &[(4, &[4, 0xF0, 0, 0, 1, 0])]),
@@ -106,29 +123,72 @@ const HARMFUL: &[(&str, &[Edit])] = &[
     ("17 waiting grants", &[(789, &[17])]),
     ("a waiting row past the count", &[(789, &[1])]),
     ("a waiting row that is zero", &[(789, &[3])]),
-    ("a byte after the waiting rows", &[(1093, &[1])]),
     ("waiting: AID length 4", &[(WAITING, &[4, 0xF0, 0, 0, 9, 0])]),
+    ("waiting: AID length 17", &[(WAITING, &[17])]),
     ("waiting: AID fill", &[(WAITING + 16, &[1])]),
-    ("waiting: an installed caller", &[(WAITING + 5, &[2])]),
+    ("waiting: an installed caller of a service provided", &[(WAITING + 5, &[2])]),
     ("waiting: the callee itself", &[(WAITING + 5, &[1])]),
     ("waiting: an unused callee", &[(WAITING + 17, &[1])]),
     ("waiting: a callee past 7", &[(WAITING + 17, &[8])]),
+];
+
+/// Edits of waiting grants that break one condition each in version 02.
+const HARMFUL_02: Edits = &[
+    ("the header of version 01", &[(0, &[0x04, 0x46, 0x01])]),
+    ("a byte after the waiting rows", &[(1109, &[1])]),
+    ("waiting: an installed caller of another service provided", &[(WAITING + 5, &[2]), (WAITING + 18, &[1, 3])]),
+    ("waiting: the callee itself, of a service not provided", &[(WAITING + 5, &[1]), (WAITING + 18, &[9, 9])]),
+    ("waiting: a method token of 128", &[(WAITING + 19, &[128])]),
+    ("waiting: a method token of 255 in the last row", &[(WAITING + 20 + 19, &[255])]),
+    ("waiting: a row twice", &[(WAITING + 20 + 18, &[1, 1])]),
+];
+
+/// Edits of waiting grants that break one condition each in version 01.
+const HARMFUL_01: Edits = &[
+    ("the header of version 02", &[(0, &[0x04, 0x56, 0x02])]),
+    ("a byte after the waiting rows", &[(1093, &[1])]),
     ("waiting: a service not provided", &[(WAITING + 18, &[1])]),
     ("waiting: a service past 7", &[(WAITING + 18, &[8])]),
     ("waiting: a row twice", &[(WAITING + 19 + 18, &[0])]),
 ];
 
-fn sound_everywhere(image: &[u8], name: &str) -> bool {
-    let own = tables::contracts(Rules::IN_FORCE, image).is_some();
+/// The rules with their edits of waiting grants: the last of version 01, and those in force.
+const VERSIONS: [(Rules, Edits, Edits); 2] =
+    [(Rules::R_7, HARMLESS_01, HARMFUL_01), (Rules::R_2, HARMLESS_02, HARMFUL_02)];
+
+/// Whether an image is sound by the rules. An old one is converted then, and every engine refuses it otherwise.
+fn sound_everywhere(rules: Rules, image: &[u8], name: &str) -> bool {
+    let own = tables::contracts(rules, image).is_some();
+    let expected = if own { Verdict::new(0, image[3].count_ones()) } else { Verdict::new(1, 255) };
+    assert_eq!(Bytes(rules).check(image), expected, "{name}");
     for card in linked() {
-        let expected = if own { Verdict::new(0, image[3].count_ones()) } else { Verdict::new(1, 255) };
-        assert_eq!(card.check(image), expected, "{}: {name}", card.name());
+        let place = || format!("{}: {name}", card.name());
+        let mut converted = vec![0xA5; IMAGE];
+        let verdict = card.convert(image, &mut converted);
+        if rules.early_grants {
+            assert_eq!(card.check(image), expected, "{}", place());
+            assert_eq!((verdict, converted), (Verdict::new(1, 255), vec![0xA5; IMAGE]), "{}", place());
+        } else {
+            refuses(card, image);
+            assert_eq!(verdict, if own { Verdict::new(0, 0) } else { Verdict::new(1, 255) }, "{}", place());
+            let stands_for = tables::contracts(Rules::IN_FORCE, &converted);
+            assert_eq!(stands_for, tables::contracts(rules, image), "{}", place());
+        }
     }
     own
 }
 
-fn edited(edits: &[Edit]) -> Vec<u8> {
-    let mut image = sample();
+/// Checking, judging and reading out give 1, and change nothing.
+fn refuses(card: &dyn Card, image: &[u8]) {
+    let (mut own, mut buffer) = (image.to_vec(), [0xA5; 128]);
+    assert_eq!(card.check(image), Verdict::new(1, 255));
+    assert_eq!(card.judge(&mut own, &remove(H)), Verdict::new(1, 255));
+    assert_eq!(card.read_out(image, 0, &mut buffer), Verdict::new(1, 0));
+    assert!(own == image && buffer == [0xA5; 128]);
+}
+
+fn edited(rules: Rules, edits: &[Edit]) -> Vec<u8> {
+    let mut image = sample(rules);
     for (at, bytes) in edits {
         image[*at..at + bytes.len()].copy_from_slice(bytes);
     }
@@ -137,55 +197,75 @@ fn edited(edits: &[Edit]) -> Vec<u8> {
 
 #[test]
 fn the_sample_is_sound() {
-    assert!(sound_everywhere(&sample(), "sample"));
+    for (rules, ..) in VERSIONS {
+        assert!(sound_everywhere(rules, &sample(rules), "sample"));
+    }
 }
 
 #[test]
 fn harmless_edits_leave_an_image_sound() {
-    for (name, edits) in HARMLESS {
-        assert_ne!(edited(edits), sample(), "{name}");
-        assert!(sound_everywhere(&edited(edits), name), "{name}");
+    for (rules, own, _) in VERSIONS {
+        for (name, edits) in HARMLESS.iter().chain(own) {
+            assert_ne!(edited(rules, edits), sample(rules), "{name}");
+            assert!(sound_everywhere(rules, &edited(rules, edits), name), "{name}");
+        }
     }
 }
 
 #[test]
 fn every_condition_is_looked_at() {
-    for (name, edits) in HARMFUL {
-        assert!(!sound_everywhere(&edited(edits), name), "{name}");
+    for (rules, _, own) in VERSIONS {
+        for (name, edits) in HARMFUL.iter().chain(own) {
+            assert!(!sound_everywhere(rules, &edited(rules, edits), name), "{name}");
+        }
     }
 }
 
 /// By document 01's rules an image with any method token is sound, and it is the same otherwise.
 #[test]
-fn method_tokens_are_what_the_rules_differ_in() {
+fn method_tokens_are_what_r_7_changed() {
     let then = Bytes(Rules::DOCUMENT_01);
-    for at in [140 + 1, 140 + 32 + 1, UNMET + 18, UNMET + 20 + 18] {
+    let (provided, unmet) = ([140 + 1, 140 + 32 + 1], [UNMET + 18, UNMET + 20 + 18]);
+    for at in provided.into_iter().chain(unmet) {
         for method in [126, 127, 128, 129, 255] {
-            let mut image = sample();
+            let mut image = sample(Rules::R_7);
             image[at] = method;
             assert_eq!(then.check(&image), Verdict::new(0, 3), "byte {at}: {method}");
             assert!(tables::contracts(Rules::DOCUMENT_01, &image).is_some(), "byte {at}: {method}");
-            assert_eq!(sound_everywhere(&image, "a method token"), method <= 127, "byte {at}: {method}");
-            for card in linked().into_iter().filter(|_| method > 127) {
-                let (mut own, mut buffer) = (image.clone(), [0xA5; 128]);
-                assert_eq!(card.judge(&mut own, &remove(H)), Verdict::new(1, 255));
-                assert_eq!(card.read_out(&image, 0, &mut buffer), Verdict::new(1, 0));
-                assert!(own == image && buffer == [0xA5; 128]);
-            }
+            assert_eq!(sound_everywhere(Rules::R_7, &image, "a method token"), method <= 127, "byte {at}: {method}");
         }
     }
-    for (name, edits) in HARMFUL.iter().filter(|(name, _)| !name.contains("method token")) {
-        assert_eq!(then.check(&edited(edits)), Verdict::new(1, 255), "{name}");
+    for (name, edits) in HARMFUL.iter().chain(HARMFUL_01).filter(|(name, _)| !name.contains("method token")) {
+        assert_eq!(then.check(&edited(Rules::R_7, edits)), Verdict::new(1, 255), "{name}");
+    }
+}
+
+/// In version 02 waiting grants have method tokens too.
+#[test]
+fn method_tokens_stop_at_127_in_every_place() {
+    for at in [140 + 1, 140 + 32 + 1, UNMET + 18, UNMET + 20 + 18, WAITING + 19, WAITING + 20 + 19] {
+        for method in [126, 127, 128, 129, 255] {
+            let mut image = sample(Rules::IN_FORCE);
+            image[at] = method;
+            assert_eq!(
+                sound_everywhere(Rules::IN_FORCE, &image, "a method token"),
+                method <= 127,
+                "byte {at}: {method}"
+            );
+            linked().into_iter().filter(|_| method > 127).for_each(|card| refuses(card, &image));
+        }
     }
 }
 
 #[test]
 fn every_byte_changed_is_judged_alike() {
-    for at in 0..IMAGE {
-        for flip in [0x01, 0x80, 0xFF] {
-            let mut image = sample();
-            image[at] ^= flip;
-            sound_everywhere(&image, &format!("byte {at} ^ {flip:02X}"));
+    for (rules, ..) in VERSIONS {
+        for at in 0..sample(rules).len() {
+            for flip in [0x01, 0x80, 0xFF] {
+                let mut image = sample(rules);
+                image[at] ^= flip;
+                sound_everywhere(rules, &image, &format!("byte {at} ^ {flip:02X}"));
+            }
         }
     }
 }

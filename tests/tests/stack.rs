@@ -2,8 +2,8 @@
 //! a stack of its own that was painted before; and added up from the frames in the archive's machine code, for every path of calls.
 #![cfg(feature = "engine")]
 
-use second::card::{Card, Engine, Verdict, BYTES};
-use second::full_card::timed;
+use second::card::{Card, Engine, Verdict, BYTES, IMAGE};
+use second::full_card::{old_card, timed};
 use second::run::{run, DEFAULT_SEED};
 use std::arch::asm;
 use std::collections::BTreeMap;
@@ -19,9 +19,10 @@ fn stated(name: &str) -> usize {
 }
 
 /// Each exported function, and its name in the header.
-const FUNCTIONS: [(&str, &str); 5] = [
+const FUNCTIONS: [(&str, &str); 6] = [
     ("card_check", "CARD_STACK_CHECK"),
     ("card_empty", "CARD_STACK_EMPTY"),
+    ("card_convert", "CARD_STACK_CONVERT"),
     ("card_judge", "CARD_STACK_JUDGE"),
     ("card_read_out", "CARD_STACK_READ_OUT"),
     ("card_aid", "CARD_STACK_AID"),
@@ -77,6 +78,7 @@ impl Stack {
 extern "C" {
     fn card_check();
     fn card_empty();
+    fn card_convert();
     fn card_judge();
     fn card_read_out();
     fn card_aid();
@@ -86,6 +88,7 @@ extern "C" {
 struct Painted {
     check: Stack,
     empty: Stack,
+    convert: Stack,
     judge: Stack,
     read_out: Stack,
     aid: Stack,
@@ -103,6 +106,11 @@ impl Card for Painted {
 
     fn empty(&self, image: &mut [u8]) -> Verdict {
         unsafe { self.empty.call(card_empty, [image.as_mut_ptr() as usize, image.len(), 0, 0, 0]) }
+    }
+
+    fn convert(&self, old: &[u8], image: &mut [u8]) -> Verdict {
+        let (image, length) = (image.as_mut_ptr() as usize, image.len());
+        unsafe { self.convert.call(card_convert, [old.as_ptr() as usize, old.len(), image, length, 0]) }
     }
 
     fn judge(&self, image: &mut [u8], record: &[u8]) -> Verdict {
@@ -140,14 +148,15 @@ fn block_signals() {
 #[test]
 fn no_call_takes_more_stack_than_the_header_says() {
     block_signals();
-    let [check, empty, judge, read_out, aid] = [(); 5].map(|_| Stack::new());
-    let painted = Painted { check, empty, judge, read_out, aid };
+    let [check, empty, convert, judge, read_out, aid] = [(); 6].map(|_| Stack::new());
+    let painted = Painted { check, empty, convert, judge, read_out, aid };
     let compared = run(&[&BYTES, &painted], DEFAULT_SEED, 20_000);
     assert!(compared.is_ok(), "{}", compared.err().unwrap().difference);
     for mut timed in timed() {
         assert_eq!(painted.judge(&mut timed.image, &timed.record).answer, 0, "{}", timed.name);
     }
-    let stacks = [&painted.check, &painted.empty, &painted.judge, &painted.read_out, &painted.aid];
+    assert_eq!(painted.convert(&old_card(), &mut [0; IMAGE]).answer, 0);
+    let stacks = [&painted.check, &painted.empty, &painted.convert, &painted.judge, &painted.read_out, &painted.aid];
     for ((function, name), stack) in FUNCTIONS.into_iter().zip(stacks) {
         println!("{function}: {} bytes of stack, of {}", stack.depth(), stated(name));
         assert!((8..=stated(name)).contains(&stack.depth()), "{function}: {} bytes of stack", stack.depth());

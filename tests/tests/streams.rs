@@ -11,7 +11,7 @@ use std::collections::BTreeSet;
 /// A wrong program: what it makes of the frames and of the right lines.
 type Wrong = fn(&Frames, Vec<String>) -> Vec<String>;
 
-const WRONG: [(&str, Wrong); 18] = [
+const WRONG: [(&str, Wrong); 19] = [
     ("goes on after a bad frame", |frames, lines| [lines, behind(frames.rest)].concat()),
     ("the line of a bad frame has the ordinal 7", |frames, lines| {
         if_bad(frames, lines, |_| Some("7 - 2 -\n".to_string()))
@@ -46,7 +46,8 @@ const WRONG: [(&str, Wrong); 18] = [
         }
         lines
     }),
-    ("a method token of 128 is read", |frames, _| frames.lines_before(1).expect("no difference")),
+    ("a method token of 128 is read", |frames, _| frames.lines_before(2).expect("no difference")),
+    ("a grant of a service not provided is refused", |frames, _| frames.lines_before(1).expect("no difference")),
     ("a method token of 127 is not read", |frames, mut lines| {
         for (record, line) in frames.records.iter().zip(&mut lines) {
             if methods::of_record(record).iter().any(|(_, at)| record[*at] == 127) {

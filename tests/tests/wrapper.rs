@@ -1,11 +1,12 @@
 //! The safe wrapper of the exported functions says what their numbers say.
 #![cfg(feature = "engine")]
 
-use second::card::{Verdict, IMAGE, LONGEST_RECORD};
-use second::cases::{all, H};
+use second::card::{Bytes, Card, Verdict, IMAGE, LONGEST_RECORD, OLD_IMAGE};
+use second::cases::{all, C, H};
 use second::engine::{self, exact};
 use second::refusal::Refusal;
-use second::write::load;
+use second::rules::Rules;
+use second::write::{load, update};
 use std::collections::BTreeSet;
 
 /// What an answer and a second number mean.
@@ -60,4 +61,24 @@ fn a_contract_is_read_out_as_a_part_of_the_buffer() {
     assert_eq!(buffer[record.len()..], [0xA5; 3]);
     assert_eq!(engine::aid(&record), H);
     assert_eq!(engine::aid(&record[1..]), []);
+}
+
+#[test]
+fn an_old_image_is_converted() {
+    let (then, mut old) = (Bytes(Rules::R_7), [0; OLD_IMAGE]);
+    then.empty(&mut old);
+    let record = load(H, &[(1, 2)], &[], &[(C.to_vec(), (1, 2))], &[]);
+    assert_eq!(then.judge(&mut old, &record), Verdict::new(0, 0));
+    let mut image = [0xA5; IMAGE];
+    assert_eq!(engine::check(&old), Err(Refusal::Unsound));
+    assert_eq!(engine::convert(&old[1..], &mut image), Err(Refusal::Unsound));
+    assert_eq!(engine::convert(&old, &mut image[1..]), Err(Refusal::Unsound));
+    assert_eq!(image, [0xA5; IMAGE]);
+    assert_eq!(engine::convert(&old, &mut image), Ok(()));
+    assert_eq!(engine::check(&image), Ok(1));
+    let mut buffer = [0; LONGEST_RECORD];
+    assert_eq!(engine::read_out(&image, 0, &mut buffer), Ok(&record[..]));
+    let early = update(7, H, C, (3, 4));
+    assert_eq!(engine::judge(&mut image, &early), Ok(0));
+    assert_eq!(engine::judge(&mut image, &early), Err(Refusal::Pointless));
 }
