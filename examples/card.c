@@ -1,4 +1,4 @@
-/* A host in C: makes an empty card, judges three records and reads a contract out.
+/* A host in C: converts a card of version 01, judges four records and reads a contract out.
  * examples/run builds it, runs it and compares what it prints with examples/card.out. */
 
 #include <stddef.h>
@@ -20,6 +20,9 @@ static const uint8_t organiser[] = {
     0, 30, 1, 1, 5, 0xF0, 0, 0, 0, 2, 0, 1, 5, 0xF0, 0, 0, 0, 1, 0, 0,
     0, 1, 5, 0xF0, 0, 0, 0, 1, 0, 0};
 
+/* F000000001 grants the service 0.1, which it does not provide yet, to F000000003. */
+static const uint8_t early_grant[] = {0, 18, 1, 7, 5, 0xF0, 0, 0, 0, 1, 5, 0xF0, 0, 0, 0, 3, 0, 1};
+
 static void print_bytes(const uint8_t *bytes, uint32_t count) {
     for (uint32_t at = 0; at < count; at++) {
         printf("%s%02X", at == 0 ? "" : " ", bytes[at]);
@@ -40,16 +43,20 @@ static void judge(uint8_t *image, const uint8_t *record, size_t length) {
 }
 
 int main(void) {
+    /* A card that was made before version 02: its length, its version, and no package. */
+    uint8_t old[CARD_OLD_IMAGE_SIZE] = {0x04, 0x46, 0x01};
     uint8_t image[CARD_IMAGE_SIZE] = {0};
     uint8_t contract[CARD_RECORD_SIZE] = {0};
 
-    if (CARD_ANSWER(card_empty(image, sizeof image)) != CARD_ACCEPTED) {
-        fprintf(stderr, "no empty image is written\n");
+    /* A card that begins now is written by card_empty(image, sizeof image). */
+    if (CARD_ANSWER(card_convert(old, sizeof old, image, sizeof image)) != CARD_ACCEPTED) {
+        fprintf(stderr, "the old image is not converted\n");
         return 1;
     }
     judge(image, handicap_log, sizeof handicap_log);
     judge(image, bar_purse, sizeof bar_purse);
     judge(image, organiser, sizeof organiser);
+    judge(image, early_grant, sizeof early_grant);
 
     uint32_t checked = card_check(image, sizeof image);
     if (CARD_ANSWER(checked) != CARD_ACCEPTED) {
@@ -58,12 +65,12 @@ int main(void) {
     }
     printf("packages on the card: %u\n", (unsigned)CARD_SECOND(checked));
 
-    uint32_t read = card_read_out(image, sizeof image, 1, contract, sizeof contract);
+    uint32_t read = card_read_out(image, sizeof image, 0, contract, sizeof contract);
     if (CARD_ANSWER(read) != CARD_ACCEPTED) {
-        fprintf(stderr, "package 1 is not read out: %u\n", (unsigned)CARD_ANSWER(read));
+        fprintf(stderr, "package 0 is not read out: %u\n", (unsigned)CARD_ANSWER(read));
         return 1;
     }
-    printf("contract of package 1: ");
+    printf("contract of package 0: ");
     print_bytes(contract, CARD_SECOND(read));
     return 0;
 }

@@ -1,5 +1,5 @@
 /*
- * The member card's contract policy engine: five functions, proved, in libcard.a (`rt staticlib card`).
+ * The member card's contract policy engine: six functions, proved, in libcard.a (`rt staticlib card`).
  *
  * Each function takes any bytes of any length and always returns. Its result has two parts, an answer and a second number, which
  * CARD_ANSWER and CARD_SECOND take out; the result of card_aid has macros of its own. On any answer but CARD_ACCEPTED
@@ -11,7 +11,8 @@
  *   the toolchain promises nothing. Where a host has null for no bytes it lends (const uint8_t *)"" with the length 0.
  * - The bytes are initialised, also those that are written without being read first, as by card_empty: the proofs speak of bytes
  *   that have a value.
- * - Bytes that a function may write (`image` without const, and `out`) overlap nothing else that is lent in the same call.
+ * - Bytes that a function may write (`image` without const, and `out`) overlap nothing else that is lent in the same call. So a card
+ *   is not converted in its own place.
  * - Until the call returns nobody else writes what is lent: no other thread, signal handler or interrupt, and nobody through a
  *   file that is mapped there.
  *
@@ -48,15 +49,23 @@ extern "C" {
  * The version of what this file promises. The major number goes up when a host that kept to it may have to change: parameters,
  * results, the meaning of an answer, the bytes of images and records. The minor number goes up when something is added.
  *
+ * 3.0: a grant may name a service that its package does not yet provide, and waits until caller and service are both on the card; a
+ * service that is removed leaves its grants waiting. So 3 and 6 are not given for such a grant, and removing a service may get 11. An
+ * image has CARD_IMAGE_SIZE = 1110 bytes and version 02, where 2.0 had 1094 and version 01: of an image of version 01 card_convert makes
+ * one of version 02, and every other function gives 1. CARD_OLD_IMAGE_SIZE and CARD_STACK_CONVERT are new.
+ *
  * 2.0: a method token is 0 to 127, where 1.0 had 0 to 255. A record with a higher one gets 2. An image made with 1.0 that holds a higher
  * one is not sound: card_check, card_judge and card_read_out give 1. Interface tokens stay 0 to 255.
  */
-#define CARD_VERSION_MAJOR 2
+#define CARD_VERSION_MAJOR 3
 #define CARD_VERSION_MINOR 0
 #define CARD_VERSION (CARD_VERSION_MAJOR * 1000 + CARD_VERSION_MINOR)
 
 /* Bytes of an image. */
-#define CARD_IMAGE_SIZE 1094
+#define CARD_IMAGE_SIZE 1110
+
+/* Bytes of an image of version 01, which card_convert takes. */
+#define CARD_OLD_IMAGE_SIZE 1094
 
 /* Bytes of the longest record: a buffer of this size holds whatever is read out. */
 #define CARD_RECORD_SIZE 4145
@@ -65,10 +74,11 @@ extern "C" {
  * Bytes of stack that a call takes at most, its return address and glibc's memcpy and memset among them. No theorem speaks of the
  * stack: these are measured, with a little room, and a test holds the archive to them (tests/tests/stack.rs).
  */
-#define CARD_STACK_CHECK 320
+#define CARD_STACK_CHECK 416
 #define CARD_STACK_EMPTY 64
-#define CARD_STACK_JUDGE 896
-#define CARD_STACK_READ_OUT 448
+#define CARD_STACK_CONVERT 448
+#define CARD_STACK_JUDGE 1152
+#define CARD_STACK_READ_OUT 512
 #define CARD_STACK_AID 256
 
 /*
@@ -77,16 +87,14 @@ extern "C" {
  */
 enum card_answer {
     CARD_ACCEPTED = 0,
-    CARD_UNSOUND_IMAGE = 1,        /* the image is not sound, as one that holds a method token of 128 or more, or not CARD_IMAGE_SIZE
-                                      bytes */
+    CARD_UNSOUND_IMAGE = 1,        /* the image is not sound, as one of version 01 or with a method token of 128 or more, or not
+                                      CARD_IMAGE_SIZE bytes */
     CARD_MALFORMED_RECORD = 2,     /* length, version, kind, count or AID length wrong, a method token of 128 or more, or bytes missing
                                       or left over */
-    CARD_CONTRADICTORY_RECORD = 3, /* a row or AID is repeated; the own AID as the other end; in a load, a need that is not called or a
-                                      grant of a service not provided */
+    CARD_CONTRADICTORY_RECORD = 3, /* a row or AID is repeated; the own AID as the other end; in a load, a need that is not called */
     CARD_INSTALLED = 4,            /* load of an AID that is installed */
     CARD_NOT_INSTALLED = 5,        /* the package, or the package number to read out, is not installed */
-    CARD_POINTLESS_CHANGE = 6,     /* adds what the contract has, or removes what it lacks; a grant of a service not provided; a need
-                                      not called */
+    CARD_POINTLESS_CHANGE = 6,     /* adds what the contract has, or removes what it lacks; a need not called */
     CARD_NO_NUMBER = 7,            /* no package number left, or no service number of the package */
     CARD_UNGRANTED_CALL = 8,       /* a met call would stand without its grant */
     CARD_UNMET_NEED = 9,           /* a need would be unmet */
@@ -104,6 +112,13 @@ uint32_t card_check(const uint8_t *image, size_t image_length);
 
 /* Writes the empty image: accepted with 0. Of a buffer that is not CARD_IMAGE_SIZE bytes: 1. */
 uint32_t card_empty(uint8_t *image, size_t image_length);
+
+/*
+ * Writes an image of version 01 as one of version 02: accepted with 0, and image holds the same contracts, under the same package and
+ * service numbers and with both lists in order. Where old is not CARD_OLD_IMAGE_SIZE bytes and sound (no method token is above 127), or
+ * image not CARD_IMAGE_SIZE bytes: 1. The old image stays as it is; what image held before does not matter.
+ */
+uint32_t card_convert(const uint8_t *old, size_t old_length, uint8_t *image, size_t image_length);
 
 /*
  * Judges a record on an image. Accepted, the image is changed, and the second number is the package number (on removal, the one it had).
