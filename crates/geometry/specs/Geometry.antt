@@ -1,5 +1,6 @@
 -- The layout of each card, and where the places of its image stand.
 use Prim.Native.Nat.{ℕ, _+_, _*_}
+use Rattle.policy.specs.Contract.{Tok}
 use Rattle.policy.specs.Layout.{Layout, small, aidSize, unmetSize, waitingSize, aidsAt, tokensAt, providesAt, callsAt, grantsAt, needsAt, unmetAt, waitingAt}
 use Rattle.geometry.specs.declared.Card.{Card}
 use Rattle.geometry.specs.declared.Card.the-variants.{Small}
@@ -7,6 +8,7 @@ use Rattle.geometry.specs.declared.Table.{Table}
 use Rattle.geometry.specs.declared.Table.the-variants.{Calls, Grants, Needs}
 use Rattle.geometry.specs.declared.Kept.{Kept}
 use Rattle.geometry.specs.declared.Kept.the-variants.{UnmetCalls, WaitingGrants}
+use Rattle.geometry.specs.declared.Tokens.{Tokens}
 
 abbrev pub layoutOf : Card → Layout
 layoutOf Small = small
@@ -58,3 +60,7 @@ numberIn WaitingGrants = 17
 abbrev pub tokensIn : Kept → ℕ
 tokensIn UnmetCalls = 17
 tokensIn WaitingGrants = 18
+
+-- the tokens of a service in code
+abbrev pub tokOf : Tokens → Tok
+tokOf t = record { itf = t .interface; mth = t .method }

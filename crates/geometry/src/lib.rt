@@ -28,6 +28,12 @@ pub enum Kept {
     WaitingGrants,
 }
 
+// The tokens of a service.
+pub struct Tokens {
+    pub interface: u8,
+    pub method: u8,
+}
+
 // Package numbers.
 pub fn packages(c: Card) -> usize
     ensures { λ r. ⌜ r ≡ layoutOf c .packages ⌝ }
