@@ -16,7 +16,7 @@ fn join(number: u8, second: u16) -> u32
 pub extern "C" fn card_check(image: &[u8]) -> u32
     ensures { λ r. ⌜ Checked (now (image .entry)) r ⌝ }
 {
-    let checked = engine::checking::check_image(image, Card::Small);
+    let checked = judging::checking::check_image(image, Card::Small);
     join(checked.number, checked.second as u16)
 }
 
@@ -25,7 +25,7 @@ pub extern "C" fn card_check(image: &[u8]) -> u32
 pub extern "C" fn card_empty(image: &mut [u8]) -> u32
     ensures { λ r. ⌜ Emptied (now (image .entry)) r (now (image .exit)) ⌝ }
 {
-    let emptied = engine::empty::write_empty(image, Card::Small);
+    let emptied = judging::empty::write_empty(image, Card::Small);
     join(emptied.number, emptied.second as u16)
 }
 

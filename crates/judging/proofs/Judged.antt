@@ -17,7 +17,7 @@ use Rattle.record.specs.declared.Read.{Read}
 use Rattle.record.specs.declared.Read.the-variants.{Whole, Malformed}
 use Rattle.record.specs.declared.Record.{Record}
 use Rattle.record.proofs.Header.{parsed-none, parsed-some, parsed-valid}
-use Rattle.engine.specs.Asked.{Asked}
+use Rattle.changes.specs.Asked.{Asked}
 
 -- what a test of the code tells of b, as the code tests `not r`
 passed : {r b : Bool} → r ≡ b → not r ≡ false → T b

@@ -1,1 +1,3 @@
+pub mod EmptyImage
+pub mod Checked
 pub mod Judged

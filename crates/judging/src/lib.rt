@@ -3,12 +3,15 @@ ghost use Rattle.policy.specs.Judge.{judge as judgement};
 ghost use Rattle.policy.specs.Settled.{settled, Gives};
 ghost use Rattle.geometry.specs.Geometry.{layoutOf};
 ghost use Rattle.record.specs.Meaning.{RecordFits, aidIn, kindOf};
-ghost use Rattle.engine.specs.Asked.{Asked};
-use engine::Verdict;
+ghost use Rattle.changes.specs.Asked.{Asked};
+use changes::Verdict;
 use geometry::Card;
 use record::Kind;
 use record::Read;
 use record::Record;
+
+pub mod checking;
+pub mod empty;
 
 // Causes 4 to 11, and the change: a proper record that was read, on a sound image.
 fn settle(img: &mut [u8], c: Card, rec: &[u8], r: Record) -> Verdict
@@ -26,37 +29,37 @@ fn settle(img: &mut [u8], c: Card, rec: &[u8], r: Record) -> Verdict
             calls,
             grants,
             needs,
-        } => loading::load(img, c, own, rec, provides, calls, grants, needs),
-        Kind::Remove => engine::removals::remove(img, c, own),
+        } => packages::load(img, c, own, rec, provides, calls, grants, needs),
+        Kind::Remove => packages::removal::remove(img, c, own),
         Kind::AddService(t, callers) => {
-            engine::services::add_service(img, c, own, t.interface, t.method, rec, callers)
+            services::adding::add_service(img, c, own, t.interface, t.method, rec, callers)
         }
         Kind::RemoveService(t) => {
-            engine::removals::remove_service(img, c, own, t.interface, t.method)
+            services::removal::remove_service(img, c, own, t.interface, t.method)
         }
         Kind::AddCall(a, t) => {
             let other = record::aid_bytes(rec, a);
-            engine::calls::add_call(img, c, own, other, t.interface, t.method)
+            links::calls::add_call(img, c, own, other, t.interface, t.method)
         }
         Kind::RemoveCall(a, t) => {
             let other = record::aid_bytes(rec, a);
-            engine::calls::remove_call(img, c, own, other, t.interface, t.method)
+            links::calls::remove_call(img, c, own, other, t.interface, t.method)
         }
         Kind::AddGrant(a, t) => {
             let other = record::aid_bytes(rec, a);
-            engine::grants::add_grant(img, c, own, other, t.interface, t.method)
+            links::grants::add_grant(img, c, own, other, t.interface, t.method)
         }
         Kind::RemoveGrant(a, t) => {
             let other = record::aid_bytes(rec, a);
-            engine::grants::remove_grant(img, c, own, other, t.interface, t.method)
+            links::grants::remove_grant(img, c, own, other, t.interface, t.method)
         }
         Kind::AddNeed(a, t) => {
             let other = record::aid_bytes(rec, a);
-            engine::needs::add_need(img, c, own, other, t.interface, t.method)
+            links::needs::add_need(img, c, own, other, t.interface, t.method)
         }
         Kind::RemoveNeed(a, t) => {
             let other = record::aid_bytes(rec, a);
-            engine::needs::remove_need(img, c, own, other, t.interface, t.method)
+            links::needs::remove_need(img, c, own, other, t.interface, t.method)
         }
     }
 }
@@ -66,13 +69,13 @@ pub fn judge(img: &mut [u8], c: Card, rec: &[u8]) -> Verdict
     ensures { λ r. ⌜ Gives (judgement (layoutOf c) (now (img .entry)) (now (rec .entry))) (r .number) (r .second) (now (img .exit)) ⌝ }
 {
     if !soundness::is_sound(img, c) {
-        return engine::refused(1);
+        return changes::refused(1);
     }
     let Read::Whole(r) = record::read_record(rec, c) else {
-        return engine::refused(2);
+        return changes::refused(2);
     };
     if !record::proper::is_proper(rec, r) {
-        return engine::refused(3);
+        return changes::refused(3);
     }
     settle(img, c, rec, r)
 }

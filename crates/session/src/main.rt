@@ -153,7 +153,7 @@ fn run(image: &mut [u8], buf: &mut [u8]) -> Progress
     requires buf_size { ⌜ length (now buf) ≡ longest ⌝ }
     ensures { λ r. ⌜ Ran r (now (image .exit)) (now (buf .exit)) ⌝ }
 {
-    engine::empty::write_empty(image, Card::Small);
+    judging::empty::write_empty(image, Card::Small);
     let mut p = start();
     while p.going {
         p = advance(image, buf, p);

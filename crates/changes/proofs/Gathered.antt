@@ -1,0 +1,116 @@
+-- Rows and counts gathered number by number: what a loop that appends or adds has done. Assumes nothing.
+use Prim.Native.Nat.{ℕ, zero, suc, _+_, _*_, _-_, _≤_, _<_}
+use native.Mathlib.Omega.{arith}
+use native.Mathlib.Nat.{add-zero, zero-add, add-assoc}
+use mathlib.Core.Path.{_≡_, refl, sym, ap, ap₂, _∙_}
+use mathlib.Core.Bool.{Bool, true, false, not, cond}
+use mathlib.Core.List.{List, [], _∷_, _++_, map, append-nil}
+use lib.ListN.{length, length-append}
+use mir.Syntax.{w64}
+use mir.Val.{Fits}
+use Rattle.policy.specs.Lists.{keep, flat, upto}
+use Rattle.policy.specs.ShortCheck.{count, sum}
+use Rattle.policy.proofs.Sets.{flat-append, flat-ext, pairs}
+use Rattle.policy.proofs.ShortRemove.{length-pairs}
+use Rattle.bits.proofs.Loops.{upto-split}
+use Rattle.changes.specs.Left.{only}
+
+-- ---- lists
+module _ {A : Type 0} (h : ℕ → List A) where
+  -- one number more
+  pub flat-snoc : (i : ℕ) → flat h (upto (i + 1)) ≡ flat h (upto i) ++ h i
+  flat-snoc i = ap (flat h) (upto-split i 1) ∙ flat-append h (upto i) (i ∷ []) ∙ ap (λ (z : List A). flat h (upto i) ++ z) (append-nil (h i))
+
+  length-snoc : (i : ℕ) → length (flat h (upto (i + 1))) ≡ length (flat h (upto i)) + length (h i)
+  length-snoc i = ap length (flat-snoc i) ∙ length-append (flat h (upto i)) (h i)
+
+  grows : (i d : ℕ) → length (flat h (upto i)) ≤ length (flat h (upto (i + d)))
+  grows i zero = rw (add-zero i) (omega arith)
+  grows i (suc d) =
+      let e = grows i d in
+      let s = length-snoc (i + d) in
+      let q : i + d + 1 ≡ i + suc d = omega arith in
+      let z = ap (λ (x : ℕ). length (flat h (upto x))) q in
+      omega arith
+
+  -- the rows of a number below n are among those of all
+  pub flat-room : (n i : ℕ) → i < n → length (flat h (upto i)) + length (h i) ≤ length (flat h (upto n))
+  flat-room n i l =
+      let g = grows (i + 1) (n - (i + 1)) in
+      let s = length-snoc i in
+      let q : i + 1 + (n - (i + 1)) ≡ n = omega arith in
+      let z = ap (λ (x : ℕ). length (flat h (upto x))) q in
+      omega arith
+
+-- what is kept, row by row
+pub only-keep : {A : Type 0} (f : ℕ → Bool) (g : ℕ → A) (l : List ℕ) → flat (λ k. only (f k) (g k)) l ≡ map g (keep f l)
+only-keep f g [] = refl
+only-keep {A} f g (x ∷ l) = go (f x) (only-keep f g l)
+  where
+    go : (b : Bool) → flat (λ k. only (f k) (g k)) l ≡ map g (keep f l) → only b (g x) ++ flat (λ k. only (f k) (g k)) l ≡ map g (cond b (x ∷ keep f l) (keep f l))
+    go true e = ap (λ (z : List A). g x ∷ z) e
+    go false e = e
+
+-- the rows of pairs of numbers, and how many they are
+module _ {A : Type 0} (g : ℕ → ℕ → A) (f : ℕ → ℕ → Bool) (l m : List ℕ) where
+  pub only-pairs : flat (λ i. flat (λ k. only (f i k) (g i k)) l) m ≡ pairs g f l m
+  only-pairs = flat-ext (λ i. flat (λ k. only (f i k) (g i k)) l) (λ i. map (g i) (keep (f i) l)) m (λ i _. only-keep (f i) (g i) l)
+
+  pub length-only : length (flat (λ i. flat (λ k. only (f i k) (g i k)) l) m) ≡ sum (λ i. count (f i) l) m
+  length-only = ap length only-pairs ∙ length-pairs g f l m
+
+-- ---- sums
+module _ (f : ℕ → ℕ) where
+  sum-append : (l m : List ℕ) → sum f (l ++ m) ≡ sum f l + sum f m
+  sum-append [] m = sym (zero-add (sum f m))
+  sum-append (x ∷ l) m = ap (λ (n : ℕ). f x + n) (sum-append l m) ∙ sym (add-assoc (f x) (sum f l) (sum f m))
+
+  sum-snoc : (i : ℕ) → sum f (upto (i + 1)) ≡ sum f (upto i) + f i
+  sum-snoc i = ap (sum f) (upto-split i 1) ∙ sum-append (upto i) (i ∷ []) ∙ ap (λ (n : ℕ). sum f (upto i) + n) (add-zero (f i))
+
+-- the first i of n numbers have given the total, at most 16 each
+pub record Tally (f : ℕ → ℕ) (n i total : ℕ) : Type 0 where
+  pub within : i ≤ n
+  pub is : total ≡ sum f (upto i)
+  pub low : total ≤ i * 16
+
+module _ (f : ℕ → ℕ) where
+  pub tally-start : {n : ℕ} → Tally f n 0 0
+  tally-start = record { within = omega arith; is = refl; low = omega arith }
+
+  module _ {n i total : ℕ} (t : Tally f n i total) where
+    pub tally-less : i < n → n - (i + 1) < n - i
+    tally-less l = omega arith
+
+    pub tally-next : i < n → {m : ℕ} → n ≡ m → m ≤ 16 → Fits w64 (i + 1)
+    tally-next l e k = omega arith
+
+    -- q is what number i gives
+    module _ (l : i < n) (q : ℕ) (h : q ≤ 16) where
+      pub tally-fits : {m : ℕ} → n ≡ m → m ≤ 16 → Fits w64 (total + q)
+      tally-fits e k = omega (arith, t .low)
+
+      pub tally-turn : q ≡ f i → Tally f n (i + 1) (total + q)
+      tally-turn e = record { within = omega arith; is = ap₂ (λ (x y : ℕ). x + y) (t .is) e ∙ sym (sum-snoc f i); low = omega (arith, t .low) }
+
+    pub tally-end : {m : ℕ} → n ≡ m → n ≤ i → m ≤ 16 → (total ≡ sum f (upto m)) × (total ≤ 256)
+    tally-end {m} s l h = let w = t .within in let q : i ≡ m = omega arith in (t .is ∙ ap (λ (x : ℕ). sum f (upto x)) q, omega (arith, t .low))
+
+-- as many as pass
+pub sum-count : (g : ℕ → Bool) (l : List ℕ) → sum (λ i. cond (g i) 1 0) l ≡ count g l
+sum-count g [] = refl
+sum-count g (x ∷ l) = go (g x) (sum-count g l)
+  where
+    go : (b : Bool) → sum (λ i. cond (g i) 1 0) l ≡ count g l → cond b 1 0 + sum (λ i. cond (g i) 1 0) l ≡ length (cond b (x ∷ keep g l) (keep g l))
+    go true e = omega arith
+    go false e = omega arith
+
+-- those that do not pass, by those that do
+pub count-others : {A : Type 0} (f : A → Bool) (l : List A) → count (λ x. not (f x)) l + count f l ≡ length l
+count-others f [] = refl
+count-others f (x ∷ l) = go (f x) (count-others f l)
+  where
+    go : (b : Bool) → count (λ x. not (f x)) l + count f l ≡ length l
+        → length (cond (not b) (x ∷ keep (λ x. not (f x)) l) (keep (λ x. not (f x)) l)) + length (cond b (x ∷ keep f l) (keep f l)) ≡ suc (length l)
+    go true e = omega arith
+    go false e = omega arith

@@ -1,0 +1,16 @@
+pub mod Verdicts
+pub mod RemovalCauses
+pub mod Tests
+pub mod ListLoops
+pub mod SoundRows
+pub mod MaskedRows
+pub mod ItemLoops
+pub mod AppendedRows
+pub mod Gathered
+pub mod LeftRows
+pub mod OwnRows
+pub mod OwnWrites
+pub mod OpenedService
+pub mod ClearedService
+pub mod RowsToBits
+pub mod ListRoom

@@ -1,0 +1,6 @@
+pub mod Asked
+pub mod Masks
+pub mod Joins
+pub mod Places
+pub mod Left
+pub mod Own

@@ -1,0 +1,41 @@
+// What a record names, found on the image.
+ghost use mathlib.Core.Path.{_≡_};
+ghost use Prim.Native.Nat.{_<_};
+ghost use Rattle.policy.specs.Tables.{bit, decode};
+ghost use Rattle.policy.specs.Lookup.{numberOf, serverOf};
+ghost use Rattle.geometry.specs.Geometry.{layoutOf};
+ghost use Rattle.image.specs.Laid.{Laid};
+ghost use Rattle.image.specs.Read.{numberOr, placeOr};
+ghost use Rattle.record.specs.Meaning.{AidFits, aidIn, rowIn};
+use geometry::Card;
+use image::read::Place;
+use record::Aid;
+use record::Tokens;
+
+// The number of the package with an AID of the record; the number of packages where there is none.
+pub fn find_caller(img: &[u8], c: Card, rec: &[u8], a: Aid) -> usize
+    requires laid { ⌜ Laid (layoutOf c) (now img) ⌝ }
+    requires fits { ⌜ AidFits (now rec) a ⌝ }
+    ensures { λ r. ⌜ r ≡ numberOr (layoutOf c .packages) (numberOf (layoutOf c) (decode (layoutOf c) (now (img .entry))) (aidIn (now (rec .entry)) a)) ⌝ }
+{
+    let other = record::aid_bytes(rec, a);
+    image::read::find_package(img, c, other)
+}
+
+// Bit r of the mask is set.
+pub fn has_row(mask: u32, r: usize) -> bool
+    requires { ⌜ r < 32 ⌝ }
+    ensures { λ b. ⌜ b ≡ bit mask r ⌝ }
+{
+    (mask >> r) & 1 == 1
+}
+
+// Where the service of a row of the record stands; the numbers past the last where it stands nowhere.
+pub fn server(img: &[u8], c: Card, rec: &[u8], a: Aid, t: Tokens) -> Place
+    requires laid { ⌜ Laid (layoutOf c) (now img) ⌝ }
+    requires fits { ⌜ AidFits (now rec) a ⌝ }
+    ensures { λ r. ⌜ r ≡ placeOr (layoutOf c) (serverOf (layoutOf c) (decode (layoutOf c) (now (img .entry))) (rowIn (now (rec .entry)) a t)) ⌝ }
+{
+    let other = record::aid_bytes(rec, a);
+    image::read::find_server(img, c, other, t.interface, t.method)
+}

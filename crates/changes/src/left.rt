@@ -1,0 +1,83 @@
+// What goes leaves behind: bits of others become rows of the two lists.
+ghost use mathlib.Core.Path.{_≡_};
+ghost use mathlib.Core.Bool.{true};
+ghost use Prim.Native.Nat.{_≤_, _<_};
+ghost use lib.Dec.{eqb, leb};
+ghost use lib.ListN.{length};
+ghost use Rattle.policy.specs.Causes.{answer};
+ghost use Rattle.policy.specs.Tables.{bit, decode};
+ghost use Rattle.policy.specs.Judge.{lookCauses};
+ghost use Rattle.geometry.specs.Geometry.{layoutOf};
+ghost use Rattle.image.specs.Laid.{Laid};
+ghost use Rattle.image.specs.Wrote.{Wrote};
+ghost use Rattle.changes.specs.Left.{byList, behind, RoomBehind, leftOne, leftRow};
+use geometry::Card;
+use geometry::Kept;
+
+// x for the unmet calls, y for the waiting grants.
+pub fn by_list(l: Kept, x: usize, y: usize) -> usize
+    ensures { λ r. ⌜ r ≡ byList l x y ⌝ }
+{
+    match l {
+        Kept::UnmetCalls => x,
+        Kept::WaitingGrants => y,
+    }
+}
+
+// The cause from 9 to 11 by the needs on what goes, and by the rows of the two lists afterwards; 0 where there is none.
+pub fn first_cause(most: usize, needed: usize, unmet: usize, waiting: usize) -> u8
+    ensures { λ r. ⌜ r ≡ answer (lookCauses (record { granted = true; needed = eqb needed 0; unmetFits = leb unmet most; waitingFits = leb waiting most })) ⌝ }
+{
+    if needed != 0 {
+        return 9;
+    }
+    if unmet > most {
+        return 10;
+    }
+    if waiting > most {
+        return 11;
+    }
+    0
+}
+
+// One row more of list l, where `row` has bit k: of package i for service k of package j, with this AID.
+pub fn leave_one(
+    img: &mut [u8],
+    c: Card,
+    l: Kept,
+    aid: &[u8],
+    j: usize,
+    i: usize,
+    row: u16,
+    k: usize,
+)
+    requires laid { ⌜ Laid (layoutOf c) (now img) ⌝ }
+    requires inside { ⌜ (j < layoutOf c .packages) × (i < layoutOf c .packages) × (k < layoutOf c .services) ⌝ }
+    requires short { ⌜ length (now aid) ≤ 16 ⌝ }
+    requires room { ⌜ RoomBehind l (layoutOf c) (leftOne l (decode (layoutOf c) (now img)) (now aid) j i (bit row) k) (decode (layoutOf c) (now img)) ⌝ }
+    ensures { λ _. ⌜ Wrote (layoutOf c) (now (img .exit))
+        (behind l (leftOne l (decode (layoutOf c) (now (img .entry))) (now (aid .entry)) j i (bit row) k) (decode (layoutOf c) (now (img .entry)))) ⌝ }
+{
+    if !bits::has_bit(row, k) {
+        return;
+    }
+    let at = geometry::tok_at(c, j, k);
+    let interface = img[at];
+    let method = img[at + 1];
+    image::write::append_row(img, c, l, aid, interface, method, i);
+}
+
+// The rows of package i for the services of package j that `row` has, with this AID.
+pub fn leave_row(img: &mut [u8], c: Card, l: Kept, aid: &[u8], j: usize, i: usize, row: u16)
+    requires laid { ⌜ Laid (layoutOf c) (now img) ⌝ }
+    requires inside { ⌜ (j < layoutOf c .packages) × (i < layoutOf c .packages) ⌝ }
+    requires short { ⌜ length (now aid) ≤ 16 ⌝ }
+    requires room { ⌜ RoomBehind l (layoutOf c) (leftRow (layoutOf c) l (decode (layoutOf c) (now img)) (now aid) j i (bit row)) (decode (layoutOf c) (now img)) ⌝ }
+    ensures { λ _. ⌜ Wrote (layoutOf c) (now (img .exit))
+        (behind l (leftRow (layoutOf c) l (decode (layoutOf c) (now (img .entry))) (now (aid .entry)) j i (bit row)) (decode (layoutOf c) (now (img .entry)))) ⌝ }
+{
+    let size = geometry::services(c);
+    for k in 0..size {
+        leave_one(img, c, l, aid, j, i, row, k);
+    }
+}

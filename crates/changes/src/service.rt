@@ -1,0 +1,38 @@
+// The places of a service: opened, and cleared.
+ghost use Prim.Native.Nat.{_<_};
+ghost use Rattle.policy.specs.Tables.{decode};
+ghost use Rattle.policy.specs.Lookup.{numbers};
+ghost use Rattle.geometry.specs.Geometry.{layoutOf};
+ghost use Rattle.image.specs.Laid.{Laid};
+ghost use Rattle.image.specs.Wrote.{Wrote};
+ghost use Rattle.image.specs.Read.{tokens};
+ghost use Rattle.changes.specs.Places.{opened, tablesWithoutService};
+use geometry::Card;
+use geometry::Table;
+
+// Package j provides service k with these tokens.
+pub fn open_service(img: &mut [u8], c: Card, j: usize, k: usize, interface: u8, method: u8)
+    requires laid { ⌜ Laid (layoutOf c) (now img) ⌝ }
+    requires numbers { ⌜ (j < layoutOf c .packages) × (k < layoutOf c .services) ⌝ }
+    ensures { λ _. ⌜ Wrote (layoutOf c) (now (img .exit)) (opened j k (tokens interface method) (decode (layoutOf c) (now (img .entry)))) ⌝ }
+{
+    image::write::put_tok(img, c, j, k, interface, method);
+    let row = image::read::provided_row(img, c, j);
+    let with = bits::with_bit(row, k);
+    image::write::set_provided(img, c, j, with);
+}
+
+// The places of service k of package j cleared.
+pub fn clear_service(img: &mut [u8], c: Card, j: usize, k: usize)
+    requires laid { ⌜ Laid (layoutOf c) (now img) ⌝ }
+    requires inside { ⌜ (j < layoutOf c .packages) × (k < layoutOf c .services) ⌝ }
+    ensures { λ _. ⌜ Wrote (layoutOf c) (now (img .exit)) (tablesWithoutService j k (decode (layoutOf c) (now (img .entry)))) ⌝ }
+{
+    image::write::clear_column_bit(img, c, Table::Calls, j, k);
+    image::write::clear_column_bit(img, c, Table::Grants, j, k);
+    image::write::clear_column_bit(img, c, Table::Needs, j, k);
+    image::write::put_tok(img, c, j, k, 0, 0);
+    let row = image::read::provided_row(img, c, j);
+    let rest = bits::without_bit(row, k);
+    image::write::set_provided(img, c, j, rest);
+}

@@ -1,4 +1,0 @@
-pub mod Asked
-pub mod Plans
-pub mod Removals
-pub mod Services

@@ -1,0 +1,4 @@
+pub mod Spots
+pub mod Planned
+pub mod Inside
+pub mod Outcome

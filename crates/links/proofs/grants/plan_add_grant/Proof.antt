@@ -1,0 +1,19 @@
+-- `links::grants::plan_add_grant` meets its contract.
+use Rattle.links.proofs.Spots.{plans}
+use Rattle.links.proofs.grants.plan_add_grant.Statement.{statement}
+use Rattle.links.proofs.grants.plan_add_grant.Tie as tie
+
+pub plan-add-grant-spec : {M : Type 1} → statement M
+plan-add-grant-spec =
+    tie.close
+    (tie.spec
+    (λ c κs. search plans)
+    (λ c. search plans)
+    (λ c. search plans)
+    (λ c κs. search plans)
+    (λ c. search plans)
+    (λ c κs. search plans)
+    (λ c. search plans)
+    (λ c. search plans)
+    (λ c. search plans)
+    (λ c. search plans))

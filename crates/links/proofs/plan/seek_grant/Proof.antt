@@ -1,0 +1,15 @@
+-- `links::plan::seek_grant` meets its contract.
+use Rattle.links.proofs.Spots.{spots}
+use Rattle.links.proofs.plan.seek_grant.Statement.{statement}
+use Rattle.links.proofs.plan.seek_grant.Tie as tie
+
+pub seek-grant-spec : {M : Type 1} → statement M
+seek-grant-spec =
+    tie.close
+    (tie.spec
+    (λ c κs. search spots)
+    (λ c κs. search spots)
+    (λ c. search spots)
+    (λ c κs. search spots)
+    (λ c. search spots)
+    (λ c. search spots))

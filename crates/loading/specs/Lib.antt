@@ -1,2 +1,0 @@
-pub mod Loads
-pub mod Writes

@@ -1,0 +1,4 @@
+pub mod Rows
+pub mod Cleared
+pub mod Tables
+pub mod Outcome

@@ -1,0 +1,102 @@
+-- Kind 1: what its short check asks, in the parts that the code decides.
+use Prim.Native.Nat.{ℕ, _+_, _-_}
+use mathlib.Core.Bool.{Bool, true, false, not, _&&_, cond}
+use mathlib.Core.Path.{_≡_}
+use mathlib.Core.List.{List}
+use mathlib.Core.Option.{none, some}
+use lib.Dec.{eqb, leb}
+use lib.Bits.{bitAnd}
+use lib.ListN.{length}
+use Rattle.policy.specs.Lists.{implies, every, exists, isSome, orElse, upto}
+use Rattle.policy.specs.Contract.{Aid, eqAid, Tok, eqTok, Row, hasTok}
+use Rattle.policy.specs.Layout.{Layout}
+use Rattle.policy.specs.Record.{load}
+use Rattle.policy.specs.Causes.{answer}
+use Rattle.policy.specs.Tables.{Tables, Unmet, Waiting, bit, decode, encode}
+use Rattle.policy.specs.Lookup.{Place, numberOf, serviceOf, serverOf, freeNumber}
+use Rattle.policy.specs.Draft.{Look, loadAt}
+use Rattle.policy.specs.ShortCheck.{count}
+use Rattle.policy.specs.Judge.{lookCauses, refusal}
+use Rattle.policy.specs.Settled.{settled}
+use Rattle.geometry.specs.declared.Kept.the-variants.{UnmetCalls, WaitingGrants}
+use Rattle.image.specs.Read.{maskOf, unmetRow}
+use Rattle.changes.specs.Joins.{roomAfter}
+use Rattle.changes.specs.Own.{served}
+use Rattle.packages.specs.declared.decide.Decided.{Decided}
+use Rattle.packages.specs.declared.decide.Called.{Called}
+use Rattle.packages.specs.declared.decide.Called.the-variants.{Granted, Refused}
+
+-- an unmet call on a service of the package a with the services p
+abbrev pub meets : Aid → List Tok → Unmet → Bool
+meets a p u = eqAid (u .callee) a && hasTok (u .tok) p
+
+module _ (L : Layout) (t : Tables) where
+  abbrev pub present : Aid → Bool
+  present a = isSome (numberOf L t a)
+
+  -- a grant that waits for the package a alone: its service is provided
+  abbrev pub comesDue : Aid → Waiting → Bool
+  comesDue a w = eqAid (w .caller) a && isSome (serviceOf L t (w .callee) (w .tok))
+
+  -- a grant of a package with the services p is a bit: caller and service are both there
+  abbrev pub bothThere : List Tok → Row → Bool
+  bothThere p r = present (r .aid) && hasTok (r .tok) p
+
+  -- one of the rows of the mask is a grant, by the package of the place, of its service with the tokens s
+  abbrev pub waitsAt : ℕ → Tok → Place → Bool
+  waitsAt due s p = not (eqb (bitAnd due (maskOf (λ w. eqb (w .callee) (p .callee) && eqTok (w .tok) s) (t .waiting))) 0)
+
+  -- the call's server, if any, gives one of them
+  abbrev pub callGranted : ℕ → Row → Bool
+  callGranted due r = orElse (serverOf L t r) true (waitsAt due (r .tok))
+
+  -- what the calls come to: one is not granted, or all are, and so many are not served
+  abbrev pub CallsCome : ℕ → List Row → Called → Type 0
+  CallsCome due calls (Granted unserved) = (every (callGranted due) calls ≡ true) × (unserved ≡ count (λ r. not (served L t r)) calls)
+  CallsCome due calls Refused = every (callGranted due) calls ≡ false
+
+  -- the grant g of the package a is that of the service that u asks for to the caller of u
+  abbrev pub grantFits : Aid → Unmet → Row → Bool
+  grantFits a u g = (eqAid (u .callee) a && eqTok (u .tok) (g .tok)) && (t .used (u .caller) && eqAid (t .aid (u .caller)) (g .aid))
+
+  -- each unmet call of the mask has such a grant
+  abbrev pub othersGranted : Aid → List Row → ℕ → Bool
+  othersGranted a grants met = every (λ r. implies (bit met r) (exists (grantFits a (unmetRow t r)) grants)) (upto (length (t .unmet)))
+
+  -- the lists with room for the rows that go on them after those of the mask go: so many unmet calls, and the grants that wait
+  abbrev pub unmetFit : ℕ → ℕ → Bool
+  unmetFit met unserved = leb unserved (roomAfter L UnmetCalls met t)
+
+  abbrev pub waitingFit : ℕ → List Tok → List Row → Bool
+  waitingFit due p grants = leb (count (λ r. not (bothThere p r)) grants) (roomAfter L WaitingGrants due t)
+
+  -- causes 10 and 11, of so many calls that are not served
+  abbrev pub limitCause : ℕ → ℕ → ℕ → List Tok → List Row → ℕ
+  limitCause met due unserved p grants = cond (not (unmetFit met unserved)) 10 (cond (not (waitingFit due p grants)) 11 0)
+
+  -- causes 8 to 11 of a load by the package a with the services p, by the masks of the unmet calls that it meets and of the grants that wait for it alone
+  module _ (a : Aid) (p : List Tok) (calls grants needs : List Row) (met due : ℕ) where
+    abbrev pub loadLook : Look
+    loadLook = record {
+      granted = every (callGranted due) calls && othersGranted a grants met;
+      needed = every (served L t) needs;
+      unmetFits = unmetFit met (count (λ r. not (served L t r)) calls);
+      waitingFits = waitingFit due p grants;
+    }
+
+    abbrev pub loadCause : ℕ
+    loadCause = answer (lookCauses loadLook)
+
+-- ---- what is decided of a load
+-- it is accepted: the number that the package takes, and the masks of the unmet calls that it meets and of the grants that wait for it alone
+pub record Accepts (L : Layout) (img : List ℕ) (a : Aid) (p : List Tok) (c g n : List Row) (r : Decided) : Type 0 where
+  pub outcome : settled L img a (load p c g n)
+      ≡ record { answered = 0; second = r .at; bytes = encode L (loadAt L (decode L img) (r .at) (record { aid = a; provides = p; calls = c; grants = g; needs = n }) .tables) }
+  pub away : numberOf L (decode L img) a ≡ none
+  pub free : freeNumber L (decode L img) ≡ some (r .at)
+  pub met-is : r .met ≡ maskOf (meets a p) (decode L img .unmet)
+  pub due-is : r .due ≡ maskOf (comesDue L (decode L img) a) (decode L img .waiting)
+
+pub record Decides (L : Layout) (img : List ℕ) (a : Aid) (p : List Tok) (c g n : List Row) (r : Decided) : Type 0 where
+  pub refused : (r .number ≡ 0 → ⊥) → settled L img a (load p c g n) ≡ refusal (r .number) 255 img
+  pub accepted : r .number ≡ 0 → Accepts L img a p c g n r

@@ -1,0 +1,82 @@
+// Kind 1: the writes of a load that was accepted.
+ghost use Prim.Native.Nat.{_≤_, _<_};
+ghost use lib.ListN.{length};
+ghost use Rattle.policy.specs.Record.{tokens, aRow, load};
+ghost use Rattle.policy.specs.Tables.{decode};
+ghost use Rattle.policy.specs.Draft.{loadAt};
+ghost use Rattle.policy.specs.ShortCheck.{count};
+ghost use Rattle.geometry.specs.Geometry.{layoutOf};
+ghost use Rattle.image.specs.Laid.{Laid};
+ghost use Rattle.image.specs.Wrote.{Wrote};
+ghost use Rattle.record.specs.Meaning.{Stands, itemsIn};
+ghost use Rattle.changes.specs.Asked.{Asked};
+ghost use Rattle.packages.specs.Loads.{Accepts};
+ghost use Rattle.packages.specs.Writes.{named, openedAll};
+use crate::decide::Decided;
+use geometry::Card;
+use record::Items;
+
+// Package n is used, with this AID.
+fn name(img: &mut [u8], c: Card, n: usize, aid: &[u8])
+    requires laid { ⌜ Laid (layoutOf c) (now img) ⌝ }
+    requires inside { ⌜ n < layoutOf c .packages ⌝ }
+    requires short { ⌜ length (now aid) ≤ 16 ⌝ }
+    ensures { λ _. ⌜ Wrote (layoutOf c) (now (img .exit)) (named n (now (aid .entry)) (decode (layoutOf c) (now (img .entry)))) ⌝ }
+{
+    let row = image::read::used_row(img, c);
+    let with = bits::with_bit(row, n);
+    image::write::set_used(img, c, with);
+    image::write::put_aid(img, c, n, aid);
+}
+
+// Package n provides the services of the record: they take 0, 1, 2 in record order.
+fn open_all(img: &mut [u8], c: Card, n: usize, rec: &[u8], provides: Items)
+    requires laid { ⌜ Laid (layoutOf c) (now img) ⌝ }
+    requires stands { ⌜ Stands tokens (now rec) provides ⌝ }
+    requires numbers { ⌜ (n < layoutOf c .packages) × (length (itemsIn tokens (now rec) provides) ≤ layoutOf c .services) ⌝ }
+    ensures { λ _. ⌜ Wrote (layoutOf c) (now (img .exit)) (openedAll n 0 (itemsIn tokens (now (rec .entry)) provides) (decode (layoutOf c) (now (img .entry)))) ⌝ }
+{
+    let mut todo = provides;
+    let mut k = 0;
+    while 0 < todo.count {
+        let s = record::steps::take_tokens(rec, todo);
+        let t = s.tokens;
+        changes::service::open_service(img, c, n, k, t.interface, t.method);
+        todo = s.rest;
+        k += 1;
+    }
+}
+
+// All writes of an accepted load: the package and its services first, so that the other packages' rows and its own find them.
+pub fn put(
+    img: &mut [u8],
+    c: Card,
+    d: Decided,
+    aid: &[u8],
+    rec: &[u8],
+    provides: Items,
+    calls: Items,
+    grants: Items,
+    needs: Items,
+)
+    requires asked { ⌜ Asked (layoutOf c) (now img) (now aid)
+        (load (itemsIn tokens (now rec) provides) (itemsIn aRow (now rec) calls) (itemsIn aRow (now rec) grants) (itemsIn aRow (now rec) needs)) ⌝ }
+    requires listed { ⌜ Stands tokens (now rec) provides ⌝ }
+    requires stands { ⌜ Stands aRow (now rec) calls × Stands aRow (now rec) grants × Stands aRow (now rec) needs ⌝ }
+    requires accepts { ⌜ Accepts (layoutOf c) (now img) (now aid) (itemsIn tokens (now rec) provides)
+        (itemsIn aRow (now rec) calls) (itemsIn aRow (now rec) grants) (itemsIn aRow (now rec) needs) d ⌝ }
+    ensures { λ _. ⌜ Wrote (layoutOf c) (now (img .exit)) (loadAt (layoutOf c) (decode (layoutOf c) (now (img .entry))) (d .at)
+        (record {
+          aid = now (aid .entry);
+          provides = itemsIn tokens (now (rec .entry)) provides;
+          calls = itemsIn aRow (now (rec .entry)) calls;
+          grants = itemsIn aRow (now (rec .entry)) grants;
+          needs = itemsIn aRow (now (rec .entry)) needs;
+        }) .tables) ⌝ }
+{
+    let n = d.at;
+    name(img, c, n, aid);
+    open_all(img, c, n, rec, provides);
+    changes::lists::take_in(img, c, n, d.met, d.due);
+    changes::own::put_rows(img, c, n, rec, calls, grants, needs);
+}
