@@ -20,7 +20,7 @@ use Rattle.geometry.specs.Geometry.{layoutOf, listAt, placeAt, numberIn}
 use Rattle.geometry.specs.Geometry as geometry
 use Rattle.geometry.proofs.Bounds.{layout-ok, early, limits, list-in, row-in, number-in-row, tokens-in-row}
 use Rattle.image.specs.Laid.{Laid}
-use Rattle.image.specs.Read.{numberOr, tokens, aidIn, tokensIn, Item, itemsOf, item, itemAid, itemTok, itemNumber, itemAt, maskOf}
+use Rattle.image.specs.Read.{numberOr, aidIn, tokensIn, Item, itemsOf, item, itemAid, itemTok, itemNumber, itemAt, maskOf}
 use Rattle.image.proofs.Access as at
 use Rattle.image.proofs.Places.{list-fits}
 use Rattle.image.proofs.Seen.{aid-held, laid-size}
@@ -111,37 +111,28 @@ module _ (c : Card) (img : List ℕ) (h : Laid (layoutOf c) img) (l : Kept) wher
 
       -- its tokens, at k
       module _ (k : ℕ) (i : k ≡ geometry.tokensIn l) where
-        pub tokens-byte : a + k < length img
-        tokens-byte = omega (arith, row-room, tokens-in-row l)
-
         pub tokens-sum : Fits w64 (a + k)
         tokens-sum = row-sum k (omega (arith, tokens-in-row l))
 
         pub tokens-room : a + k + 2 ≤ length img
         tokens-room = omega (arith, row-room, tokens-in-row l)
 
-        pub method-in : Fits w64 (k + 1)
-        method-in = omega (arith, tokens-in-row l)
-
-        pub method-byte : a + (k + 1) < length img
-        method-byte = omega (arith, row-room, tokens-in-row l)
-
-        pub method-sum : Fits w64 (a + (k + 1))
-        method-sum = row-sum (k + 1) (omega (arith, tokens-in-row l))
-
-        pub itf-seen : (n : ℕ) → n ≡ getD img (a + k) 0 → n ≡ itemTok l (itemAt l (decode (layoutOf c) img) r) .itf
-        itf-seen n e = e ∙ ap₂ (λ (x y : ℕ). getD img (x + y) 0) q i ∙ at.row-itf (layoutOf c) (layout-ok c) (early c) h r l p
-
-        pub mth-seen : (n : ℕ) → n ≡ getD img (a + (k + 1)) 0 → n ≡ itemTok l (itemAt l (decode (layoutOf c) img) r) .mth
-        mth-seen n e = e ∙ ap₂ (λ (x y : ℕ). getD img (x + (y + 1)) 0) q i ∙ at.row-mth (layoutOf c) (layout-ok c) (early c) h r l p
-
         pub tok-seen : tokensIn img (a + k) ≡ itemTok l (itemAt l (decode (layoutOf c) img) r)
-        tok-seen = λ i. record { itf = itf-seen (getD img (a + k) 0) refl i; mth = mth-seen (getD img (a + k + 1) 0) (ap (λ (x : ℕ). getD img x 0) (add-assoc a k 1)) i }
+        tok-seen =
+            ap₂ (λ (x y : ℕ). tokensIn img (x + y)) q i
+            ∙ λ j. record {
+              itf = at.row-itf (layoutOf c) (layout-ok c) (early c) h r l p j;
+              mth = (ap (λ (x : ℕ). getD img x 0) (add-assoc (placeAt (layoutOf c) l r) (geometry.tokensIn l) 1)
+                  ∙ at.row-mth (layoutOf c) (layout-ok c) (early c) h r l p) j;
+            }
 
-        pub tokens-are : (x y : ℕ) (b : Bool) → b ≡ eqTok (tokensIn img (a + k)) (tokens x y) → b ≡ eqTok (itemTok l (itemAt l (decode (layoutOf c) img) r)) (tokens x y)
-        tokens-are x y b e = e ∙ ap (λ (s : Tok). eqTok s (tokens x y)) tok-seen
+        pub tokens-read : (s : Tok) → s ≡ tokensIn img (a + k) → s ≡ itemTok l (itemAt l (decode (layoutOf c) img) r)
+        tokens-read s e = e ∙ tok-seen
 
-pub ruleset listed = (list-counts, list-counted, row-lt, row-aid, row-start, aid-short, held-sum, held-end, held-in, holder-is, aid-is, number-byte, number-sum, number-seen, tokens-byte, tokens-sum, tokens-room, method-in, method-byte, method-sum, itf-seen, mth-seen, tokens-are, other, alike, needs)
+        pub tokens-are : (s : Tok) (b : Bool) → b ≡ eqTok (tokensIn img (a + k)) s → b ≡ eqTok (itemTok l (itemAt l (decode (layoutOf c) img) r)) s
+        tokens-are s b e = e ∙ ap (λ (x : Tok). eqTok x s) tok-seen
+
+pub ruleset listed = (list-counts, list-counted, row-lt, row-aid, row-start, aid-short, held-sum, held-end, held-in, holder-is, aid-is, number-byte, number-sum, number-seen, tokens-sum, tokens-room, tokens-read, tokens-are, other, alike, needs)
 
 -- ---- the loops that gather a mask of rows: `search masks`
 module _ (l : Kept) (f : Item l → Bool) (m : List (Item l)) (r mask : ℕ) (e : mask ≡ maskOf f (drop r m)) (h : 0 < r) (i : r ≤ length m) where

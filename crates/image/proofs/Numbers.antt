@@ -11,9 +11,11 @@ use Rattle.policy.specs.Layout.{Layout}
 use Rattle.policy.specs.Tables.{Tables}
 use Rattle.policy.specs.Lookup.{Place as Found, Spot as SpotFound, numberOf, serviceOf, serverOf, spotOf, freeNumber, freeService}
 use Rattle.policy.proofs.Sets.{Found as Finds, found, upto-in}
+use Rattle.geometry.specs.declared.Tokens.{Tokens}
+use Rattle.geometry.specs.Geometry.{tokOf}
 use Rattle.image.specs.declared.read.Place.{Place}
 use Rattle.image.specs.declared.read.Spot.{Spot}
-use Rattle.image.specs.Read.{numberOr, placeOr, spotOr, tokens, asked}
+use Rattle.image.specs.Read.{numberOr, placeOr, spotOr, asked}
 
 -- what was found is below n
 abbrev pub Below : ℕ → Option ℕ → Type 0
@@ -84,53 +86,53 @@ module _ (L : Layout) (t : Tables) where
     free-service-some r = number-some (L .services) r (freeService L t j) free-service-below
 
   -- ---- a service of the card: j is the number of its package, and k its own
-  module _ (a : Aid) (x y : ℕ) where
+  module _ (a : Aid) (s : Tokens) where
     abbrev served : ℕ → Option ℕ → Option Found
     served j o = orElse o none (λ k. some (record { callee = j; service = k }))
 
-    by-package : (o : Option ℕ) → numberOf L t a ≡ o → serverOf L t (asked a x y) ≡ orElse o none (λ j. served j (serviceOf L t j (tokens x y)))
+    by-package : (o : Option ℕ) → numberOf L t a ≡ o → serverOf L t (asked a s) ≡ orElse o none (λ j. served j (serviceOf L t j (tokOf s)))
     unfolding serverOf
-    by-package o e = ap (λ (u : Option ℕ). orElse u none (λ j. served j (serviceOf L t j (tokens x y)))) e
+    by-package o e = ap (λ (u : Option ℕ). orElse u none (λ j. served j (serviceOf L t j (tokOf s)))) e
 
     module _ (n m j : ℕ) (en : n ≡ L .packages) (em : m ≡ L .services) (p : j ≡ numberOr (L .packages) (numberOf L t a)) where
-      nowhere : serverOf L t (asked a x y) ≡ none → _≡_ {A = Place} (record { callee = n; service = m }) (placeOr L (serverOf L t (asked a x y)))
+      nowhere : serverOf L t (asked a s) ≡ none → _≡_ {A = Place} (record { callee = n; service = m }) (placeOr L (serverOf L t (asked a s)))
       nowhere e = (λ i. record { callee = en i; service = em i }) ∙ sym (ap (placeOr L) e)
 
-      pub no-package : n ≤ j → _≡_ {A = Place} (record { callee = n; service = m }) (placeOr L (serverOf L t (asked a x y)))
+      pub no-package : n ≤ j → _≡_ {A = Place} (record { callee = n; service = m }) (placeOr L (serverOf L t (asked a s)))
       no-package h = nowhere (by-package none (package-none a j p (omega arith)))
 
-      module _ (k : ℕ) (h : j < n) (q : k ≡ numberOr (L .services) (serviceOf L t j (tokens x y))) where
-        by-service : (o : Option ℕ) → serviceOf L t j (tokens x y) ≡ o → serverOf L t (asked a x y) ≡ served j o
+      module _ (k : ℕ) (h : j < n) (q : k ≡ numberOr (L .services) (serviceOf L t j (tokOf s))) where
+        by-service : (o : Option ℕ) → serviceOf L t j (tokOf s) ≡ o → serverOf L t (asked a s) ≡ served j o
         by-service o e = by-package (some j) (package-some a j p (omega arith)) ∙ ap (served j) e
 
-        pub no-service : m ≤ k → _≡_ {A = Place} (record { callee = n; service = m }) (placeOr L (serverOf L t (asked a x y)))
-        no-service l = nowhere (by-service none (service-none j (tokens x y) k q (omega arith)))
+        pub no-service : m ≤ k → _≡_ {A = Place} (record { callee = n; service = m }) (placeOr L (serverOf L t (asked a s)))
+        no-service l = nowhere (by-service none (service-none j (tokOf s) k q (omega arith)))
 
-        pub served-at : k < m → _≡_ {A = Place} (record { callee = j; service = k }) (placeOr L (serverOf L t (asked a x y)))
-        served-at l = sym (ap (placeOr L) (by-service (some k) (service-some j (tokens x y) k q (omega arith))))
+        pub served-at : k < m → _≡_ {A = Place} (record { callee = j; service = k }) (placeOr L (serverOf L t (asked a s)))
+        served-at l = sym (ap (placeOr L) (by-service (some k) (service-some j (tokOf s) k q (omega arith))))
 
   -- ---- a grant of package j as a bit: i is the number of its caller, and k that of its service
-  module _ (j : ℕ) (a : Aid) (x y : ℕ) where
+  module _ (j : ℕ) (a : Aid) (s : Tokens) where
     abbrev spotted : Option ℕ → Option ℕ → Option SpotFound
     spotted o u = orElse o none (λ i. orElse u none (λ k. some (record { caller = i; service = k })))
 
-    by-both : (o u : Option ℕ) → numberOf L t a ≡ o → serviceOf L t j (tokens x y) ≡ u → spotOf L t j (asked a x y) ≡ spotted o u
+    by-both : (o u : Option ℕ) → numberOf L t a ≡ o → serviceOf L t j (tokOf s) ≡ u → spotOf L t j (asked a s) ≡ spotted o u
     unfolding spotOf
     by-both o u e f = ap₂ spotted e f
 
     module _ (n m i : ℕ) (en : n ≡ L .packages) (em : m ≡ L .services) (p : i ≡ numberOr (L .packages) (numberOf L t a)) where
-      no-spot : spotOf L t j (asked a x y) ≡ none → _≡_ {A = Spot} (record { caller = n; service = m }) (spotOr L (spotOf L t j (asked a x y)))
+      no-spot : spotOf L t j (asked a s) ≡ none → _≡_ {A = Spot} (record { caller = n; service = m }) (spotOr L (spotOf L t j (asked a s)))
       no-spot e = (λ r. record { caller = en r; service = em r }) ∙ sym (ap (spotOr L) e)
 
-      pub no-caller : n ≤ i → _≡_ {A = Spot} (record { caller = n; service = m }) (spotOr L (spotOf L t j (asked a x y)))
-      no-caller h = no-spot (by-both none (serviceOf L t j (tokens x y)) (package-none a i p (omega arith)) refl)
+      pub no-caller : n ≤ i → _≡_ {A = Spot} (record { caller = n; service = m }) (spotOr L (spotOf L t j (asked a s)))
+      no-caller h = no-spot (by-both none (serviceOf L t j (tokOf s)) (package-none a i p (omega arith)) refl)
 
-      module _ (k : ℕ) (h : i < n) (q : k ≡ numberOr (L .services) (serviceOf L t j (tokens x y))) where
-        pub not-provided : m ≤ k → _≡_ {A = Spot} (record { caller = n; service = m }) (spotOr L (spotOf L t j (asked a x y)))
-        not-provided l = no-spot (by-both (some i) none (package-some a i p (omega arith)) (service-none j (tokens x y) k q (omega arith)))
+      module _ (k : ℕ) (h : i < n) (q : k ≡ numberOr (L .services) (serviceOf L t j (tokOf s))) where
+        pub not-provided : m ≤ k → _≡_ {A = Spot} (record { caller = n; service = m }) (spotOr L (spotOf L t j (asked a s)))
+        not-provided l = no-spot (by-both (some i) none (package-some a i p (omega arith)) (service-none j (tokOf s) k q (omega arith)))
 
-        pub spotted-at : k < m → _≡_ {A = Spot} (record { caller = i; service = k }) (spotOr L (spotOf L t j (asked a x y)))
-        spotted-at l = sym (ap (spotOr L) (by-both (some i) (some k) (package-some a i p (omega arith)) (service-some j (tokens x y) k q (omega arith))))
+        pub spotted-at : k < m → _≡_ {A = Spot} (record { caller = i; service = k }) (spotOr L (spotOf L t j (asked a s)))
+        spotted-at l = sym (ap (spotOr L) (by-both (some i) (some k) (package-some a i p (omega arith)) (service-some j (tokOf s) k q (omega arith))))
 
 -- ---- what a place that was found says
 PlaceBelow : Layout → Option Found → Type 0

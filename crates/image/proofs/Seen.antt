@@ -6,6 +6,7 @@ use mathlib.Core.Bool.{Bool, true, false, not, _&&_, and-true, and-false}
 use mathlib.Core.List.{List, [], _∷_, _++_, append-nil}
 use lib.Dec.{eqb}
 use lib.ListN.{length, getD, take, drop, length-take, length-drop, drop-of-length-le}
+use lib.Seq.{length-take-le}
 use borrow.Author.Tests.{not-true, not-false, ne-eqb}
 use Rattle.policy.specs.Lists.{eqBytes, first, upto}
 use Rattle.policy.specs.Contract.{Aid, eqAid, Tok, eqTok}
@@ -20,12 +21,13 @@ use Rattle.bits.proofs.Loops.{first-ext}
 use Rattle.bits.proofs.Row.{lowest-row}
 use Rattle.rows.specs.Area.{part, over}
 use Rattle.rows.proofs.Over.{getD-part}
+use Rattle.rows.proofs.Same.{same-end}
 use Rattle.geometry.specs.declared.Card.{Card}
 use Rattle.geometry.specs.declared.Table.{Table}
 use Rattle.geometry.specs.Geometry.{layoutOf, aidAt, tokAt, provAt, entryAt}
 use Rattle.geometry.proofs.Bounds.{layout-ok, early, limits, geo}
 use Rattle.image.specs.Laid.{Laid, tableOf}
-use Rattle.image.specs.Read.{numberOr, tokens, aidIn, tokensIn}
+use Rattle.image.specs.Read.{numberOr, aidIn, tokensIn}
 use Rattle.image.proofs.Laid.{laid-length}
 use Rattle.image.proofs.Access.{used-number, provides-number, entry-number, aid-length, aid-bytes, aid-slot, tok-itf, tok-mth}
 
@@ -41,6 +43,10 @@ bit-off n f {b = true} x e h p q = absurd (false-T (sym q) tt)
 bit-on : (n : ℕ) (f : ℕ → Bool) {k row : ℕ} {b r : Bool} (x : Bool) → row ≡ rowOf n f → k < n → b ≡ bit row k → not b ≡ false → r ≡ x → r ≡ f k && x
 bit-on n f {k = k} {b = true} x e h p q z = z ∙ ap (λ (y : Bool). y && x) (p ∙ ap (λ (r : ℕ). bit r k) e ∙ bit-rowOf n f k h)
 bit-on n f {b = false} x e h p q z = absurd (false-T q tt)
+
+-- ---- the bytes of an AID before its last
+pub head-long : (aid : List ℕ) → length aid - 1 ≡ length (take (length aid - 1) aid)
+head-long aid = sym (length-take-le (length aid - 1) aid (omega arith))
 
 -- ---- an AID's place
 module _ (img aid : List ℕ) (at : ℕ) (room : at + 17 ≤ length img) (low : getD img at 0 ≤ 16) where
@@ -69,8 +75,20 @@ module _ (img aid : List ℕ) (at : ℕ) (room : at + 17 ≤ length img) (low : 
       go (x ∷ p) [] e = ne-eqb (length (x ∷ p)) 0 (λ z. omega arith)
       go p (y ∷ q) e = absurd (omega arith)
 
-pub aid-same : (img aid : List ℕ) (at : ℕ) (r : Bool) → getD img at 0 ≡ length aid → r ≡ eqBytes (part (at + 1) (length aid) img) aid → r ≡ eqAid (aidIn img at) aid
-aid-same img aid at r e p = p ∙ ap (λ (n : ℕ). eqBytes (take n (drop (at + 1) img)) aid) (sym e)
+  -- its last byte and its length are the AID's, and r compares the bytes before
+  module _ (some : length aid ≡ 0 → ⊥) (last : getD img (at + length aid) 0 ≡ getD aid (length aid - 1) 0) (long : getD img at 0 ≡ length aid) where
+    abbrev k : ℕ
+    k = length aid - 1
+
+    pub aid-head : at + 1 + length (take (length aid - 1) aid) ≤ length img
+    aid-head = omega (arith, head-long aid)
+
+    pub aid-same : (r : Bool) → r ≡ eqBytes (part (at + 1) (length (take (length aid - 1) aid)) img) (take (length aid - 1) aid) → r ≡ eqAid (aidIn img at) aid
+    aid-same r p =
+        let b : at + 1 + k ≡ at + length aid = omega arith in
+        let q = p ∙ ap (λ (n : ℕ). eqBytes (part (at + 1) n img) (take k aid)) (sym (head-long aid)) in
+        same-end img (at + 1) aid (omega arith) k q some (ap (λ (x : ℕ). getD img x 0) b ∙ last) (omega arith) (omega arith)
+        ∙ ap (λ (n : ℕ). eqBytes (take n (drop (at + 1) img)) aid) (sym long)
 
 -- the AID that a place holds, where its length and its bytes are those of a
 pub aid-held : (img : List ℕ) (at : ℕ) (a : Aid) → getD img at 0 ≡ length a → take (length a) (drop (at + 1) img) ≡ a → aidIn img at ≡ a
@@ -141,16 +159,19 @@ module _ (c : Card) (img : List ℕ) (h : Laid (layoutOf c) img) where
         ap (tokensIn img) q
         ∙ λ i. record { itf = tok-itf (layoutOf c) (layout-ok c) (early c) h j k p l i; mth = tok-mth (layoutOf c) (layout-ok c) (early c) h j k p l i }
 
-  module _ (j k x y row : ℕ) (b : Bool) (p : j < layoutOf c .packages) (l : k < layoutOf c .services)
-      (e : row ≡ rowOf (layoutOf c .services) (decode (layoutOf c) img .provides j)) (d : b ≡ bit row k) where
-    pub unprovided : not b ≡ true → false ≡ decode (layoutOf c) img .provides j k && eqTok (decode (layoutOf c) img .tok j k) (tokens x y)
-    unprovided q = bit-off (layoutOf c .services) (decode (layoutOf c) img .provides j) (eqTok (decode (layoutOf c) img .tok j k) (tokens x y)) e l d q
+    pub tokens-read : (s : Tok) → s ≡ tokensIn img a → s ≡ decode (layoutOf c) img .tok j k
+    tokens-read s e = e ∙ tokens-seen
 
-    pub provided-with : (a : ℕ) (r : Bool) → not b ≡ false → a ≡ tokAt (layoutOf c) j k → r ≡ eqTok (tokensIn img a) (tokens x y)
-        → r ≡ decode (layoutOf c) img .provides j k && eqTok (decode (layoutOf c) img .tok j k) (tokens x y)
+  module _ (j k row : ℕ) (s : Tok) (b : Bool) (p : j < layoutOf c .packages) (l : k < layoutOf c .services)
+      (e : row ≡ rowOf (layoutOf c .services) (decode (layoutOf c) img .provides j)) (d : b ≡ bit row k) where
+    pub unprovided : not b ≡ true → false ≡ decode (layoutOf c) img .provides j k && eqTok (decode (layoutOf c) img .tok j k) s
+    unprovided q = bit-off (layoutOf c .services) (decode (layoutOf c) img .provides j) (eqTok (decode (layoutOf c) img .tok j k) s) e l d q
+
+    pub provided-with : (a : ℕ) (r : Bool) → not b ≡ false → a ≡ tokAt (layoutOf c) j k → r ≡ eqTok (tokensIn img a) s
+        → r ≡ decode (layoutOf c) img .provides j k && eqTok (decode (layoutOf c) img .tok j k) s
     provided-with a r q z v =
-        bit-on (layoutOf c .services) (decode (layoutOf c) img .provides j) (eqTok (decode (layoutOf c) img .tok j k) (tokens x y)) e l d q
-        (v ∙ ap (λ (s : Tok). eqTok s (tokens x y)) (tokens-seen j k a p l z))
+        bit-on (layoutOf c .services) (decode (layoutOf c) img .provides j) (eqTok (decode (layoutOf c) img .tok j k) s) e l d q
+        (v ∙ ap (λ (x : Tok). eqTok x s) (tokens-seen j k a p l z))
 
   -- ---- free numbers
   pub lowest-unused : (row r : ℕ) → row ≡ rowOf (layoutOf c .packages) (decode (layoutOf c) img .used) → r ≡ numberOr 16 (first (λ k. not (bit row k)) (upto 16))
@@ -163,4 +184,4 @@ module _ (c : Card) (img : List ℕ) (h : Laid (layoutOf c) img) where
   unfolding freeService
   lowest-unprovided j row r = lowest (layoutOf c .services) (decode (layoutOf c) img .provides j) row r (limits c .services-low)
 
-pub ruleset seen = (laid-size, place-copied, used-seen, provided-seen, entry-seen, aid-other, aid-long, aid-last, aid-none, aid-same, aid-short, unnamed, named, unprovided, provided-with, lowest-unused, lowest-unprovided, geo)
+pub ruleset seen = (laid-size, place-copied, used-seen, provided-seen, entry-seen, aid-other, aid-long, aid-last, aid-none, head-long, aid-head, aid-same, aid-short, unnamed, named, tokens-read, unprovided, provided-with, lowest-unused, lowest-unprovided, geo)

@@ -11,6 +11,8 @@ use Rattle.policy.specs.Tables.{Tables, Unmet, Waiting, noTok, writeAid}
 use Rattle.policy.specs.Lookup.{Place as Found, Spot as SpotFound}
 use Rattle.geometry.specs.declared.Kept.{Kept}
 use Rattle.geometry.specs.declared.Kept.the-variants.{UnmetCalls, WaitingGrants}
+use Rattle.geometry.specs.declared.Tokens.{Tokens}
+use Rattle.geometry.specs.Geometry.{tokOf}
 use Rattle.image.specs.declared.read.Place.{Place}
 use Rattle.image.specs.declared.read.Spot.{Spot}
 
@@ -25,13 +27,9 @@ placeOr L o = orElse o (record { callee = L .packages; service = L .services }) 
 abbrev pub spotOr : Layout → Option SpotFound → Spot
 spotOr L o = orElse o (record { caller = L .packages; service = L .services }) (λ p. record { caller = p .caller; service = p .service })
 
--- two token bytes
-abbrev pub tokens : ℕ → ℕ → Tok
-tokens interface method = record { itf = interface; mth = method }
-
--- the service of an AID with two token bytes
-abbrev pub asked : Aid → ℕ → ℕ → Row
-asked a interface method = record { aid = a; tok = tokens interface method }
+-- the service of an AID with these tokens
+abbrev pub asked : Aid → Tokens → Row
+asked a t = record { aid = a; tok = tokOf t }
 
 -- the AID in the place at `at`
 abbrev pub aidIn : List ℕ → ℕ → Aid
@@ -39,7 +37,7 @@ aidIn img at = take (getD img at 0) (drop (at + 1) img)
 
 -- the tokens at `at`
 abbrev pub tokensIn : List ℕ → ℕ → Tok
-tokensIn img at = tokens (getD img at 0) (getD img (at + 1) 0)
+tokensIn img at = record { itf = getD img at 0; mth = getD img (at + 1) 0 }
 
 -- a mask of the elements that pass: bit r is the r-th
 abbrev pub maskOf : {A : Type 0} → (A → Bool) → List A → ℕ

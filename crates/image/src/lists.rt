@@ -8,11 +8,12 @@ ghost use Rattle.policy.specs.Lists.{keep, upto};
 ghost use Rattle.policy.specs.Contract.{eqAid, eqTok};
 ghost use Rattle.policy.specs.Tables.{bit, decode};
 ghost use Rattle.policy.specs.Lookup.{numberOf};
-ghost use Rattle.geometry.specs.Geometry.{layoutOf};
+ghost use Rattle.geometry.specs.Geometry.{layoutOf, tokOf};
 ghost use Rattle.image.specs.Laid.{Laid};
-ghost use Rattle.image.specs.Read.{numberOr, tokens, itemsOf, itemAid, itemTok, itemNumber, itemAt, maskOf};
+ghost use Rattle.image.specs.Read.{numberOr, itemsOf, itemAid, itemTok, itemNumber, itemAt, maskOf};
 use geometry::Card;
 use geometry::Kept;
+use geometry::Tokens;
 
 // The byte at `at`, as a number.
 fn byte_at(img: &[u8], at: usize) -> usize
@@ -42,26 +43,15 @@ pub fn number(img: &[u8], c: Card, l: Kept, r: usize) -> usize
     byte_at(img, at + part)
 }
 
-// The interface token of row r.
-pub fn interface(img: &[u8], c: Card, l: Kept, r: usize) -> u8
+// The tokens of row r.
+pub fn tokens(img: &[u8], c: Card, l: Kept, r: usize) -> Tokens
     requires laid { ⌜ Laid (layoutOf c) (now img) ⌝ }
     requires inside { ⌜ r < length (itemsOf l (decode (layoutOf c) (now img))) ⌝ }
-    ensures { λ t. ⌜ t ≡ itemTok l (itemAt l (decode (layoutOf c) (now (img .entry))) r) .itf ⌝ }
+    ensures { λ t. ⌜ tokOf t ≡ itemTok l (itemAt l (decode (layoutOf c) (now (img .entry))) r) ⌝ }
 {
     let at = geometry::place_at(c, l, r);
     let part = geometry::tokens_in(l);
-    img[at + part]
-}
-
-// Its method token.
-pub fn method(img: &[u8], c: Card, l: Kept, r: usize) -> u8
-    requires laid { ⌜ Laid (layoutOf c) (now img) ⌝ }
-    requires inside { ⌜ r < length (itemsOf l (decode (layoutOf c) (now img))) ⌝ }
-    ensures { λ t. ⌜ t ≡ itemTok l (itemAt l (decode (layoutOf c) (now (img .entry))) r) .mth ⌝ }
-{
-    let at = geometry::place_at(c, l, r);
-    let part = geometry::tokens_in(l);
-    img[at + (part + 1)]
+    crate::read::tokens_in(img, at + part)
 }
 
 // Row r has this AID: of the callee of an unmet call, of the caller that a grant waits for.
@@ -88,48 +78,40 @@ pub fn find_holder(img: &[u8], c: Card, l: Kept, r: usize) -> usize
 }
 
 // Row r has these tokens.
-pub fn has_tokens(img: &[u8], c: Card, l: Kept, r: usize, interface: u8, method: u8) -> bool
+pub fn has_tokens(img: &[u8], c: Card, l: Kept, r: usize, t: Tokens) -> bool
     requires laid { ⌜ Laid (layoutOf c) (now img) ⌝ }
     requires inside { ⌜ r < length (itemsOf l (decode (layoutOf c) (now img))) ⌝ }
-    ensures { λ b. ⌜ b ≡ eqTok (itemTok l (itemAt l (decode (layoutOf c) (now (img .entry))) r)) (tokens interface method) ⌝ }
+    ensures { λ b. ⌜ b ≡ eqTok (itemTok l (itemAt l (decode (layoutOf c) (now (img .entry))) r)) (tokOf t) ⌝ }
 {
     let at = geometry::place_at(c, l, r);
     let part = geometry::tokens_in(l);
-    crate::read::tokens_are(img, at + part, interface, method)
+    crate::read::tokens_are(img, at + part, t)
 }
 
 // Row r has this AID and these tokens. Tokens are the quicker test.
-pub fn has_row(
-    img: &[u8],
-    c: Card,
-    l: Kept,
-    r: usize,
-    aid: &[u8],
-    interface: u8,
-    method: u8,
-) -> bool
+pub fn has_row(img: &[u8], c: Card, l: Kept, r: usize, aid: &[u8], t: Tokens) -> bool
     requires laid { ⌜ Laid (layoutOf c) (now img) ⌝ }
     requires inside { ⌜ r < length (itemsOf l (decode (layoutOf c) (now img))) ⌝ }
     ensures { λ b. ⌜ b ≡ eqAid (itemAid l (itemAt l (decode (layoutOf c) (now (img .entry))) r)) (now (aid .entry))
-        && eqTok (itemTok l (itemAt l (decode (layoutOf c) (now (img .entry))) r)) (tokens interface method) ⌝ }
+        && eqTok (itemTok l (itemAt l (decode (layoutOf c) (now (img .entry))) r)) (tokOf t) ⌝ }
 {
-    if !has_tokens(img, c, l, r, interface, method) {
+    if !has_tokens(img, c, l, r, t) {
         return false;
     }
     has_aid(img, c, l, r, aid)
 }
 
 // Which rows have this AID and these tokens: unmet calls on the service of the AID, or waiting grants to the AID.
-pub fn with_row(img: &[u8], c: Card, l: Kept, aid: &[u8], interface: u8, method: u8) -> u32
+pub fn with_row(img: &[u8], c: Card, l: Kept, aid: &[u8], t: Tokens) -> u32
     requires { ⌜ Laid (layoutOf c) (now img) ⌝ }
-    ensures { λ m. ⌜ m ≡ maskOf (λ x. eqAid (itemAid l x) (now (aid .entry)) && eqTok (itemTok l x) (tokens interface method))
+    ensures { λ m. ⌜ m ≡ maskOf (λ x. eqAid (itemAid l x) (now (aid .entry)) && eqTok (itemTok l x) (tokOf t))
         (itemsOf l (decode (layoutOf c) (now (img .entry)))) ⌝ }
 {
     let mut r = count(img, c, l);
     let mut mask: u32 = 0;
     while r > 0 {
         r -= 1;
-        let passes = has_row(img, c, l, r, aid, interface, method);
+        let passes = has_row(img, c, l, r, aid, t);
         mask = mask * 2 + (passes as u32);
     }
     mask
@@ -151,16 +133,16 @@ pub fn with_number(img: &[u8], c: Card, l: Kept, n: usize) -> u32
 }
 
 // Which rows have this package number and these tokens.
-pub fn with_service(img: &[u8], c: Card, l: Kept, n: usize, interface: u8, method: u8) -> u32
+pub fn with_service(img: &[u8], c: Card, l: Kept, n: usize, t: Tokens) -> u32
     requires { ⌜ Laid (layoutOf c) (now img) ⌝ }
-    ensures { λ m. ⌜ m ≡ maskOf (λ x. eqb (itemNumber l x) n && eqTok (itemTok l x) (tokens interface method))
+    ensures { λ m. ⌜ m ≡ maskOf (λ x. eqb (itemNumber l x) n && eqTok (itemTok l x) (tokOf t))
         (itemsOf l (decode (layoutOf c) (now (img .entry)))) ⌝ }
 {
     let mut r = count(img, c, l);
     let mut mask: u32 = 0;
     while r > 0 {
         r -= 1;
-        let passes = (number(img, c, l, r) == n) & has_tokens(img, c, l, r, interface, method);
+        let passes = (number(img, c, l, r) == n) & has_tokens(img, c, l, r, t);
         mask = mask * 2 + (passes as u32);
     }
     mask

@@ -6,11 +6,12 @@ ghost use lib.ListN.{length, getD};
 ghost use Rattle.policy.specs.Contract.{eqAid, eqTok};
 ghost use Rattle.policy.specs.Tables.{rowOf, writeAid, decode};
 ghost use Rattle.policy.specs.Lookup.{numberOf, serviceOf, serverOf, spotOf, freeNumber, freeService};
-ghost use Rattle.geometry.specs.Geometry.{layoutOf};
+ghost use Rattle.geometry.specs.Geometry.{layoutOf, tokOf};
 ghost use Rattle.image.specs.Laid.{Laid, tableOf};
-ghost use Rattle.image.specs.Read.{numberOr, placeOr, spotOr, tokens, asked, aidIn, tokensIn};
+ghost use Rattle.image.specs.Read.{numberOr, placeOr, spotOr, asked, aidIn, tokensIn};
 use geometry::Card;
 use geometry::Table;
+use geometry::Tokens;
 
 // A service of the card: package and service number.
 pub struct Place {
@@ -52,7 +53,7 @@ pub fn entry(img: &[u8], c: Card, tb: Table, i: usize, j: usize) -> u16
     geometry::row_at(img, c, at)
 }
 
-// The place at `at` holds this AID. Most AIDs differ in their last byte, so it goes first.
+// The place at `at` holds this AID. Most AIDs differ in their last byte, so it goes first, and the bytes before it last.
 pub fn aid_is(img: &[u8], at: usize, aid: &[u8]) -> bool
     requires { ⌜ (at + 17 ≤ length (now img)) × (getD (now img) at 0 ≤ 16) ⌝ }
     ensures { λ r. ⌜ r ≡ eqAid (aidIn (now (img .entry)) at) (now (aid .entry)) ⌝ }
@@ -64,21 +65,43 @@ pub fn aid_is(img: &[u8], at: usize, aid: &[u8]) -> bool
     if 16 < n {
         return false;
     }
-    if img[at + n] != aid[n - 1] {
+    let last = n - 1;
+    if img[at + n] != aid[last] {
         return false;
     }
     if img[at] as usize != n {
         return false;
     }
-    rows::same_at(img, at + 1, aid)
+    rows::same_at(img, at + 1, &aid[..last])
 }
 
 // The tokens at `at` are these.
-pub fn tokens_are(img: &[u8], at: usize, interface: u8, method: u8) -> bool
+pub fn tokens_are(img: &[u8], at: usize, t: Tokens) -> bool
     requires { ⌜ at + 2 ≤ length (now img) ⌝ }
-    ensures { λ r. ⌜ r ≡ eqTok (tokensIn (now (img .entry)) at) (tokens interface method) ⌝ }
+    ensures { λ r. ⌜ r ≡ eqTok (tokensIn (now (img .entry)) at) (tokOf t) ⌝ }
 {
-    (img[at] == interface) & (img[at + 1] == method)
+    (img[at] == t.interface) & (img[at + 1] == t.method)
+}
+
+// The tokens at `at`.
+pub fn tokens_in(img: &[u8], at: usize) -> Tokens
+    requires { ⌜ at + 2 ≤ length (now img) ⌝ }
+    ensures { λ r. ⌜ tokOf r ≡ tokensIn (now (img .entry)) at ⌝ }
+{
+    Tokens {
+        interface: img[at],
+        method: img[at + 1],
+    }
+}
+
+// The tokens of service k of package j.
+pub fn tokens_at(img: &[u8], c: Card, j: usize, k: usize) -> Tokens
+    requires laid { ⌜ Laid (layoutOf c) (now img) ⌝ }
+    requires inside { ⌜ (j < layoutOf c .packages) × (k < layoutOf c .services) ⌝ }
+    ensures { λ r. ⌜ tokOf r ≡ decode (layoutOf c) (now (img .entry)) .tok j k ⌝ }
+{
+    let at = geometry::tok_at(c, j, k);
+    tokens_in(img, at)
 }
 
 // The AID of package n in its place, 17 bytes: length, bytes, zero fill.
@@ -97,7 +120,8 @@ pub fn aid_place(img: &[u8], c: Card, n: usize) -> [u8; 17]
 pub fn is_package(img: &[u8], c: Card, n: usize, aid: &[u8]) -> bool
     requires laid { ⌜ Laid (layoutOf c) (now img) ⌝ }
     requires inside { ⌜ n < layoutOf c .packages ⌝ }
-    ensures { λ r. ⌜ r ≡ decode (layoutOf c) (now (img .entry)) .used n && eqAid (decode (layoutOf c) (now (img .entry)) .aid n) (now (aid .entry)) ⌝ }
+    ensures { λ r. ⌜ r ≡ decode (layoutOf c) (now (img .entry)) .used n
+        && eqAid (decode (layoutOf c) (now (img .entry)) .aid n) (now (aid .entry)) ⌝ }
 {
     let at = geometry::aid_at(c, n);
     if !aid_is(img, at, aid) {
@@ -110,7 +134,8 @@ pub fn is_package(img: &[u8], c: Card, n: usize, aid: &[u8]) -> bool
 // The number of the package with this AID; the number of packages where there is none.
 pub fn find_package(img: &[u8], c: Card, aid: &[u8]) -> usize
     requires { ⌜ Laid (layoutOf c) (now img) ⌝ }
-    ensures { λ r. ⌜ r ≡ numberOr (layoutOf c .packages) (numberOf (layoutOf c) (decode (layoutOf c) (now (img .entry))) (now (aid .entry))) ⌝ }
+    ensures { λ r. ⌜ r ≡ numberOr (layoutOf c .packages)
+        (numberOf (layoutOf c) (decode (layoutOf c) (now (img .entry))) (now (aid .entry))) ⌝ }
 {
     let n = geometry::packages(c);
     for i in 0..n {
@@ -122,28 +147,30 @@ pub fn find_package(img: &[u8], c: Card, aid: &[u8]) -> usize
 }
 
 // Package j provides service k, and its tokens are these.
-pub fn is_service(img: &[u8], c: Card, j: usize, interface: u8, method: u8, k: usize) -> bool
+pub fn is_service(img: &[u8], c: Card, j: usize, t: Tokens, k: usize) -> bool
     requires laid { ⌜ Laid (layoutOf c) (now img) ⌝ }
     requires inside { ⌜ (j < layoutOf c .packages) × (k < layoutOf c .services) ⌝ }
-    ensures { λ r. ⌜ r ≡ decode (layoutOf c) (now (img .entry)) .provides j k && eqTok (decode (layoutOf c) (now (img .entry)) .tok j k) (tokens interface method) ⌝ }
+    ensures { λ r. ⌜ r ≡ decode (layoutOf c) (now (img .entry)) .provides j k
+        && eqTok (decode (layoutOf c) (now (img .entry)) .tok j k) (tokOf t) ⌝ }
 {
     let row = provided_row(img, c, j);
     if !bits::has_bit(row, k) {
         return false;
     }
     let at = geometry::tok_at(c, j, k);
-    tokens_are(img, at, interface, method)
+    tokens_are(img, at, t)
 }
 
 // The number of package j's service with these tokens; the number of services where there is none.
-pub fn find_service(img: &[u8], c: Card, j: usize, interface: u8, method: u8) -> usize
+pub fn find_service(img: &[u8], c: Card, j: usize, t: Tokens) -> usize
     requires laid { ⌜ Laid (layoutOf c) (now img) ⌝ }
     requires inside { ⌜ j < layoutOf c .packages ⌝ }
-    ensures { λ r. ⌜ r ≡ numberOr (layoutOf c .services) (serviceOf (layoutOf c) (decode (layoutOf c) (now (img .entry))) j (tokens interface method)) ⌝ }
+    ensures { λ r. ⌜ r ≡ numberOr (layoutOf c .services)
+        (serviceOf (layoutOf c) (decode (layoutOf c) (now (img .entry))) j (tokOf t)) ⌝ }
 {
     let n = geometry::services(c);
     for k in 0..n {
-        if is_service(img, c, j, interface, method, k) {
+        if is_service(img, c, j, t, k) {
             return k;
         }
     }
@@ -151,9 +178,10 @@ pub fn find_service(img: &[u8], c: Card, j: usize, interface: u8, method: u8) ->
 }
 
 // Where the service of this AID with these tokens stands; the number of packages and that of services where it stands nowhere.
-pub fn find_server(img: &[u8], c: Card, aid: &[u8], interface: u8, method: u8) -> Place
+pub fn find_server(img: &[u8], c: Card, aid: &[u8], t: Tokens) -> Place
     requires { ⌜ Laid (layoutOf c) (now img) ⌝ }
-    ensures { λ r. ⌜ r ≡ placeOr (layoutOf c) (serverOf (layoutOf c) (decode (layoutOf c) (now (img .entry))) (asked (now (aid .entry)) interface method)) ⌝ }
+    ensures { λ r. ⌜ r ≡ placeOr (layoutOf c)
+        (serverOf (layoutOf c) (decode (layoutOf c) (now (img .entry))) (asked (now (aid .entry)) t)) ⌝ }
 {
     let n = geometry::packages(c);
     let m = geometry::services(c);
@@ -164,7 +192,7 @@ pub fn find_server(img: &[u8], c: Card, aid: &[u8], interface: u8, method: u8) -
             service: m,
         };
     }
-    let k = find_service(img, c, j, interface, method);
+    let k = find_service(img, c, j, t);
     if k >= m {
         return Place {
             callee: n,
@@ -179,10 +207,11 @@ pub fn find_server(img: &[u8], c: Card, aid: &[u8], interface: u8, method: u8) -
 
 // Where a grant of package j to this AID of the service with these tokens stands as a bit; the number of packages and that of services
 // where caller or service is not on the card.
-pub fn find_spot(img: &[u8], c: Card, j: usize, aid: &[u8], interface: u8, method: u8) -> Spot
+pub fn find_spot(img: &[u8], c: Card, j: usize, aid: &[u8], t: Tokens) -> Spot
     requires laid { ⌜ Laid (layoutOf c) (now img) ⌝ }
     requires inside { ⌜ j < layoutOf c .packages ⌝ }
-    ensures { λ r. ⌜ r ≡ spotOr (layoutOf c) (spotOf (layoutOf c) (decode (layoutOf c) (now (img .entry))) j (asked (now (aid .entry)) interface method)) ⌝ }
+    ensures { λ r. ⌜ r ≡ spotOr (layoutOf c)
+        (spotOf (layoutOf c) (decode (layoutOf c) (now (img .entry))) j (asked (now (aid .entry)) t)) ⌝ }
 {
     let n = geometry::packages(c);
     let m = geometry::services(c);
@@ -193,7 +222,7 @@ pub fn find_spot(img: &[u8], c: Card, j: usize, aid: &[u8], interface: u8, metho
             service: m,
         };
     }
-    let k = find_service(img, c, j, interface, method);
+    let k = find_service(img, c, j, t);
     if k >= m {
         return Spot {
             caller: n,

@@ -6,7 +6,7 @@ ghost use Prim.Native.Nat.{_+_, _^_, _≤_, _<_};
 ghost use lib.ListN.{length};
 ghost use Rattle.policy.specs.Tables.{bit, writeAid, decode};
 ghost use Rattle.policy.specs.Draft.{put3};
-ghost use Rattle.geometry.specs.Geometry.{layoutOf};
+ghost use Rattle.geometry.specs.Geometry.{layoutOf, tokOf};
 ghost use Rattle.rows.specs.Area.{over, HasRoom, keepRows, appended};
 ghost use Rattle.image.specs.Laid.{Laid, tableOf, withUsed, withAid, withTok, withProvides, withTable, withEntry, withItems};
 ghost use Rattle.image.specs.Read.{itemsOf, item, tailOf};
@@ -14,6 +14,7 @@ ghost use Rattle.image.specs.Wrote.{Wrote, withoutPackage, inColumn, inR
 use geometry::Card;
 use geometry::Kept;
 use geometry::Table;
+use geometry::Tokens;
 
 // The entry of a table in row i, column j.
 pub fn set_entry(img: &mut [u8], c: Card, tb: Table, i: usize, j: usize, row: u16)
@@ -71,14 +72,14 @@ pub fn set_provided(img: &mut [u8], c: Card, j: usize, row: u16)
 }
 
 // The tokens of service k of package j.
-pub fn put_tok(img: &mut [u8], c: Card, j: usize, k: usize, interface: u8, method: u8)
+pub fn put_tok(img: &mut [u8], c: Card, j: usize, k: usize, t: Tokens)
     requires laid { ⌜ Laid (layoutOf c) (now img) ⌝ }
     requires inside { ⌜ (j < layoutOf c .packages) × (k < layoutOf c .services) ⌝ }
-    ensures { λ _. ⌜ Wrote (layoutOf c) (now (img .exit)) (withTok j k (record { itf = interface; mth = method }) (decode (layoutOf c) (now (img .entry)))) ⌝ }
+    ensures { λ _. ⌜ Wrote (layoutOf c) (now (img .exit)) (withTok j k (tokOf t) (decode (layoutOf c) (now (img .entry)))) ⌝ }
 {
     let at = geometry::tok_at(c, j, k);
-    img[at] = interface;
-    img[at + 1] = method;
+    img[at] = t.interface;
+    img[at + 1] = t.method;
 }
 
 // An AID's place: length, bytes, zero fill.
@@ -117,7 +118,8 @@ pub fn clear_aid(img: &mut [u8], c: Card, n: usize)
 fn append(area: &mut [u8], aid: &[u8], tail: &[u8])
     requires short { ⌜ (length (now aid) ≤ 16) × (length (now tail) ≤ 3) ⌝ }
     requires room { ⌜ HasRoom (17 + length (now tail)) (writeAid (now aid) ++ now tail) (now area) ⌝ }
-    ensures { λ _. ⌜ now (area .exit) ≡ appended (17 + length (now (tail .entry))) (writeAid (now (aid .entry)) ++ now (tail .entry)) (now (area .entry)) ⌝ }
+    ensures { λ _. ⌜ now (area .exit)
+        ≡ appended (17 + length (now (tail .entry))) (writeAid (now (aid .entry)) ++ now (tail .entry)) (now (area .entry)) ⌝ }
 {
     let mut row = [0u8; 20];
     put_slot(&mut row, 0, aid);
@@ -127,36 +129,29 @@ fn append(area: &mut [u8], aid: &[u8], tail: &[u8])
 }
 
 // What follows the AID in a row of a list.
-fn tail(l: Kept, interface: u8, method: u8, number: u8) -> [u8; 3]
-    ensures { λ r. ⌜ r ≡ tailOf l (record { itf = interface; mth = method }) number ⌝ }
+fn tail(l: Kept, t: Tokens, number: u8) -> [u8; 3]
+    ensures { λ r. ⌜ r ≡ tailOf l (tokOf t) number ⌝ }
 {
     match l {
-        Kept::UnmetCalls => [interface, method, number],
-        Kept::WaitingGrants => [number, interface, method],
+        Kept::UnmetCalls => [t.interface, t.method, number],
+        Kept::WaitingGrants => [number, t.interface, t.method],
     }
 }
 
-// One row more: package number `number` calls the service of the package `aid` with these tokens, or grants its own with them to the package `aid`.
-pub fn append_row(
-    img: &mut [u8],
-    c: Card,
-    l: Kept,
-    aid: &[u8],
-    interface: u8,
-    method: u8,
-    number: usize,
-)
+// One row more: package number `number` calls the service of the package `aid` with these tokens, or grants its own with them to the
+// package `aid`.
+pub fn append_row(img: &mut [u8], c: Card, l: Kept, aid: &[u8], t: Tokens, number: usize)
     requires laid { ⌜ Laid (layoutOf c) (now img) ⌝ }
     requires room { ⌜ length (itemsOf l (decode (layoutOf c) (now img))) < layoutOf c .capacity ⌝ }
     requires short { ⌜ length (now aid) ≤ 16 ⌝ }
     requires inside { ⌜ number < layoutOf c .packages ⌝ }
     ensures { λ _. ⌜ Wrote (layoutOf c) (now (img .exit)) (withItems l (itemsOf l (decode (layoutOf c) (now (img .entry)))
-        ++ (item l (now (aid .entry)) (record { itf = interface; mth = method }) number ∷ [])) (decode (layoutOf c) (now (img .entry)))) ⌝ }
+        ++ (item l (now (aid .entry)) (tokOf t) number ∷ [])) (decode (layoutOf c) (now (img .entry)))) ⌝ }
 {
     let at = geometry::list_at(c, l);
     let end = geometry::list_end(c, l);
-    let t = tail(l, interface, method, number as u8);
-    append(&mut img[at..end], aid, &t);
+    let rest = tail(l, t, number as u8);
+    append(&mut img[at..end], aid, &rest);
 }
 
 // The rows of a list whose bit of the mask is clear, closed up in order.
@@ -216,7 +211,8 @@ pub fn clear_column_bit(img: &mut [u8], c: Card, tb: Table, j: usize, k: usize)
     requires laid { ⌜ Laid (layoutOf c) (now img) ⌝ }
     requires inside { ⌜ (j < layoutOf c .packages) × (k < layoutOf c .services) ⌝ }
     ensures { λ _. ⌜ Wrote (layoutOf c) (now (img .exit))
-        (withTable tb (withoutService tb j k (tableOf tb (decode (layoutOf c) (now (img .entry))))) (decode (layoutOf c) (now (img .entry)))) ⌝ }
+        (withTable tb (withoutService tb j k (tableOf tb (decode (layoutOf c) (now (img .entry)))))
+        (decode (layoutOf c) (now (img .entry)))) ⌝ }
 {
     match tb {
         Table::Calls => clear_column(img, c, tb, j, k),
@@ -233,7 +229,11 @@ pub fn clear_services(img: &mut [u8], c: Card, n: usize)
 {
     set_provided(img, c, n, 0);
     let size = geometry::services(c);
+    let none = Tokens {
+        interface: 0,
+        method: 0,
+    };
     for k in 0..size {
-        put_tok(img, c, n, k, 0, 0);
+        put_tok(img, c, n, k, none);
     }
 }

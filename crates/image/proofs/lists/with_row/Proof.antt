@@ -5,17 +5,17 @@ use mathlib.Core.Bool.{_&&_}
 use lib.ListN.{length, drop}
 use Rattle.policy.specs.Contract.{eqAid, eqTok}
 use Rattle.policy.specs.Tables.{decode}
-use Rattle.geometry.specs.Geometry.{layoutOf}
-use Rattle.image.specs.Read.{tokens, itemsOf, itemAid, itemTok, maskOf}
+use Rattle.geometry.specs.Geometry.{layoutOf, tokOf}
+use Rattle.image.specs.Read.{itemsOf, itemAid, itemTok, maskOf}
 use Rattle.image.proofs.Listed.{masks}
 use Rattle.image.proofs.lists.with_row.Statement.{statement}
 use Rattle.image.proofs.lists.with_row.Tie as tie
 
 abbrev Inv-loop : tie.InvT-loop
-Inv-loop img c l aid interface method r₀ mask₀ r mask = (r ≤ length (itemsOf l (decode (layoutOf c) img))) × (mask ≡ maskOf (λ x. eqAid (itemAid l x) aid && eqTok (itemTok l x) (tokens interface method)) (drop r (itemsOf l (decode (layoutOf c) img))))
+Inv-loop img c l aid t r₀ mask₀ r mask = (r ≤ length (itemsOf l (decode (layoutOf c) img))) × (mask ≡ maskOf (λ x. eqAid (itemAid l x) aid && eqTok (itemTok l x) (tokOf t)) (drop r (itemsOf l (decode (layoutOf c) img))))
 
 abbrev μ-loop : tie.MeasureT-loop
-μ-loop img c l aid interface method r₀ mask₀ r mask = r
+μ-loop img c l aid t r₀ mask₀ r mask = r
 
 pub with-row-spec : {M : Type 1} → statement M
 with-row-spec =

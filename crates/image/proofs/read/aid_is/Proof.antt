@@ -19,5 +19,6 @@ aid-is-spec =
     (λ c. search seen)
     (λ c. search seen)
     (λ c. search seen)
+    (λ c. search seen)
     (λ c κs. search seen)
     (λ c. search seen))

@@ -8,16 +8,15 @@ use Rattle.policy.specs.Contract.{eqTok}
 use Rattle.policy.specs.Tables.{decode}
 use Rattle.policy.specs.Lookup.{serviceOf}
 use Rattle.bits.proofs.Loops.{early}
-use Rattle.geometry.specs.Geometry.{layoutOf}
-use Rattle.image.specs.Read.{tokens}
+use Rattle.geometry.specs.Geometry.{layoutOf, tokOf}
 use Rattle.image.proofs.read.find_service.Statement.{statement}
 use Rattle.image.proofs.read.find_service.Tie as tie
 
 abbrev Inv-loop : tie.InvT-loop
-Inv-loop img c j interface method n k₀ k = (k ≤ n) × (first (λ x. decode (layoutOf c) img .provides j x && eqTok (decode (layoutOf c) img .tok j x) (tokens interface method)) (upto k) ≡ none)
+Inv-loop img c j t n k₀ k = (k ≤ n) × (first (λ x. decode (layoutOf c) img .provides j x && eqTok (decode (layoutOf c) img .tok j x) (tokOf t)) (upto k) ≡ none)
 
 abbrev μ-loop : tie.MeasureT-loop
-μ-loop img c j interface method n k₀ k = n - k
+μ-loop img c j t n k₀ k = n - k
 
 pub find-service-spec : {M : Type 1} → statement M
 unfolding serviceOf

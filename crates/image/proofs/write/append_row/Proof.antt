@@ -1,6 +1,7 @@
 -- `image::write::append_row` meets its contract. Assumes nothing.
 use native.Mathlib.Omega.{arith}
 use borrow.Author.Needs.{needs}
+use Rattle.geometry.specs.Geometry.{tokOf}
 use Rattle.geometry.proofs.Bounds.{limits, list-in}
 use Rattle.image.proofs.Writes.{laid-len, tail-three, row-room, row-appended}
 use Rattle.image.proofs.write.append_row.Statement.{statement}
@@ -20,9 +21,9 @@ append-row-spec =
     (λ c. search (tail-three, needs))
     (λ c κs. let s = c .before .before .before .before .before .before .before in
     let a = s .args in
-    let e = tail-three (a .l) (record { itf = a .interface; mth = a .method }) (a .number) (c .before .before .tail .ensures) in (
+    let e = tail-three (a .l) (tokOf (a .t)) (a .number) (c .before .before .tail .ensures) in (
       (s .pre .1 .1 .0, omega (arith, e)),
-      row-room (a .c) (s .pre .0) (a .l) (a .aid .now) (record { itf = a .interface; mth = a .method }) (a .number) (s .pre .1 .1 .0) (s .pre .1 .0)
+      row-room (a .c) (s .pre .0) (a .l) (a .aid .now) (tokOf (a .t)) (a .number) (s .pre .1 .1 .0) (s .pre .1 .0)
           (c .before .before .tail .result) (c .before .before .tail .ensures) (c .before .before .before .before .list-at .result) (c .before .before .before .list-end .result)
           (c .before .before .before .before .list-at .ensures) (c .before .before .before .list-end .ensures),
     ))
@@ -32,5 +33,5 @@ append-row-spec =
     let tail = c .before .before .before .before .before .tail in
     let end = c .before .before .before .before .before .before .list-end in
     let at = c .before .before .before .before .before .before .before .list-at in
-    row-appended (a .c) (s .pre .0) (a .l) (a .aid .now) (record { itf = a .interface; mth = a .method }) (a .number) (s .pre .1 .1 .0) (s .pre .1 .0)
+    row-appended (a .c) (s .pre .0) (a .l) (a .aid .now) (tokOf (a .t)) (a .number) (s .pre .1 .1 .0) (s .pre .1 .0)
     (tail .result) (tail .ensures) (at .result) (end .result) (at .ensures) (end .ensures) (c .before .before .append .ensures)))

@@ -8,10 +8,10 @@ use Rattle.image.proofs.write.clear_services.Statement.{statement}
 use Rattle.image.proofs.write.clear_services.Tie as tie
 
 abbrev Inv-loop : tie.InvT-loop
-Inv-loop img₀ c n size k₀ img k = (k ≤ size) × Wrote (layoutOf c) img (withoutToks n k (decode (layoutOf c) img₀))
+Inv-loop img₀ c n size none k₀ img k = (k ≤ size) × Wrote (layoutOf c) img (withoutToks n k (decode (layoutOf c) img₀))
 
 abbrev μ-loop : tie.MeasureT-loop
-μ-loop img₀ c n size k₀ img k = size - k
+μ-loop img₀ c n size none k₀ img k = size - k
 
 pub clear-services-spec : {M : Type 1} → statement M
 clear-services-spec =

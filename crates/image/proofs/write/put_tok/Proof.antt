@@ -2,6 +2,7 @@
 use Prim.Native.Nat.{_+_, _≤_}
 use native.Mathlib.Omega.{arith}
 use lib.ListN.{length, length-set}
+use Rattle.geometry.specs.Geometry.{tokOf}
 use Rattle.geometry.proofs.Bounds.{tok-len}
 use Rattle.image.proofs.Writes.{writes, laid-len, tok-wrote}
 use Rattle.image.proofs.write.put_tok.Statement.{statement}
@@ -30,7 +31,7 @@ same-length c = search writes
 returns : tie.Need-returns
 returns c =
     let s = c .before .before in
-    tok-wrote (s .args .c) (s .pre .0) (s .args .j) (s .args .k) (c .tok-at .result) (record { itf = s .args .interface; mth = s .args .method }) (s .pre .1 .0) (s .pre .1 .1) (c .tok-at .ensures)
+    tok-wrote (s .args .c) (s .pre .0) (s .args .j) (s .args .k) (c .tok-at .result) (tokOf (s .args .t)) (s .pre .1 .0) (s .pre .1 .1) (c .tok-at .ensures)
 
 pub put-tok-spec : {M : Type 1} → statement M
 put-tok-spec =
