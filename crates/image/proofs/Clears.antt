@@ -1,7 +1,7 @@
 -- Loops that clear bits of a table: what a turn clears, and what all turns leave.
 use Prim.Native.Nat.{ℕ, _+_, _≤_, _<_}
 use native.Mathlib.Omega.{arith}
-use mathlib.Core.Path.{_≡_, refl, sym, ap, _∙_, subst}
+use mathlib.Core.Path.{_≡_, refl, sym, ap, ap₂, _∙_, subst}
 use mathlib.Core.Logic.{_⊎_, inl, inr}
 use mathlib.Core.Bool.{Bool, true, false, not, _&&_, _||_, cond, and-true}
 use mathlib.Core.List.{List}
@@ -24,7 +24,7 @@ use Rattle.geometry.specs.declared.Table.the-variants.{Calls, Grants, Needs}
 use Rattle.geometry.specs.Geometry.{layoutOf}
 use Rattle.geometry.proofs.Bounds.{layout-ok}
 use Rattle.image.specs.Laid.{tableOf, Laid, withTok, withProvides, withTable, withEntry}
-use Rattle.image.specs.Wrote.{Wrote, withoutPackage, inColumn, inRow, withoutServices}
+use Rattle.image.specs.Wrote.{Wrote, withoutPackage, rowIn, inColumn, inRow, withoutService, withoutServices}
 use Rattle.image.proofs.Laid.{entry-in, laid-length}
 
 -- bits of a table by row, column and service
@@ -83,11 +83,13 @@ module _ (p : ℕ → Bits) (b : Bits) where
 abbrev pub cross : ℕ → ℕ → Bits
 cross n k x y z = (eqb x n && eqb y k) || (eqb x k && eqb y n)
 
-abbrev pub column : ℕ → ℕ → ℕ → Bits
-column j s k x y z = eqb x k && eqb y j && eqb z s
+abbrev pub service : Table → ℕ → ℕ → ℕ → Bits
+service tb j s k x y z = eqb x (rowIn tb k j) && eqb y (rowIn tb j k) && eqb z s
 
-abbrev pub row : ℕ → ℕ → ℕ → Bits
-row j s k x y z = eqb x j && eqb y k && eqb z s
+pub row-low : (tb : Table) (n : ℕ) {i j r : ℕ} → r ≡ rowIn tb i j → i < n → j < n → r < n
+row-low Calls n e p q = omega arith
+row-low Grants n e p q = omega arith
+row-low Needs n e p q = omega arith
 
 module _ (c : Card) (tb : Table) where
   abbrev L : Layout
@@ -114,11 +116,6 @@ module _ (c : Card) (tb : Table) where
         change (λ (b : Bits) (x y z : ℕ). cond (eqb x i && eqb y j) (bit 0 z) (b x y z)) b (λ x y z. b x y z && not (eqb x i && eqb y j))
         (λ r x y z. (ap (λ (v : Bool). cond (eqb x i && eqb y j) v (b x y z)) (bit-none z) ∙ off (eqb x i && eqb y j) (b x y z)) r)
 
-    bit-cleared : (i j k : ℕ) (b : Bits) {img img′ : List ℕ} → Wrote L img (withTable tb b t) → Wrote L img′ (withTable tb (put3 i j k false (tableOf tb (decode L img))) (decode L img))
-        → Wrote L img′ (withTable tb (λ x y z. b x y z && not (eqb x i && eqb y j && eqb z k)) t)
-    bit-cleared i j k b =
-        change (put3 i j k false) b (λ x y z. b x y z && not (eqb x i && eqb y j && eqb z k)) (λ r x y z. off (eqb x i && eqb y j && eqb z k) (b x y z) r)
-
     pub cross-turn : (n m : ℕ) (b : Bits) {img one two : List ℕ} → Wrote L img (withTable tb (clearedBy (cross n) m b) t) → Wrote L one (withEntry tb n m (bit 0) (decode L img))
         → Wrote L two (withEntry tb m n (bit 0) (decode L one)) → Wrote L two (withTable tb (clearedBy (cross n) (m + 1) b) t)
     cross-turn n m b {two = two} h u v =
@@ -127,14 +124,12 @@ module _ (c : Card) (tb : Table) where
         ((λ r x y z. less (old x y z) (eqb x n && eqb y m) (eqb x m && eqb y n) r) ∙ cleared-more (cross n) b m)
         (entry-cleared m n (λ x y z. old x y z && not (eqb x n && eqb y m)) (entry-cleared n m old h u) v)
 
-    module _ (j s m : ℕ) (b : Bits) {img img′ : List ℕ} where
-      pub column-turn : Wrote L img (withTable tb (clearedBy (column j s) m b) t) → Wrote L img′ (withTable tb (put3 m j s false (tableOf tb (decode L img))) (decode L img))
-          → Wrote L img′ (withTable tb (clearedBy (column j s) (m + 1) b) t)
-      column-turn h w = subst (λ (z : Bits). Wrote L img′ (withTable tb z t)) (cleared-more (column j s) b m) (bit-cleared m j s (clearedBy (column j s) m b) h w)
-
-      pub row-turn : Wrote L img (withTable tb (clearedBy (row j s) m b) t) → Wrote L img′ (withTable tb (put3 j m s false (tableOf tb (decode L img))) (decode L img))
-          → Wrote L img′ (withTable tb (clearedBy (row j s) (m + 1) b) t)
-      row-turn h w = subst (λ (z : Bits). Wrote L img′ (withTable tb z t)) (cleared-more (row j s) b m) (bit-cleared j m s (clearedBy (row j s) m b) h w)
+    pub service-turn : (j s m i k : ℕ) (b : Bits) {img img′ : List ℕ} → i ≡ rowIn tb m j → k ≡ rowIn tb j m → Wrote L img (withTable tb (clearedBy (service tb j s) m b) t)
+        → Wrote L img′ (withTable tb (put3 i k s false (tableOf tb (decode L img))) (decode L img)) → Wrote L img′ (withTable tb (clearedBy (service tb j s) (m + 1) b) t)
+    service-turn j s m i k b p q h w =
+        let old = clearedBy (service tb j s) m b in
+        change (put3 i k s false) old (clearedBy (service tb j s) (m + 1) b)
+        ((λ r x y z. (ap₂ (λ (u v : ℕ). put3 u v s false old x y z) p q ∙ off (service tb j s m x y z) (old x y z)) r) ∙ cleared-more (service tb j s) b m) h w
 
   -- ---- after the last turn
   module _ {old : List ℕ} (laid : Laid L old) (m n : ℕ) (low : m ≤ n) (high : n ≤ m) (all : n ≡ L .packages) where
@@ -165,17 +160,25 @@ module _ (c : Card) (tb : Table) where
         two x y p q (inr s) = (x, p, or-r (eqb x k && eqb y x) (eqb x x && eqb y k) (and-i (eqb x x) (eqb y k) (eqb-refl x) s))
 
     module _ (j s : ℕ) where
-      pub column-done : {img : List ℕ} → Wrote L img (withTable tb (clearedBy (column j s) m b) t) → Wrote L img (withTable tb (inColumn j s b) t)
+      column-done : {img : List ℕ} → Wrote L img (withTable tb (clearedBy (service Calls j s) m b) t) → Wrote L img (withTable tb (inColumn j s b) t)
       column-done =
-          done (column j s) (λ x y z. eqb y j && eqb z s)
+          done (service Calls j s) (λ x y z. eqb y j && eqb z s)
           (λ i x y z e. and-i (eqb y j) (eqb z s) (and-r (eqb x i) (eqb y j) (and-l (eqb x i && eqb y j) (eqb z s) e)) (and-r (eqb x i && eqb y j) (eqb z s) e))
           (λ x y z p q e. (x, p, and-i (eqb x x && eqb y j) (eqb z s) (and-i (eqb x x) (eqb y j) (eqb-refl x) (and-l (eqb y j) (eqb z s) e)) (and-r (eqb y j) (eqb z s) e)))
 
-      pub row-done : {img : List ℕ} → Wrote L img (withTable tb (clearedBy (row j s) m b) t) → Wrote L img (withTable tb (inRow j s b) t)
+      row-done : {img : List ℕ} → Wrote L img (withTable tb (clearedBy (service Grants j s) m b) t) → Wrote L img (withTable tb (inRow j s b) t)
       row-done =
-          done (row j s) (λ x y z. eqb x j && eqb z s)
+          done (service Grants j s) (λ x y z. eqb x j && eqb z s)
           (λ i x y z e. and-i (eqb x j) (eqb z s) (and-l (eqb x j) (eqb y i) (and-l (eqb x j && eqb y i) (eqb z s) e)) (and-r (eqb x j && eqb y i) (eqb z s) e))
           (λ x y z p q e. (y, q, and-i (eqb x j && eqb y y) (eqb z s) (and-i (eqb x j) (eqb y y) (and-l (eqb x j) (eqb z s) e) (eqb-refl y)) (and-r (eqb x j) (eqb z s) e)))
+
+module _ (c : Card) where
+  pub service-done : (tb : Table) {old img : List ℕ} → Laid (layoutOf c) old → (m n : ℕ) → m ≤ n → n ≤ m → n ≡ layoutOf c .packages → (j s : ℕ)
+      → Wrote (layoutOf c) img (withTable tb (clearedBy (service tb j s) m (tableOf tb (decode (layoutOf c) old))) (decode (layoutOf c) old))
+      → Wrote (layoutOf c) img (withTable tb (withoutService tb j s (tableOf tb (decode (layoutOf c) old))) (decode (layoutOf c) old))
+  service-done Calls laid m n low high all j s = column-done c Calls laid m n low high all j s
+  service-done Grants laid m n low high all j s = row-done c Grants laid m n low high all j s
+  service-done Needs laid m n low high all j s = column-done c Needs laid m n low high all j s
 
 -- ---- tokens
 abbrev withToks : (ℕ → ℕ → Tok) → Tables → Tables
@@ -254,4 +257,4 @@ module _ (L : Layout) (n : ℕ) where
 pub laid-same : (c : Card) {old img : List ℕ} → Laid (layoutOf c) img → Laid (layoutOf c) old → length img ≡ length old
 laid-same c h g = laid-length (layoutOf c) (layout-ok c) h ∙ sym (laid-length (layoutOf c) (layout-ok c) g)
 
-pub ruleset clears = (laid-same, cleared-start, column-turn, row-turn, cross-done, column-done, row-done, toks-start, toks-turn, services-done, pow-pos, needs)
+pub ruleset clears = (laid-same, cleared-start, row-low, service-turn, cross-done, service-done, toks-start, toks-turn, services-done, pow-pos, needs)

@@ -9,7 +9,7 @@ use Rattle.policy.specs.Lists.{first, upto, orElse}
 use Rattle.policy.specs.Contract.{Aid, Tok, Row}
 use Rattle.policy.specs.Layout.{Layout}
 use Rattle.policy.specs.Tables.{Tables}
-use Rattle.policy.specs.Lookup.{Place as Found, Spot as SpotFound, numberOf, serviceOf, serverOf, spotOf, freeNumber, freeService}
+use Rattle.policy.specs.Lookup.{Spot as SpotFound, numberOf, serviceOf, serverOf, spotOf, freeNumber, freeService}
 use Rattle.policy.proofs.Sets.{Found as Finds, found, upto-in}
 use Rattle.geometry.specs.declared.Tokens.{Tokens}
 use Rattle.geometry.specs.Geometry.{tokOf}
@@ -85,32 +85,6 @@ module _ (L : Layout) (t : Tables) where
     pub free-service-some : (r : ℕ) → r ≡ numberOr (L .services) (freeService L t j) → r < L .services → freeService L t j ≡ some r
     free-service-some r = number-some (L .services) r (freeService L t j) free-service-below
 
-  -- ---- a service of the card: j is the number of its package, and k its own
-  module _ (a : Aid) (s : Tokens) where
-    abbrev served : ℕ → Option ℕ → Option Found
-    served j o = orElse o none (λ k. some (record { callee = j; service = k }))
-
-    by-package : (o : Option ℕ) → numberOf L t a ≡ o → serverOf L t (asked a s) ≡ orElse o none (λ j. served j (serviceOf L t j (tokOf s)))
-    unfolding serverOf
-    by-package o e = ap (λ (u : Option ℕ). orElse u none (λ j. served j (serviceOf L t j (tokOf s)))) e
-
-    module _ (n m j : ℕ) (en : n ≡ L .packages) (em : m ≡ L .services) (p : j ≡ numberOr (L .packages) (numberOf L t a)) where
-      nowhere : serverOf L t (asked a s) ≡ none → _≡_ {A = Place} (record { callee = n; service = m }) (placeOr L (serverOf L t (asked a s)))
-      nowhere e = (λ i. record { callee = en i; service = em i }) ∙ sym (ap (placeOr L) e)
-
-      pub no-package : n ≤ j → _≡_ {A = Place} (record { callee = n; service = m }) (placeOr L (serverOf L t (asked a s)))
-      no-package h = nowhere (by-package none (package-none a j p (omega arith)))
-
-      module _ (k : ℕ) (h : j < n) (q : k ≡ numberOr (L .services) (serviceOf L t j (tokOf s))) where
-        by-service : (o : Option ℕ) → serviceOf L t j (tokOf s) ≡ o → serverOf L t (asked a s) ≡ served j o
-        by-service o e = by-package (some j) (package-some a j p (omega arith)) ∙ ap (served j) e
-
-        pub no-service : m ≤ k → _≡_ {A = Place} (record { callee = n; service = m }) (placeOr L (serverOf L t (asked a s)))
-        no-service l = nowhere (by-service none (service-none j (tokOf s) k q (omega arith)))
-
-        pub served-at : k < m → _≡_ {A = Place} (record { callee = j; service = k }) (placeOr L (serverOf L t (asked a s)))
-        served-at l = sym (ap (placeOr L) (by-service (some k) (service-some j (tokOf s) k q (omega arith))))
-
   -- ---- a grant of package j as a bit: i is the number of its caller, and k that of its service
   module _ (j : ℕ) (a : Aid) (s : Tokens) where
     abbrev spotted : Option ℕ → Option ℕ → Option SpotFound
@@ -134,76 +108,74 @@ module _ (L : Layout) (t : Tables) where
         pub spotted-at : k < m → _≡_ {A = Spot} (record { caller = i; service = k }) (spotOr L (spotOf L t j (asked a s)))
         spotted-at l = sym (ap (spotOr L) (by-both (some i) (some k) (package-some a i p (omega arith)) (service-some j (tokOf s) k q (omega arith))))
 
--- ---- what a place that was found says
-PlaceBelow : Layout → Option Found → Type 0
-PlaceBelow L none = Unit {0}
-PlaceBelow L (some p) = (p .callee < L .packages) × (p .service < L .services)
-
-place-none : (L : Layout) (p : Place) (o : Option Found) → PlaceBelow L o → p ≡ placeOr L o → L .packages ≤ p .callee → o ≡ none
-unfolding PlaceBelow
-place-none L p none b e h = refl
-place-none L p (some q) b e h = let z = ap (λ (u : Place). u .callee) e in absurd (omega arith)
-
-place-some : (L : Layout) (p : Place) (o : Option Found) → PlaceBelow L o → p ≡ placeOr L o → p .callee < L .packages → (o ≡ some (record { callee = p .callee; service = p .service })) × (p .service < L .services)
-unfolding PlaceBelow
-place-some L p none b e h = let z = ap (λ (u : Place). u .callee) e in absurd (omega arith)
-place-some L p (some q) b e h =
-    let z = ap (λ (u : Place). u .service) e in
-    ((λ i. some (record { callee = sym e i .callee; service = sym e i .service })), omega arith)
-
-module _ (L : Layout) (t : Tables) (r : Row) where
-  server-below : PlaceBelow L (serverOf L t r)
-  unfolding serverOf PlaceBelow
-  server-below = in-package (numberOf L t (r .aid)) (package-below L t (r .aid))
+  -- ---- a service of the card: the place of what is found with its own package
+  pub served-at : (a : Aid) (s : Tokens) (i : ℕ) (r : Spot) → i ≡ numberOr (L .packages) (numberOf L t a) → r ≡ spotOr L (spotOf L t i (asked a s))
+      → _≡_ {A = Place} (record { callee = r .caller; service = r .service }) (placeOr L (serverOf L t (asked a s)))
+  unfolding spotOf serverOf
+  served-at a s i r p e = ap place e ∙ in-package (numberOf L t a) p
     where
-      in-service : (j : ℕ) → j < L .packages → (o : Option ℕ) → Below (L .services) o → PlaceBelow L (orElse o none (λ k. some (record { callee = j; service = k })))
-      in-service j h none b = tt
-      in-service j h (some k) b = (h, b)
+      place : Spot → Place
+      place q = record { callee = q .caller; service = q .service }
 
-      in-package : (o : Option ℕ) → Below (L .packages) o → PlaceBelow L (orElse o none (λ j. orElse (serviceOf L t j (r .tok)) none (λ k. some (record { callee = j; service = k }))))
-      in-package none b = tt
-      in-package (some j) b = in-service j b (serviceOf L t j (r .tok)) (service-below L t j (r .tok))
+      in-service : (j : ℕ) (u : Option ℕ) → place (spotOr L (orElse u none (λ k. some (record { caller = j; service = k })))) ≡ placeOr L (orElse u none (λ k. some (record { callee = j; service = k })))
+      in-service j none = refl
+      in-service j (some k) = refl
 
-  module _ (p : Place) (e : p ≡ placeOr L (serverOf L t r)) where
-    pub server-none : L .packages ≤ p .callee → serverOf L t r ≡ none
-    server-none = place-none L p (serverOf L t r) server-below e
+      in-package : (o : Option ℕ) → i ≡ numberOr (L .packages) o
+          → place (spotOr L (orElse o none (λ j. orElse (serviceOf L t i (tokOf s)) none (λ k. some (record { caller = j; service = k })))))
+          ≡ placeOr L (orElse o none (λ j. orElse (serviceOf L t j (tokOf s)) none (λ k. some (record { callee = j; service = k }))))
+      in-package none q = refl
+      in-package (some j) q = ap (λ (x : ℕ). place (spotOr L (orElse (serviceOf L t x (tokOf s)) none (λ k. some (record { caller = j; service = k }))))) q ∙ in-service j (serviceOf L t j (tokOf s))
 
-    pub server-some : p .callee < L .packages → (serverOf L t r ≡ some (record { callee = p .callee; service = p .service })) × (p .service < L .services)
-    server-some = place-some L p (serverOf L t r) server-below e
+-- ---- what a pair of numbers says that code found, `to` of a package and its service, or d for none
+module _ {A B : Type 0} (L : Layout) (mk : ℕ → ℕ → A) (to : A → B) (d : B) (one two : B → ℕ)
+    (past : one d ≡ L .packages) (first : (i k : ℕ) → one (to (mk i k)) ≡ i) (second : (i k : ℕ) → two (to (mk i k)) ≡ k) (p : B) where
+  abbrev Says : Option A → Type 0
+  Says o = p ≡ orElse o d to → (L .packages ≤ one p → o ≡ none) × (one p < L .packages → (o ≡ some (mk (one p) (two p))) × (two p < L .services))
 
--- ---- what a grant that was found as a bit says
-SpotBelow : Layout → Option SpotFound → Type 0
-SpotBelow L none = Unit {0}
-SpotBelow L (some p) = (p .caller < L .packages) × (p .service < L .services)
+  says-none : Says none
+  says-none e = let z = ap one e in (λ h. refl, λ h. absurd (omega (arith, past)))
 
-spot-out : (L : Layout) (p : Spot) (o : Option SpotFound) → SpotBelow L o → p ≡ spotOr L o → L .packages ≤ p .caller → o ≡ none
-unfolding SpotBelow
-spot-out L p none b e h = refl
-spot-out L p (some q) b e h = let z = ap (λ (u : Spot). u .caller) e in absurd (omega arith)
+  in-package : (i : ℕ) → i < L .packages → (u : Option ℕ) → Below (L .services) u → Says (orElse u none (λ k. some (mk i k)))
+  in-package i h none b = says-none
+  in-package i h (some k) b = λ e.
+      let x = ap one e ∙ first i k in
+      let y = ap two e ∙ second i k in
+      (λ l. absurd (omega arith), λ l. ((λ r. some (mk (sym x r) (sym y r))), omega arith))
 
-spot-in : (L : Layout) (p : Spot) (o : Option SpotFound) → SpotBelow L o → p ≡ spotOr L o → p .caller < L .packages → (o ≡ some (record { caller = p .caller; service = p .service })) × (p .service < L .services)
-unfolding SpotBelow
-spot-in L p none b e h = let z = ap (λ (u : Spot). u .caller) e in absurd (omega arith)
-spot-in L p (some q) b e h =
-    let z = ap (λ (u : Spot). u .service) e in
-    ((λ i. some (record { caller = sym e i .caller; service = sym e i .service })), omega arith)
+  says : (o : Option ℕ) (u : ℕ → Option ℕ) → Below (L .packages) o → ((i : ℕ) → Below (L .services) (u i)) → Says (orElse o none (λ i. orElse (u i) none (λ k. some (mk i k))))
+  says none u b l = says-none
+  says (some i) u b l = in-package i b (u i) (l i)
 
-module _ (L : Layout) (t : Tables) (j : ℕ) (r : Row) where
-  spot-below : SpotBelow L (spotOf L t j r)
-  unfolding spotOf SpotBelow
-  spot-below = go (numberOf L t (r .aid)) (package-below L t (r .aid)) (serviceOf L t j (r .tok)) (service-below L t j (r .tok))
-    where
-      go : (o : Option ℕ) → Below (L .packages) o → (u : Option ℕ) → Below (L .services) u → SpotBelow L (orElse o none (λ i. orElse u none (λ k. some (record { caller = i; service = k }))))
-      go none b u d = tt
-      go (some i) b none d = tt
-      go (some i) b (some k) d = (b, d)
+module _ (L : Layout) (t : Tables) (r : Row) (p : Place) (e : p ≡ placeOr L (serverOf L t r)) where
+  server : (L .packages ≤ p .callee → serverOf L t r ≡ none)
+      × (p .callee < L .packages → (serverOf L t r ≡ some (record { callee = p .callee; service = p .service })) × (p .service < L .services))
+  unfolding serverOf
+  server =
+      says L (λ i k. record { callee = i; service = k }) (λ q. record { callee = q .callee; service = q .service }) (record { callee = L .packages; service = L .services })
+      (λ q. q .callee) (λ q. q .service) refl (λ i k. refl) (λ i k. refl) p
+      (numberOf L t (r .aid)) (λ j. serviceOf L t j (r .tok)) (package-below L t (r .aid)) (λ j. service-below L t j (r .tok)) e
 
-  module _ (p : Spot) (e : p ≡ spotOr L (spotOf L t j r)) where
-    pub spot-none : L .packages ≤ p .caller → spotOf L t j r ≡ none
-    spot-none = spot-out L p (spotOf L t j r) spot-below e
+  pub server-none : L .packages ≤ p .callee → serverOf L t r ≡ none
+  server-none = server .0
 
-    pub spot-some : p .caller < L .packages → (spotOf L t j r ≡ some (record { caller = p .caller; service = p .service })) × (p .service < L .services)
-    spot-some = spot-in L p (spotOf L t j r) spot-below e
+  pub server-some : p .callee < L .packages → (serverOf L t r ≡ some (record { callee = p .callee; service = p .service })) × (p .service < L .services)
+  server-some = server .1
+
+module _ (L : Layout) (t : Tables) (j : ℕ) (r : Row) (p : Spot) (e : p ≡ spotOr L (spotOf L t j r)) where
+  spot : (L .packages ≤ p .caller → spotOf L t j r ≡ none)
+      × (p .caller < L .packages → (spotOf L t j r ≡ some (record { caller = p .caller; service = p .service })) × (p .service < L .services))
+  unfolding spotOf
+  spot =
+      says L (λ i k. record { caller = i; service = k }) (λ q. record { caller = q .caller; service = q .service }) (record { caller = L .packages; service = L .services })
+      (λ q. q .caller) (λ q. q .service) refl (λ i k. refl) (λ i k. refl) p
+      (numberOf L t (r .aid)) (λ i. serviceOf L t j (r .tok)) (package-below L t (r .aid)) (λ i. service-below L t j (r .tok)) e
+
+  pub spot-none : L .packages ≤ p .caller → spotOf L t j r ≡ none
+  spot-none = spot .0
+
+  pub spot-some : p .caller < L .packages → (spotOf L t j r ≡ some (record { caller = p .caller; service = p .service })) × (p .service < L .services)
+  spot-some = spot .1
 
 -- what the searches for a package and its service leave: `search located`
-pub ruleset located = (no-package, no-service, served-at, no-caller, not-provided, spotted-at, needs)
+pub ruleset located = (served-at, no-caller, not-provided, spotted-at, needs)

@@ -19,6 +19,12 @@ pub record Wrote (L : Layout) (img : List ℕ) (t : Tables) : Type 0 where
 abbrev pub withoutPackage : ℕ → (ℕ → ℕ → ℕ → Bool) → ℕ → ℕ → ℕ → Bool
 withoutPackage n b x y z = b x y z && not (eqb x n || eqb y n)
 
+-- the row of a caller and a callee: calls and needs have the caller's number, and grants the callee's; the column is the other
+abbrev pub rowIn : Table → ℕ → ℕ → ℕ
+rowIn Calls caller callee = caller
+rowIn Grants caller callee = callee
+rowIn Needs caller callee = caller
+
 -- a table without service k of package j, which is the column of a call or need, and the row of a grant
 abbrev pub inColumn : ℕ → ℕ → (ℕ → ℕ → ℕ → Bool) → ℕ → ℕ → ℕ → Bool
 inColumn j k b x y z = b x y z && not (eqb y j && eqb z k)

@@ -3,7 +3,7 @@ ghost use mathlib.Core.Path.{_≡_};
 ghost use mathlib.Core.Bool.{_&&_};
 ghost use Prim.Native.Nat.{_+_, _≤_, _<_};
 ghost use lib.ListN.{length, getD};
-ghost use Rattle.policy.specs.Contract.{eqAid, eqTok};
+ghost use Rattle.policy.specs.Contract.{Aid, eqAid, eqTok};
 ghost use Rattle.policy.specs.Tables.{rowOf, writeAid, decode};
 ghost use Rattle.policy.specs.Lookup.{numberOf, serviceOf, serverOf, spotOf, freeNumber, freeService};
 ghost use Rattle.geometry.specs.Geometry.{layoutOf, tokOf};
@@ -177,45 +177,16 @@ pub fn find_service(img: &[u8], c: Card, j: usize, t: Tokens) -> usize
     n
 }
 
-// Where the service of this AID with these tokens stands; the number of packages and that of services where it stands nowhere.
-pub fn find_server(img: &[u8], c: Card, aid: &[u8], t: Tokens) -> Place
-    requires { ⌜ Laid (layoutOf c) (now img) ⌝ }
-    ensures { λ r. ⌜ r ≡ placeOr (layoutOf c)
-        (serverOf (layoutOf c) (decode (layoutOf c) (now (img .entry))) (asked (now (aid .entry)) t)) ⌝ }
-{
-    let n = geometry::packages(c);
-    let m = geometry::services(c);
-    let j = find_package(img, c, aid);
-    if j >= n {
-        return Place {
-            callee: n,
-            service: m,
-        };
-    }
-    let k = find_service(img, c, j, t);
-    if k >= m {
-        return Place {
-            callee: n,
-            service: m,
-        };
-    }
-    Place {
-        callee: j,
-        service: k,
-    }
-}
-
-// Where a grant of package j to this AID of the service with these tokens stands as a bit; the number of packages and that of services
-// where caller or service is not on the card.
-pub fn find_spot(img: &[u8], c: Card, j: usize, aid: &[u8], t: Tokens) -> Spot
+// Package number i and package j's service with these tokens, where i was found for an AID; the number of packages and that of services
+// where either is not on the card.
+fn spot_of(img: &[u8], c: Card, i: usize, j: usize, t: Tokens) -> Spot
     requires laid { ⌜ Laid (layoutOf c) (now img) ⌝ }
-    requires inside { ⌜ j < layoutOf c .packages ⌝ }
-    ensures { λ r. ⌜ r ≡ spotOr (layoutOf c)
-        (spotOf (layoutOf c) (decode (layoutOf c) (now (img .entry))) j (asked (now (aid .entry)) t)) ⌝ }
+    requires inside { ⌜ (i < layoutOf c .packages → j < layoutOf c .packages) ⌝ }
+    ensures { λ r. ⌜ ((a : Aid) → i ≡ numberOr (layoutOf c .packages) (numberOf (layoutOf c) (decode (layoutOf c) (now (img .entry))) a)
+        → r ≡ spotOr (layoutOf c) (spotOf (layoutOf c) (decode (layoutOf c) (now (img .entry))) j (asked a t))) ⌝ }
 {
     let n = geometry::packages(c);
     let m = geometry::services(c);
-    let i = find_package(img, c, aid);
     if i >= n {
         return Spot {
             caller: n,
@@ -233,6 +204,32 @@ pub fn find_spot(img: &[u8], c: Card, j: usize, aid: &[u8], t: Tokens) -> Spot
         caller: i,
         service: k,
     }
+}
+
+// Where the service of this AID with these tokens stands; the number of packages and that of services where it stands nowhere.
+pub fn find_server(img: &[u8], c: Card, aid: &[u8], t: Tokens) -> Place
+    requires { ⌜ Laid (layoutOf c) (now img) ⌝ }
+    ensures { λ r. ⌜ r ≡ placeOr (layoutOf c)
+        (serverOf (layoutOf c) (decode (layoutOf c) (now (img .entry))) (asked (now (aid .entry)) t)) ⌝ }
+{
+    let j = find_package(img, c, aid);
+    let p = spot_of(img, c, j, j, t);
+    Place {
+        callee: p.caller,
+        service: p.service,
+    }
+}
+
+// Where a grant of package j to this AID of the service with these tokens stands as a bit; the number of packages and that of services
+// where caller or service is not on the card.
+pub fn find_spot(img: &[u8], c: Card, j: usize, aid: &[u8], t: Tokens) -> Spot
+    requires laid { ⌜ Laid (layoutOf c) (now img) ⌝ }
+    requires inside { ⌜ j < layoutOf c .packages ⌝ }
+    ensures { λ r. ⌜ r ≡ spotOr (layoutOf c)
+        (spotOf (layoutOf c) (decode (layoutOf c) (now (img .entry))) j (asked (now (aid .entry)) t)) ⌝ }
+{
+    let i = find_package(img, c, aid);
+    spot_of(img, c, i, j, t)
 }
 
 // The lowest unused package number; the number of packages where all are used.

@@ -10,7 +10,7 @@ ghost use Rattle.geometry.specs.Geometry.{layoutOf, tokOf};
 ghost use Rattle.rows.specs.Area.{over, HasRoom, keepRows, appended};
 ghost use Rattle.image.specs.Laid.{Laid, tableOf, withUsed, withAid, withTok, withProvides, withTable, withEntry, withItems};
 ghost use Rattle.image.specs.Read.{itemsOf, item, tailOf};
-ghost use Rattle.image.specs.Wrote.{Wrote, withoutPackage, inColumn, inRow, withoutService, withoutServices};
+ghost use Rattle.image.specs.Wrote.{Wrote, withoutPackage, rowIn, withoutService, withoutServices};
 use geometry::Card;
 use geometry::Kept;
 use geometry::Table;
@@ -180,29 +180,14 @@ pub fn clear_cross(img: &mut [u8], c: Card, tb: Table, n: usize)
     }
 }
 
-// Bit k of every entry of column j clear.
-fn clear_column(img: &mut [u8], c: Card, tb: Table, j: usize, k: usize)
-    requires laid { ⌜ Laid (layoutOf c) (now img) ⌝ }
-    requires inside { ⌜ (j < layoutOf c .packages) × (k < layoutOf c .services) ⌝ }
-    ensures { λ _. ⌜ Wrote (layoutOf c) (now (img .exit))
-        (withTable tb (inColumn j k (tableOf tb (decode (layoutOf c) (now (img .entry))))) (decode (layoutOf c) (now (img .entry)))) ⌝ }
+// The row of a caller and a callee in a table. Their column is the row of the two exchanged.
+fn row_in(tb: Table, caller: usize, callee: usize) -> usize
+    ensures { λ r. ⌜ r ≡ rowIn tb caller callee ⌝ }
 {
-    let size = geometry::packages(c);
-    for x in 0..size {
-        clear_bit(img, c, tb, x, j, k);
-    }
-}
-
-// Bit k of every entry of row j clear.
-fn clear_row(img: &mut [u8], c: Card, tb: Table, j: usize, k: usize)
-    requires laid { ⌜ Laid (layoutOf c) (now img) ⌝ }
-    requires inside { ⌜ (j < layoutOf c .packages) × (k < layoutOf c .services) ⌝ }
-    ensures { λ _. ⌜ Wrote (layoutOf c) (now (img .exit))
-        (withTable tb (inRow j k (tableOf tb (decode (layoutOf c) (now (img .entry))))) (decode (layoutOf c) (now (img .entry)))) ⌝ }
-{
-    let size = geometry::packages(c);
-    for x in 0..size {
-        clear_bit(img, c, tb, j, x, k);
+    match tb {
+        Table::Calls => caller,
+        Table::Grants => callee,
+        Table::Needs => caller,
     }
 }
 
@@ -214,10 +199,11 @@ pub fn clear_column_bit(img: &mut [u8], c: Card, tb: Table, j: usize, k: usize)
         (withTable tb (withoutService tb j k (tableOf tb (decode (layoutOf c) (now (img .entry)))))
         (decode (layoutOf c) (now (img .entry)))) ⌝ }
 {
-    match tb {
-        Table::Calls => clear_column(img, c, tb, j, k),
-        Table::Grants => clear_row(img, c, tb, j, k),
-        Table::Needs => clear_column(img, c, tb, j, k),
+    let size = geometry::packages(c);
+    for x in 0..size {
+        let row = row_in(tb, x, j);
+        let column = row_in(tb, j, x);
+        clear_bit(img, c, tb, row, column, k);
     }
 }
 

@@ -8,9 +8,5 @@ find-server-spec =
     tie.close
     (tie.spec
     (λ c κs. search located)
-    (λ c κs. search located)
-    (λ c κs. search located)
-    (λ c. search located)
-    (λ c κs. search located)
-    (λ c. search located)
-    (λ c. search located))
+    (λ c κs. (search located, λ h. h))
+    (λ c. let s = c .before .before .before .before .args in let e = c .spot-of .ensures (s .aid .now) (c .before .find-package .ensures) in search located))

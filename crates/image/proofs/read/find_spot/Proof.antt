@@ -8,9 +8,5 @@ find-spot-spec =
     tie.close
     (tie.spec
     (λ c κs. search located)
-    (λ c κs. search located)
-    (λ c κs. search located)
-    (λ c. search located)
-    (λ c κs. search located)
-    (λ c. search located)
-    (λ c. search located))
+    (λ c κs. (search located, λ _. c .before .before .before .pre .1))
+    (λ c. c .spot-of .ensures _ (c .before .find-package .ensures)))
