@@ -9,9 +9,9 @@ use lib.ListN.{take, length, drop}
 use lib.Seq.{take-all}
 use Rattle.policy.specs.Lists.{eqBytes}
 use Rattle.policy.specs.Contract.{eqAid, eqTok, eqRow}
-use Rattle.record.specs.Meaning.{aidIn, tokOf, rowIn}
-use Rattle.record.specs.declared.Aid.{Aid}
-use Rattle.record.specs.declared.Tokens.{Tokens}
+use Rattle.geometry.specs.Geometry.{tokOf}
+use Rattle.record.specs.Meaning.{aidIn, rowIn}
+use Rattle.record.specs.declared.Row.{Row}
 
 pub unequal-lengths : (a b : List ℕ) → (length a ≡ length b → ⊥) → eqBytes a b ≡ false
 unequal-lengths [] [] h = absurd (h refl)
@@ -24,9 +24,9 @@ pub all-alike : (a b : List ℕ) {r : Bool} → length a ≡ length b → r ≡ 
 all-alike a b h e = e ∙ ap (λ (z : List ℕ). eqBytes z b) (take-all (length b) a (omega arith))
 
 -- two rows: their tokens, and then their AIDs
-module _ (s : List ℕ) (a : Aid) (t : Tokens) (b : Aid) (u : Tokens) {e : Bool} (q : e ≡ eqTok (tokOf t) (tokOf u)) where
-  pub row-differs : e ≡ false → false ≡ eqRow (rowIn s a t) (rowIn s b u)
-  row-differs f = sym (rw (sym q ∙ f) (and-false (eqAid (aidIn s a) (aidIn s b))))
+module _ (s : List ℕ) (x y : Row) {e : Bool} (q : e ≡ eqTok (tokOf (x .tokens)) (tokOf (y .tokens))) where
+  pub row-differs : e ≡ false → false ≡ eqRow (rowIn s x) (rowIn s y)
+  row-differs f = sym (rw (sym q ∙ f) (and-false (eqAid (aidIn s (x .other)) (aidIn s (y .other)))))
 
-  pub row-by-aids : {r : Bool} → e ≡ true → r ≡ eqAid (aidIn s a) (aidIn s b) → r ≡ eqRow (rowIn s a t) (rowIn s b u)
-  row-by-aids f h = h ∙ sym (rw (sym q ∙ f) (and-true (eqAid (aidIn s a) (aidIn s b))))
+  pub row-by-aids : {r : Bool} → e ≡ true → r ≡ eqAid (aidIn s (x .other)) (aidIn s (y .other)) → r ≡ eqRow (rowIn s x) (rowIn s y)
+  row-by-aids f h = h ∙ sym (rw (sym q ∙ f) (and-true (eqAid (aidIn s (x .other)) (aidIn s (y .other)))))

@@ -9,59 +9,26 @@ use lib.Dec.{eqb, ltb}
 use lib.ListN.{length, drop, drop-of-length-le, List·getD-eq-default}
 use lib.Seq.{drop-cons}
 use borrow.Author.Tests.{ltb-true, ltb-false}
-use Rattle.policy.specs.Contract.{Row}
 use Rattle.policy.specs.Layout.{Layout}
-use Rattle.policy.specs.Record.{Got, got, bad, Reader, andThen, validRow, whole, change, kinds, aLoad, aService}
-use Rattle.policy.specs.Record.{Change, addCall, removeCall, addGrant, removeGrant, addNeed, removeNeed}
-use Rattle.record.specs.Meaning.{Takes, reader, listReader, Places, Served, RowStands, rowIn, AidFits, kindOf, KindFits, loadBy, loadOf, serviceBy, serviceOf, rowKind, Bodies}
-use Rattle.record.specs.declared.Sort.{Sort}
+use Rattle.policy.specs.Record.{Got, got, bad, Reader, Change, andThen, aid, tokens, validRow, tokenList, callerList, whole, change, kinds, aLoad, aService}
+use Rattle.geometry.specs.declared.Tokens.{Tokens}
+use Rattle.record.specs.Meaning.{Takes, Places, PlacesRows, Served, RowStands, rowIn, changeOf, kindOf, KindFits}
+use Rattle.record.specs.Meaning.{loadBy, loadOf, serviceBy, serviceOf, rowKind, Bodies}
 use Rattle.record.specs.declared.Sort.the-variants as sort
 use Rattle.record.specs.declared.Placed.{Placed}
 use Rattle.record.specs.declared.Placed.the-variants as placed
 use Rattle.record.specs.declared.ListAt.{ListAt}
+use Rattle.record.specs.declared.RowsAt.{RowsAt}
 use Rattle.record.specs.declared.Service.{Service}
 use Rattle.record.specs.declared.Service.the-variants as service
 use Rattle.record.specs.declared.TokensAt.{TokensAt}
 use Rattle.record.specs.declared.Body.the-variants as body
-use Rattle.record.specs.declared.Aid.{Aid}
-use Rattle.record.specs.declared.Tokens.{Tokens}
 use Rattle.record.specs.declared.RowAt.{RowAt}
 use Rattle.record.specs.declared.Took.the-variants.{Bytes}
+use Rattle.record.specs.declared.RowKind.{RowKind}
 use Rattle.record.specs.declared.Kind.{Kind}
-use Rattle.record.specs.declared.Kind.the-variants.{Load, Remove, AddService, RemoveService, AddCall, RemoveCall, AddGrant, RemoveGrant, AddNeed, RemoveNeed}
+use Rattle.record.specs.declared.Kind.the-variants.{Load, Remove, AddService, RemoveService, Row}
 use Rattle.record.proofs.Fronts.{took, valid-only}
-
--- a list of a sort, at a position
-abbrev pub At : Layout → Sort → ℕ → List ℕ → ListAt → Type 0
-At L k = Places (reader k) (listReader L k)
-
--- the change of one row, by the kind
-rowChange : ℕ → Row → Change
-rowChange k r =
-    cond (eqb k 5) (addCall r)
-    (cond (eqb k 6) (removeCall r)
-    (cond (eqb k 7) (addGrant r)
-    (cond (eqb k 8) (removeGrant r)
-    (cond (eqb k 9) (addNeed r) (removeNeed r)))))
-
-kinds-of : (s : List ℕ) (a : Aid) (t : Tokens) (b5 b6 b7 b8 b9 : Bool)
-    → kindOf s (cond b5 (AddCall a t) (cond b6 (RemoveCall a t) (cond b7 (AddGrant a t) (cond b8 (RemoveGrant a t) (cond b9 (AddNeed a t) (RemoveNeed a t))))))
-    ≡ cond b5 (addCall (rowIn s a t)) (cond b6 (removeCall (rowIn s a t)) (cond b7 (addGrant (rowIn s a t)) (cond b8 (removeGrant (rowIn s a t)) (cond b9 (addNeed (rowIn s a t)) (removeNeed (rowIn s a t))))))
-kinds-of s a t true b6 b7 b8 b9 = refl
-kinds-of s a t false true b7 b8 b9 = refl
-kinds-of s a t false false true b8 b9 = refl
-kinds-of s a t false false false true b9 = refl
-kinds-of s a t false false false false true = refl
-kinds-of s a t false false false false false = refl
-
-kinds-fit : (s : List ℕ) (a : Aid) (t : Tokens) (b5 b6 b7 b8 b9 : Bool) → AidFits s a
-    → KindFits s (cond b5 (AddCall a t) (cond b6 (RemoveCall a t) (cond b7 (AddGrant a t) (cond b8 (RemoveGrant a t) (cond b9 (AddNeed a t) (RemoveNeed a t))))))
-kinds-fit s a t true b6 b7 b8 b9 h = h
-kinds-fit s a t false true b7 b8 b9 h = h
-kinds-fit s a t false false true b8 b9 h = h
-kinds-fit s a t false false false true b9 h = h
-kinds-fit s a t false false false false true h = h
-kinds-fit s a t false false false false false h = h
 
 module _ (L : Layout) where
   -- the end of the record
@@ -109,32 +76,33 @@ module _ (L : Layout) where
   ends end s k f e true t = body-left s e (ltb-true end (length s) t)
   ends end s k f e false t = body-whole s k f e (ltb-false end (length s) t)
 
-  -- a load: four lists, one after another
+  -- a load: the services, and three lists of rows
   module _ (s : List ℕ) {at : ℕ} where
-    load-by : (p c g n : Placed) {at₂ at₃ at₄ end : ℕ} → At L sort.Service at s (record { list = p; next = at₂ }) → At L sort.Row at₂ s (record { list = c; next = at₃ })
-        → At L sort.Row at₃ s (record { list = g; next = at₄ }) → At L sort.Row at₄ s (record { list = n; next = end })
-        → Bodies L (aLoad L (drop at s)) s (loadBy (length s) end p c g n)
+    load-by : (p c g n : Placed) {end : ℕ} (hp : Places tokens (tokenList L) at s (record { list = p; next = end })) {last : ℕ}
+        → PlacesRows L end s (record { calls = c; grants = g; needs = n; next = last })
+        → Bodies L (aLoad L (drop at s)) s (loadBy (length s) last p c g n)
     unfolding aLoad
-    load-by placed.Malformed c g n hp hc hg hn = body-bad (rw (← (hp .same)))
-    load-by (placed.Found p) placed.Malformed g n hp hc hg hn = body-bad (rw (← (hp .same), ← (hc .same)))
-    load-by (placed.Found p) (placed.Found c) placed.Malformed n hp hc hg hn = body-bad (rw (← (hp .same), ← (hc .same), ← (hg .same)))
-    load-by (placed.Found p) (placed.Found c) (placed.Found g) placed.Malformed hp hc hg hn = body-bad (rw (← (hp .same), ← (hc .same), ← (hg .same), ← (hn .same)))
-    load-by (placed.Found p) (placed.Found c) (placed.Found g) (placed.Found n) {end = end} hp hc hg hn =
-        ends end s (Load p c g n) (hp .fits, hc .fits, hg .fits, hn .fits) (rw (← (hp .same), ← (hc .same), ← (hg .same), ← (hn .same))) (ltb end (length s)) refl
+    load-by placed.Malformed c g n hp h = body-bad (rw (← (hp .same)))
+    load-by (placed.Found p) placed.Malformed g n hp h = body-bad (rw (← (hp .same), ← (h .calls .same)))
+    load-by (placed.Found p) (placed.Found c) placed.Malformed n hp h = body-bad (rw (← (hp .same), ← (h .calls .same), ← (h .grants .same)))
+    load-by (placed.Found p) (placed.Found c) (placed.Found g) placed.Malformed hp h =
+        body-bad (rw (← (hp .same), ← (h .calls .same), ← (h .grants .same), ← (h .needs .same)))
+    load-by (placed.Found p) (placed.Found c) (placed.Found g) (placed.Found n) hp {last} h =
+        ends last s (Load (record { provides = p; calls = c; grants = g; needs = n })) (hp .fits, h .calls .fits, h .grants .fits, h .needs .fits)
+        (rw (← (hp .same), ← (h .calls .same), ← (h .grants .same), ← (h .needs .same))) (ltb last (length s)) refl
 
-    pub load-is : (p c g n : ListAt) → At L sort.Service at s p → At L sort.Row (p .next) s c → At L sort.Row (c .next) s g → At L sort.Row (g .next) s n
-        → Bodies L (aLoad L (drop at s)) s (loadOf (length s) p c g n)
-    load-is p c g n hp hc hg hn = load-by (p .list) (c .list) (g .list) (n .list) hp hc hg hn
+    pub load-is : (p : ListAt) (r : RowsAt) → Places tokens (tokenList L) at s p → PlacesRows L (p .next) s r → Bodies L (aLoad L (drop at s)) s (loadOf (length s) p r)
+    load-is p r hp h = load-by (p .list) (r .calls) (r .grants) (r .needs) hp h
 
     -- a service and its callers
-    service-by : (t : Service) (l : Placed) {at₂ end : ℕ} → Served L at s (record { service = t; next = at₂ }) → At L sort.Caller at₂ s (record { list = l; next = end })
-        → Bodies L (aService L (drop at s)) s (serviceBy (length s) end t l)
+    service-by : (t : Service) (l : Placed) {end last : ℕ} → Served L at s (record { service = t; next = end })
+        → Places aid (callerList L) end s (record { list = l; next = last }) → Bodies L (aService L (drop at s)) s (serviceBy (length s) last t l)
     unfolding aService
     service-by service.Malformed l ht hl = body-bad (rw (← (ht .same)))
     service-by (service.Found t) placed.Malformed ht hl = body-bad (rw (← (ht .same), ← (hl .same)))
-    service-by (service.Found t) (placed.Found l) {end = end} ht hl = ends end s (AddService t l) (hl .fits) (rw (← (ht .same), ← (hl .same))) (ltb end (length s)) refl
+    service-by (service.Found t) (placed.Found l) {last = last} ht hl = ends last s (AddService t l) (hl .fits) (rw (← (ht .same), ← (hl .same))) (ltb last (length s)) refl
 
-    pub service-is : (t : TokensAt) (l : ListAt) → Served L at s t → At L sort.Caller (t .next) s l → Bodies L (aService L (drop at s)) s (serviceOf (length s) t l)
+    pub service-is : (t : TokensAt) (l : ListAt) → Served L at s t → Places aid (callerList L) (t .next) s l → Bodies L (aService L (drop at s)) s (serviceOf (length s) t l)
     service-is t l ht hl = service-by (t .service) (l .list) ht hl
 
     -- a service alone
@@ -155,8 +123,8 @@ module _ (L : Layout) where
         alone-good m = body-whole s (RemoveService x) tt alone-got m
 
   -- one row
-  change-row : (k : ℕ) (t : List ℕ) → 5 ≤ k → k ≤ 10 → change L k t ≡ andThen (validRow L t) (λ r u. got (rowChange k r) u)
-  unfolding change rowChange
+  change-row : (k : ℕ) (t : List ℕ) → 5 ≤ k → k ≤ 10 → change L k t ≡ andThen (validRow L t) (λ r u. got (changeOf (rowKind k) r) u)
+  unfolding change rowKind
   change-row zero t l h = absurd (omega arith)
   change-row (suc zero) t l h = absurd (omega arith)
   change-row (suc (suc zero)) t l h = absurd (omega arith)
@@ -175,16 +143,11 @@ module _ (L : Layout) where
     row-bad e = body-bad (rw (change-row k (drop at s) l h, e))
 
     module _ {n : ℕ} (t : Takes (validRow L) (drop at s) (Bytes n)) {x : RowAt} (w : RowStands at s x) where
-      row-got : change L k (drop at s) ≡ got (rowChange k (rowIn s (x .other) (x .tokens))) (drop (x .next) s)
+      row-got : change L k (drop at s) ≡ got (changeOf (rowKind k) (rowIn s (x .row))) (drop (x .next) s)
       row-got = rw (change-row k (drop at s) l h, took t .1 ∙ sym (valid-only L sort.Row _ _ _ (took t .1)), w .same)
 
       pub row-left : x .next < length s → Bodies L (change L k (drop at s)) s body.Malformed
       row-left m = body-left s row-got m
 
-      pub row-good : {r : Kind} → r ≡ rowKind k (x .other) (x .tokens) → length s ≤ x .next → Bodies L (change L k (drop at s)) s (body.Whole r)
-      unfolding rowKind rowChange
-      row-good {r} q m =
-          let b = kinds-of s (x .other) (x .tokens) (eqb k 5) (eqb k 6) (eqb k 7) (eqb k 8) (eqb k 9) in
-          rw q (body-whole s (rowKind k (x .other) (x .tokens))
-          (kinds-fit s (x .other) (x .tokens) (eqb k 5) (eqb k 6) (eqb k 7) (eqb k 8) (eqb k 9) (w .other))
-          (row-got ∙ ap (λ (c : Change). got c (drop (x .next) s)) (sym b)) m)
+      pub row-good : {r : RowKind} → r ≡ rowKind k → length s ≤ x .next → Bodies L (change L k (drop at s)) s (body.Whole (Row r (x .row)))
+      row-good q m = rw q (body-whole s (Row (rowKind k) (x .row)) (w .other) row-got m)

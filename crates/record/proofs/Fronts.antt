@@ -17,7 +17,7 @@ use Rattle.policy.specs.Record.{Got, got, bad, Reader, andThen, _>>=_, given, d
 use Rattle.geometry.specs.declared.Card.{Card}
 use Rattle.geometry.specs.declared.Card.the-variants.{Small}
 use Rattle.geometry.specs.Geometry.{layoutOf}
-use Rattle.record.specs.Meaning.{tokAt, after, valueOf, Takes, TokensTaken, reader, validReader, widthOf, Counts, Lists}
+use Rattle.record.specs.Meaning.{tokAt, after, valueOf, Takes, TokensTaken, reader, validReader, widthOf, Counts, Finds}
 use Rattle.record.specs.declared.Sort.{Sort}
 use Rattle.record.specs.declared.Sort.the-variants as sort
 use Rattle.record.specs.declared.Took.{Took}
@@ -290,10 +290,10 @@ count-one (b ∷ s) h = record { fits = omega arith; same = rw (zero-add b) }
 
 -- a count, and as many things: v reads them, and p says what they are
 module _ {A : Type 0} (v p : Reader A) (w most : ℕ) where
-  lists-bad : {s : List ℕ} → counted w most v s ≡ bad → Lists p (counted w most v) s listed.Malformed
+  lists-bad : {s : List ℕ} → counted w most v s ≡ bad → Finds p (counted w most v) s listed.Malformed
   lists-bad e = record { fits = tt; same = sym e }
 
-  pub list-none : {s : List ℕ} → Counts w s count.Malformed → Lists p (counted w most v) s listed.Malformed
+  pub list-none : {s : List ℕ} → Counts w s count.Malformed → Finds p (counted w most v) s listed.Malformed
   unfolding counted
   list-none h = lists-bad (rw (← (h .same)))
 
@@ -302,13 +302,13 @@ module _ {A : Type 0} (v p : Reader A) (w most : ℕ) where
     unfolding counted
     counted-some = rw (← (h .same)) (given-test (leb n most) (many v n) (drop k s))
 
-    pub list-over : most < n → Lists p (counted w most v) s listed.Malformed
+    pub list-over : most < n → Finds p (counted w most v) s listed.Malformed
     list-over l = lists-bad (counted-some ∙ simp (lt-leb n most l))
 
-    pub list-bad : Takes (many v n) (drop k s) Malformed → Lists p (counted w most v) s listed.Malformed
+    pub list-bad : Takes (many v n) (drop k s) Malformed → Finds p (counted w most v) s listed.Malformed
     list-bad t = lists-bad (counted-some ∙ leb-bad n most _ (λ l. took-bad t))
 
-    pub list-good : {m : ℕ} → ReadsOnly v p → n ≤ most → Takes (many v n) (drop k s) (Bytes m) → Lists p (counted w most v) s (listed.Found k n (k + m))
+    pub list-good : {m : ℕ} → ReadsOnly v p → n ≤ most → Takes (many v n) (drop k s) (Bytes m) → Finds p (counted w most v) s (listed.Found k n (k + m))
     list-good {m} only l t =
         let e = took t .1 in
         let f : many p n (drop k s) ≡ got (took t .0) (drop m (drop k s)) = many-only only n _ _ _ e in

@@ -10,17 +10,19 @@ use Rattle.policy.specs.Record.{Reader, load, notOwn, proper}
 use Rattle.geometry.specs.declared.Card.{Card}
 use Rattle.geometry.specs.Geometry.{layoutOf}
 use Rattle.geometry.proofs.Bounds.{early}
-use Rattle.record.specs.Meaning.{aidIn, itemsIn, Uncons}
-use Rattle.record.specs.declared.Aid.{Aid}
+use Rattle.record.specs.Meaning.{itemsIn, loadIn, changeOf, Uncons}
 use Rattle.record.specs.declared.Items.{Items}
+use Rattle.record.specs.declared.Lists.{Lists}
+use Rattle.record.specs.declared.RowKind.{RowKind}
+use Rattle.record.specs.declared.RowKind.the-variants.{AddCall, RemoveCall, AddGrant, RemoveGrant, AddNeed, RemoveNeed}
 use Rattle.record.proofs.Loops.{Todo, todo-cons, todo-next}
 
 -- a row or a caller whose AID is the own
-abbrev pub ownRow : List ℕ → Aid → Row → Bool
-ownRow s own x = eqAid (x .aid) (aidIn s own)
+abbrev pub ownRow : Bytes → Row → Bool
+ownRow own x = eqAid (x .aid) own
 
-abbrev pub ownAid : List ℕ → Aid → Bytes → Bool
-ownAid s own x = eqAid x (aidIn s own)
+abbrev pub ownAid : Bytes → Bytes → Bool
+ownAid own x = eqAid x own
 
 -- no thing of a list is the own, and none stands twice
 abbrev pub others : {A : Type 0} → (A → Bool) → (A → A → Bool) → List A → Bool
@@ -48,7 +50,7 @@ module _ {A : Type 0} {p : Reader A} {s : List ℕ} {todo rest : Items} (own : A
 
 -- ---- the lists of a load, in the order of the code
 arranged : (dp dc dg dn oc og on x : Bool)
-    → ((dp && dc && dg && dn) && (oc && og && on) && (x && true)) ≡ (dp && ((oc && dc) && ((og && dg) && ((on && dn) && x))))
+    → ((dp && dc && dg && dn) && (oc && og && on) && (x && true)) ≡ ((((dp && (oc && dc)) && (og && dg)) && (on && dn)) && x)
 arranged false dc dg dn oc og on x = refl
 arranged true false dg dn false og on x = refl
 arranged true false dg dn true og on x = refl
@@ -67,17 +69,18 @@ arranged true true true true true true true x = and-true x
 -- R-2: a grant of a service that is not provided is proper
 pub load-is : (a : Bytes) (p : List Tok) (c g n : List Row) {rp rc rg rn x : Bool}
     → rp ≡ distinct eqTok p → rc ≡ (notOwn a c && distinct eqRow c) → rg ≡ (notOwn a g && distinct eqRow g) → rn ≡ (notOwn a n && distinct eqRow n)
-    → x ≡ every (λ r. hasRow r c) n → (k : Card) → (rp && (rc && (rg && (rn && x)))) ≡ proper (layoutOf k) a (load p c g n)
+    → x ≡ every (λ r. hasRow r c) n → (k : Card) → ((((rp && rc) && rg) && rn) && x) ≡ proper (layoutOf k) a (load p c g n)
 unfolding proper
 load-is a p c g n hp hc hg hn hx k =
     rw (early k, hp, hc, hg, hn, hx)
     (sym (arranged (distinct eqTok p) (distinct eqRow c) (distinct eqRow g) (distinct eqRow n) (notOwn a c) (notOwn a g) (notOwn a n) (every (λ r. hasRow r c) n)))
 
--- an answer whose negation was tested
-pub yes : (r : Bool) {b : Bool} → r ≡ b → not r ≡ false → true ≡ b
-yes true q e = q
-yes false q e = absurd (let z : _≡_ {A = ℕ} 0 1 = cc in omega arith)
-
-pub no : (r : Bool) {b : Bool} → r ≡ b → not r ≡ true → false ≡ b
-no true q e = absurd (let z : _≡_ {A = ℕ} 0 1 = cc in omega arith)
-no false q e = q
+-- ---- a row whose other end is b
+pub row-is : (a b : Bytes) {r : Bool} → r ≡ eqAid b a → (k : Card) (x : RowKind) (t : Row) → t .aid ≡ b → not r ≡ proper (layoutOf k) a (changeOf x t)
+unfolding proper
+row-is a b q k AddCall t e = rw (q, ← e)
+row-is a b q k RemoveCall t e = rw (q, ← e)
+row-is a b q k AddGrant t e = rw (q, ← e)
+row-is a b q k RemoveGrant t e = rw (q, ← e)
+row-is a b q k AddNeed t e = rw (q, ← e)
+row-is a b q k RemoveNeed t e = rw (q, ← e)

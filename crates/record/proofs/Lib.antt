@@ -8,4 +8,5 @@ pub mod Alike
 pub mod Improper
 mod Answers
 mod Held
-mod Listing
+mod Thin
+mod Moving

@@ -11,27 +11,28 @@ use borrow.Author.Tests.{le-leb}
 use Rattle.policy.specs.Contract.{Tok, validAid}
 use Rattle.policy.specs.Layout.{Layout}
 use Rattle.policy.specs.Record.{Got, got, bad, Reader, andThen, aid, tokens, rowOf, aRow, validTokens}
-use Rattle.record.specs.Meaning.{Good, Takes, Lists, Places, Served, AidFits, aidIn, tokOf, tokAt}
+use Rattle.geometry.specs.Geometry.{tokOf}
+use Rattle.geometry.specs.declared.Tokens.{Tokens}
+use Rattle.record.specs.Meaning.{Good, Takes, Finds, Places, Served, AidFits, aidIn, tokAt}
 use Rattle.record.specs.declared.Took.the-variants.{Bytes, Malformed}
 use Rattle.record.specs.declared.Listed.{Listed}
 use Rattle.record.specs.declared.Listed.the-variants as listed
 use Rattle.record.specs.declared.Placed.the-variants as placed
 use Rattle.record.specs.declared.Service.the-variants as service
-use Rattle.record.specs.declared.Tokens.{Tokens}
 use Rattle.record.specs.declared.Aid.{Aid}
 use Rattle.record.proofs.Fronts.{rest, AidFront, aid-fits, aid-good, TokensFront, tokens-good, tokens-fit, ValidFront, valid-good, took-tokens, took-bad}
 
 -- a list that list_end found in the part from at on
 module _ {A : Type 0} (p : Reader A) (q : Reader (List A)) (s : List ℕ) (at : ℕ) where
-  pub placed-bad : {r : Listed} → at ≤ length s → r ≡ listed.Malformed → Lists p q (take (length s - at) (drop at s)) r → Places p q at s (record { list = placed.Malformed; next = at })
+  pub placed-bad : {r : Listed} → at ≤ length s → r ≡ listed.Malformed → Finds p q (take (length s - at) (drop at s)) r → Places p q at s (record { list = placed.Malformed; next = at })
   placed-bad l e h =
-      let g : Lists p q (drop at s) listed.Malformed = rw (e, rest at s) at h in
+      let g : Finds p q (drop at s) listed.Malformed = rw (e, rest at s) at h in
       record { inside = l; fits = tt; same = g .same }
 
-  pub list-found : {r : Listed} {b c n : ℕ} → r ≡ listed.Found b c n → Lists p q (take (length s - at) (drop at s)) r → Lists p q (drop at s) (listed.Found b c n)
+  pub list-found : {r : Listed} {b c n : ℕ} → r ≡ listed.Found b c n → Finds p q (take (length s - at) (drop at s)) r → Finds p q (drop at s) (listed.Found b c n)
   list-found e h = rw (e, rest at s) at h
 
-  pub placed-good : {b c n : ℕ} → at ≤ length s → Lists p q (drop at s) (listed.Found b c n)
+  pub placed-good : {b c n : ℕ} → at ≤ length s → Finds p q (drop at s) (listed.Found b c n)
       → Places p q at s (record { list = placed.Found (record { at = at + b; count = c }); next = at + n })
   placed-good {b} {c} {n} l g =
       record {

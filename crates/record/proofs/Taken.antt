@@ -6,8 +6,9 @@ use native.Mathlib.Omega.{arith}
 use native.Mathlib.Numerals.{sub-one}
 use lib.ListN.{length, drop, getD, length-drop}
 use Rattle.policy.specs.Record.{Got, got, bad, Reader, andThen, aid, tokens, aRow, many}
-use Rattle.record.specs.Meaning.{Good, valueOf, itemsOf, Stands, RowStands, Uncons, UnconsRow, UnconsAid, UnconsTokens, tokOf, tokAt}
-use Rattle.record.specs.declared.Tokens.{Tokens}
+use Rattle.geometry.specs.Geometry.{tokOf}
+use Rattle.geometry.specs.declared.Tokens.{Tokens}
+use Rattle.record.specs.Meaning.{Good, valueOf, itemsOf, Stands, RowStands, Uncons, UnconsRow, UnconsAid, UnconsTokens, tokAt}
 use Rattle.record.specs.declared.Items.{Items}
 use Rattle.record.specs.declared.RowAt.{RowAt}
 use Rattle.record.proofs.Fronts.{TokensFront, tokens-fit}
@@ -42,7 +43,7 @@ uncons {p = p} {s} {i} h l n e =
     record { stands = record { inside = n; good = m .0 }; fewer = omega arith; same = m .1 }
 
 pub uncons-row : {s : List ℕ} {i : Items} {x : RowAt} → Stands aRow s i → 0 < i .count → RowStands (i .at) s x
-    → UnconsRow s i (record { other = x .other; tokens = x .tokens; rest = record { at = x .next; count = i .count - 1 } })
+    → UnconsRow s i (record { row = x .row; rest = record { at = x .next; count = i .count - 1 } })
 uncons-row h l w = record { other = w .other; split = uncons h l (w .inside) (w .same) }
 
 pub uncons-aid : {s : List ℕ} {i : Items} → Stands aid s i → 0 < i .count

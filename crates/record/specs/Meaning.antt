@@ -6,10 +6,13 @@ use mathlib.Core.List.{List, [], _∷_}
 use mathlib.Core.Option.{Option, none, some}
 use lib.Dec.{eqb, ltb}
 use lib.ListN.{length, take, drop, getD}
-use Rattle.policy.specs.Contract.{Aid as Bytes, Tok, Row}
+use Rattle.policy.specs.Contract.{Aid as Bytes, Tok, Row, Contract}
 use Rattle.policy.specs.Layout.{Layout}
-use Rattle.policy.specs.Record.{Got, got, bad, Reader, number, aid, tokens, aRow, validTokens, validRow, many, counted, whole, parse}
-use Rattle.policy.specs.Record.{Change, load, remove, addService, removeService, addCall, removeCall, addGrant, removeGrant, addNeed, removeNeed, Request}
+use Rattle.policy.specs.Record.{Got, got, bad, Reader, number, aid, tokens, aRow, validTokens, validRow, many, counted, rowList}
+use Rattle.policy.specs.Record.{Change, load, remove, addService, removeService, whole, Request, parse}
+use Rattle.policy.specs.Record.{addCall, removeCall, addGrant, removeGrant, addNeed, removeNeed}
+use Rattle.geometry.specs.Geometry.{tokOf}
+use Rattle.geometry.specs.declared.Tokens.{Tokens}
 use Rattle.record.specs.declared.Took.{Took}
 use Rattle.record.specs.declared.Took.the-variants as took
 use Rattle.record.specs.declared.Sort.{Sort}
@@ -18,11 +21,14 @@ use Rattle.record.specs.declared.Count.{Count}
 use Rattle.record.specs.declared.Count.the-variants as count
 use Rattle.record.specs.declared.Listed.{Listed}
 use Rattle.record.specs.declared.Listed.the-variants as listed
-use Rattle.record.specs.declared.Tokens.{Tokens}
 use Rattle.record.specs.declared.Aid.{Aid}
+use Rattle.record.specs.declared.Row.{Row as RowRead}
 use Rattle.record.specs.declared.Items.{Items}
+use Rattle.record.specs.declared.Lists.{Lists}
+use Rattle.record.specs.declared.RowKind.{RowKind}
+use Rattle.record.specs.declared.RowKind.the-variants.{AddCall, RemoveCall, AddGrant, RemoveGrant, AddNeed, RemoveNeed}
 use Rattle.record.specs.declared.Kind.{Kind}
-use Rattle.record.specs.declared.Kind.the-variants.{Load, Remove, AddService, RemoveService, AddCall, RemoveCall, AddGrant, RemoveGrant, AddNeed, RemoveNeed}
+use Rattle.record.specs.declared.Kind.the-variants as kind
 use Rattle.record.specs.declared.Body.{Body}
 use Rattle.record.specs.declared.Body.the-variants as body
 use Rattle.record.specs.declared.Read.{Read}
@@ -31,6 +37,7 @@ use Rattle.record.specs.declared.Record.{Record}
 use Rattle.record.specs.declared.Placed.{Placed}
 use Rattle.record.specs.declared.Placed.the-variants as placed
 use Rattle.record.specs.declared.ListAt.{ListAt}
+use Rattle.record.specs.declared.RowsAt.{RowsAt}
 use Rattle.record.specs.declared.Service.{Service}
 use Rattle.record.specs.declared.Service.the-variants as service
 use Rattle.record.specs.declared.TokensAt.{TokensAt}
@@ -84,7 +91,7 @@ module _ (L : Layout) where
     pub takes : Takes (validTokens L) s r
     pub in-range : TookInRange s r
 
--- ---- lists: what each sort holds, what its things read as, their reader on a card, the bytes of its count, and the most things of it
+-- ---- lists: what each sort holds, what its things read as, their reader on a card, the bytes of its count, the most things of it
 abbrev pub Item : Sort → Type 0
 Item sort.Service = Tok
 Item sort.Caller = Bytes
@@ -138,14 +145,11 @@ ListFits p s (listed.Found b c n) = (b ≤ n) × (n ≤ length s) × Good (many 
 ListFits p s listed.Malformed = Unit {0}
 
 -- r is the list that q reads at the front of s, of things that p reads
-pub record Lists {A : Type 0} (p : Reader A) (q : Reader (List A)) (s : List ℕ) (r : Listed) : Type 0 where
+pub record Finds {A : Type 0} (p : Reader A) (q : Reader (List A)) (s : List ℕ) (r : Listed) : Type 0 where
   pub fits : ListFits p s r
   pub same : listOf p s r ≡ q s
 
 -- ---- what an answer names in the record s: tokens, an AID, a row, the things of a list, a change
-abbrev pub tokOf : Tokens → Tok
-tokOf t = record { itf = t .interface; mth = t .method }
-
 -- the tokens at a position of s
 abbrev pub tokAt : List ℕ → ℕ → Tok
 tokAt s at = record { itf = getD s at 0; mth = getD s (at + 1) 0 }
@@ -153,23 +157,41 @@ tokAt s at = record { itf = getD s at 0; mth = getD s (at + 1) 0 }
 abbrev pub aidIn : List ℕ → Aid → Bytes
 aidIn s a = take (a .len) (drop (a .at) s)
 
-abbrev pub rowIn : List ℕ → Aid → Tokens → Row
-rowIn s a t = record { aid = aidIn s a; tok = tokOf t }
+abbrev pub rowIn : List ℕ → RowRead → Row
+rowIn s r = record { aid = aidIn s (r .other); tok = tokOf (r .tokens) }
 
 abbrev pub itemsIn : {A : Type 0} → Reader A → List ℕ → Items → List A
 itemsIn p s i = itemsOf p (i .count) (drop (i .at) s)
 
+-- the four lists of a load, as a change, and as the contract of the package with the AID a
+abbrev pub loadIn : List ℕ → Lists → Change
+loadIn s l = load (itemsIn tokens s (l .provides)) (itemsIn aRow s (l .calls)) (itemsIn aRow s (l .grants)) (itemsIn aRow s (l .needs))
+
+abbrev pub contractIn : List ℕ → Bytes → Lists → Contract
+contractIn s a l =
+    record {
+      aid = a;
+      provides = itemsIn tokens s (l .provides);
+      calls = itemsIn aRow s (l .calls);
+      grants = itemsIn aRow s (l .grants);
+      needs = itemsIn aRow s (l .needs);
+    }
+
+-- the change of one row
+abbrev pub changeOf : RowKind → Row → Change
+changeOf AddCall r = addCall r
+changeOf RemoveCall r = removeCall r
+changeOf AddGrant r = addGrant r
+changeOf RemoveGrant r = removeGrant r
+changeOf AddNeed r = addNeed r
+changeOf RemoveNeed r = removeNeed r
+
 abbrev pub kindOf : List ℕ → Kind → Change
-kindOf s (Load p c g n) = load (itemsIn tokens s p) (itemsIn aRow s c) (itemsIn aRow s g) (itemsIn aRow s n)
-kindOf s Remove = remove
-kindOf s (AddService t l) = addService (tokOf t) (itemsIn aid s l)
-kindOf s (RemoveService t) = removeService (tokOf t)
-kindOf s (AddCall a t) = addCall (rowIn s a t)
-kindOf s (RemoveCall a t) = removeCall (rowIn s a t)
-kindOf s (AddGrant a t) = addGrant (rowIn s a t)
-kindOf s (RemoveGrant a t) = removeGrant (rowIn s a t)
-kindOf s (AddNeed a t) = addNeed (rowIn s a t)
-kindOf s (RemoveNeed a t) = removeNeed (rowIn s a t)
+kindOf s (kind.Load l) = loadIn s l
+kindOf s kind.Remove = remove
+kindOf s (kind.AddService t l) = addService (tokOf t) (itemsIn aid s l)
+kindOf s (kind.RemoveService t) = removeService (tokOf t)
+kindOf s (kind.Row k r) = changeOf k (rowIn s r)
 
 -- the positions are in the record, an AID has 5 to 16 bytes, and the lists stand where they are said to
 pub record AidFits (s : List ℕ) (a : Aid) : Type 0 where
@@ -181,17 +203,15 @@ pub record Stands {A : Type 0} (p : Reader A) (s : List ℕ) (i : Items) : Type 
   pub inside : i .at ≤ length s
   pub good : Good (many p (i .count) (drop (i .at) s))
 
+abbrev pub ListsStand : List ℕ → Lists → Type 0
+ListsStand s l = Stands tokens s (l .provides) × Stands aRow s (l .calls) × Stands aRow s (l .grants) × Stands aRow s (l .needs)
+
 abbrev pub KindFits : List ℕ → Kind → Type 0
-KindFits s (Load p c g n) = Stands tokens s p × Stands aRow s c × Stands aRow s g × Stands aRow s n
-KindFits s Remove = Unit {0}
-KindFits s (AddService t l) = Stands aid s l
-KindFits s (RemoveService t) = Unit {0}
-KindFits s (AddCall a t) = AidFits s a
-KindFits s (RemoveCall a t) = AidFits s a
-KindFits s (AddGrant a t) = AidFits s a
-KindFits s (RemoveGrant a t) = AidFits s a
-KindFits s (AddNeed a t) = AidFits s a
-KindFits s (RemoveNeed a t) = AidFits s a
+KindFits s (kind.Load l) = ListsStand s l
+KindFits s kind.Remove = Unit {0}
+KindFits s (kind.AddService t l) = Stands aid s l
+KindFits s (kind.RemoveService t) = Unit {0}
+KindFits s (kind.Row k r) = AidFits s (r .other)
 
 -- ---- parts at a position of the record s
 abbrev pub placedOf : {A : Type 0} → Reader A → List ℕ → ℕ → Placed → Got (List A)
@@ -207,6 +227,14 @@ pub record Places {A : Type 0} (p : Reader A) (q : Reader (List A)) (at : ℕ) (
   pub inside : r .next ≤ length s
   pub fits : PlacedFits p s (r .list)
   pub same : placedOf p s (r .next) (r .list) ≡ q (drop at s)
+
+-- r is three lists of rows from a position on, each after the one before it, and the position after them
+pub record PlacesRows (L : Layout) (at : ℕ) (s : List ℕ) (r : RowsAt) : Type 0 where
+  pub second : ℕ
+  pub third : ℕ
+  pub calls : Places aRow (rowList L) at s (record { list = r .calls; next = second })
+  pub grants : Places aRow (rowList L) second s (record { list = r .grants; next = third })
+  pub needs : Places aRow (rowList L) third s (record { list = r .needs; next = r .next })
 
 abbrev pub servedOf : List ℕ → ℕ → Service → Got Tok
 servedOf s n (service.Found t) = got (tokOf t) (drop n s)
@@ -227,8 +255,8 @@ module _ (L : Layout) where
 -- r is the row at a position
 pub record RowStands (at : ℕ) (s : List ℕ) (r : RowAt) : Type 0 where
   pub inside : r .next ≤ length s
-  pub other : AidFits s (r .other)
-  pub same : aRow (drop at s) ≡ got (rowIn s (r .other) (r .tokens)) (drop (r .next) s)
+  pub other : AidFits s (r .row .other)
+  pub same : aRow (drop at s) ≡ got (rowIn s (r .row)) (drop (r .next) s)
 
 -- ---- the first of the things of a list, and the list of those after it
 pub record Uncons {A : Type 0} (p : Reader A) (s : List ℕ) (items : Items) (x : A) (rest : Items) : Type 0 where
@@ -237,8 +265,8 @@ pub record Uncons {A : Type 0} (p : Reader A) (s : List ℕ) (items : Items) (x 
   pub same : itemsIn p s items ≡ x ∷ itemsIn p s rest
 
 pub record UnconsRow (s : List ℕ) (items : Items) (r : RowStep) : Type 0 where
-  pub other : AidFits s (r .other)
-  pub split : Uncons aRow s items (rowIn s (r .other) (r .tokens)) (r .rest)
+  pub other : AidFits s (r .row .other)
+  pub split : Uncons aRow s items (rowIn s (r .row)) (r .rest)
 
 pub record UnconsAid (s : List ℕ) (items : Items) (r : AidStep) : Type 0 where
   pub fits : AidFits s (r .aid)
@@ -248,14 +276,14 @@ abbrev pub UnconsTokens : List ℕ → Items → TokensStep → Type 0
 UnconsTokens s items r = Uncons tokens s items (tokOf (r .tokens)) (r .rest)
 
 -- ---- the change, and the whole record
--- the kind of a record whose change is of one row, and the change
-unfoldable pub rowKind : ℕ → Aid → Tokens → Kind
-rowKind k a t =
-    cond (eqb k 5) (AddCall a t)
-    (cond (eqb k 6) (RemoveCall a t)
-    (cond (eqb k 7) (AddGrant a t)
-    (cond (eqb k 8) (RemoveGrant a t)
-    (cond (eqb k 9) (AddNeed a t) (RemoveNeed a t)))))
+-- what a record of one row does with it, by its kind byte
+unfoldable pub rowKind : ℕ → RowKind
+rowKind k =
+    cond (eqb k 5) AddCall
+    (cond (eqb k 6) RemoveCall
+    (cond (eqb k 7) AddGrant
+    (cond (eqb k 8) RemoveGrant
+    (cond (eqb k 9) AddNeed RemoveNeed))))
 
 abbrev pub bodyOf : List ℕ → Body → Option Change
 bodyOf s (body.Whole k) = some (kindOf s k)
@@ -274,19 +302,20 @@ pub record Bodies (L : Layout) (g : Got Change) (s : List ℕ) (r : Body) : Type
 abbrev pub endsAt : ℕ → ℕ → Kind → Body
 endsAt len end k = cond (ltb end len) body.Malformed (body.Whole k)
 
--- four lists, each read after the one before it, as a load, and a service and its callers; Malformed where one is, or bytes are left over
+-- a load's lists, and a service and its callers, each read after the one before it; Malformed where one is, or bytes are left over
 abbrev pub loadBy : ℕ → ℕ → Placed → Placed → Placed → Placed → Body
-loadBy len end (placed.Found p) (placed.Found c) (placed.Found g) (placed.Found n) = endsAt len end (Load p c g n)
+loadBy len end (placed.Found p) (placed.Found c) (placed.Found g) (placed.Found n) =
+    endsAt len end (kind.Load (record { provides = p; calls = c; grants = g; needs = n }))
 loadBy len end (placed.Found p) (placed.Found c) (placed.Found g) placed.Malformed = body.Malformed
 loadBy len end (placed.Found p) (placed.Found c) placed.Malformed n = body.Malformed
 loadBy len end (placed.Found p) placed.Malformed g n = body.Malformed
 loadBy len end placed.Malformed c g n = body.Malformed
 
-abbrev pub loadOf : ℕ → ListAt → ListAt → ListAt → ListAt → Body
-loadOf len p c g n = loadBy len (n .next) (p .list) (c .list) (g .list) (n .list)
+abbrev pub loadOf : ℕ → ListAt → RowsAt → Body
+loadOf len p r = loadBy len (r .next) (p .list) (r .calls) (r .grants) (r .needs)
 
 abbrev pub serviceBy : ℕ → ℕ → Service → Placed → Body
-serviceBy len end (service.Found t) (placed.Found l) = endsAt len end (AddService t l)
+serviceBy len end (service.Found t) (placed.Found l) = endsAt len end (kind.AddService t l)
 serviceBy len end (service.Found t) placed.Malformed = body.Malformed
 serviceBy len end service.Malformed l = body.Malformed
 

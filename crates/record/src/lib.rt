@@ -2,10 +2,13 @@
 ghost use mathlib.Core.Path.{_≡_};
 ghost use Prim.Native.Nat.{_+_, _-_, _≤_, _<_};
 ghost use lib.ListN.{length, drop};
-ghost use Rattle.policy.specs.Record.{aid, aRow, validRow, many, change, firstAid};
-ghost use Rattle.geometry.specs.Geometry.{layoutOf};
-ghost use Rattle.record.specs.Meaning.{AidFits, aidIn, Takes, TokensTaken, reader, validReader, widthOf, mostOf, listReader, Counts, Lists, Places, Served, Good, RowStands, tokOf, tokAt, Bodies, loadOf, serviceOf, rowKind, Parses};
+ghost use Rattle.policy.specs.Record.{aid, tokens, aRow, validRow, many, tokenList, callerList, change, firstAid};
+ghost use Rattle.geometry.specs.Geometry.{layoutOf, tokOf};
+ghost use Rattle.record.specs.Meaning.{Takes, TokensTaken, reader, validReader, widthOf, mostOf, listReader, Counts, Finds};
+ghost use Rattle.record.specs.Meaning.{Places, PlacesRows, Served, tokAt, Good, RowStands, AidFits, aidIn};
+ghost use Rattle.record.specs.Meaning.{Bodies, loadOf, serviceOf, rowKind, Parses};
 use geometry::Card;
+use geometry::Tokens;
 
 pub mod proper;
 pub mod reader;
@@ -41,16 +44,16 @@ pub enum Listed {
     Malformed,
 }
 
-// The tokens of a service.
-pub struct Tokens {
-    pub interface: u8,
-    pub method: u8,
-}
-
 // The bytes of an AID in the record.
 pub struct Aid {
     pub at: usize,
     pub len: usize,
+}
+
+// A row: the other end's AID, and the tokens of a service.
+pub struct Row {
+    pub other: Aid,
+    pub tokens: Tokens,
 }
 
 // The things of a list: where the first starts, and how many there are.
@@ -59,23 +62,31 @@ pub struct Items {
     pub count: usize,
 }
 
+// The four lists of a load.
+pub struct Lists {
+    pub provides: Items,
+    pub calls: Items,
+    pub grants: Items,
+    pub needs: Items,
+}
+
+// What a record of one row does with it: the kinds from 5 to 10.
+pub enum RowKind {
+    AddCall,
+    RemoveCall,
+    AddGrant,
+    RemoveGrant,
+    AddNeed,
+    RemoveNeed,
+}
+
 // What follows the first AID, for the kinds from 1 to 10.
 pub enum Kind {
-    Load {
-        provides: Items,
-        calls: Items,
-        grants: Items,
-        needs: Items,
-    },
+    Load(Lists),
     Remove,
     AddService(Tokens, Items),
     RemoveService(Tokens),
-    AddCall(Aid, Tokens),
-    RemoveCall(Aid, Tokens),
-    AddGrant(Aid, Tokens),
-    RemoveGrant(Aid, Tokens),
-    AddNeed(Aid, Tokens),
-    RemoveNeed(Aid, Tokens),
+    Row(RowKind, Row),
 }
 
 // A record: the first AID, and the change of its contract.
@@ -108,6 +119,14 @@ pub struct ListAt {
     pub next: usize,
 }
 
+// Three lists of rows, each after the one before it, and the position after them.
+pub struct RowsAt {
+    pub calls: Placed,
+    pub grants: Placed,
+    pub needs: Placed,
+    pub next: usize,
+}
+
 // The tokens of a service, or that they are malformed.
 pub enum Service {
     Found(Tokens),
@@ -120,10 +139,9 @@ pub struct TokensAt {
     pub next: usize,
 }
 
-// A row at a position: the other end's AID, the tokens, and the position after it.
+// A row at a position, and the position after it.
 pub struct RowAt {
-    pub other: Aid,
-    pub tokens: Tokens,
+    pub row: Row,
     pub next: usize,
 }
 
@@ -231,7 +249,7 @@ fn most(c: Card, sort: Sort) -> usize
 
 // A list: a count, at most as high as the card has it, and as many things.
 fn list_end(part: &[u8], c: Card, sort: Sort) -> Listed
-    ensures { λ r. ⌜ Lists (reader sort) (listReader (layoutOf c) sort) (now (part .entry)) r ⌝ }
+    ensures { λ r. ⌜ Finds (reader sort) (listReader (layoutOf c) sort) (now (part .entry)) r ⌝ }
 {
     let Count::Found { count, size: start } = read_count(part, c, sort) else {
         return Listed::Malformed;
@@ -263,6 +281,42 @@ fn list_at(rec: &[u8], at: usize, c: Card, sort: Sort) -> ListAt
     ListAt { list, next }
 }
 
+// The services of a load, at a position of the record.
+fn services_at(rec: &[u8], at: usize, c: Card) -> ListAt
+    requires { ⌜ at ≤ length (now rec) ⌝ }
+    ensures { λ r. ⌜ Places tokens (tokenList (layoutOf c)) at (now (rec .entry)) r ⌝ }
+{
+    list_at(rec, at, c, Sort::Service)
+}
+
+// The callers of a service, at a position of the record.
+fn callers_at(rec: &[u8], at: usize, c: Card) -> ListAt
+    requires { ⌜ at ≤ length (now rec) ⌝ }
+    ensures { λ r. ⌜ Places aid (callerList (layoutOf c)) at (now (rec .entry)) r ⌝ }
+{
+    list_at(rec, at, c, Sort::Caller)
+}
+
+// The calls, grants and needs of a load, from a position of the record on.
+fn rows_at(rec: &[u8], at: usize, c: Card) -> RowsAt
+    requires { ⌜ at ≤ length (now rec) ⌝ }
+    ensures { λ r. ⌜ PlacesRows (layoutOf c) at (now (rec .entry)) r ⌝ }
+{
+    let first = list_at(rec, at, c, Sort::Row);
+    let second = list_at(rec, first.next, c, Sort::Row);
+    let third = list_at(rec, second.next, c, Sort::Row);
+    let calls = first.list;
+    let grants = second.list;
+    let needs = third.list;
+    let next = third.next;
+    RowsAt {
+        calls,
+        grants,
+        needs,
+        next,
+    }
+}
+
 // The tokens at a position of the record.
 fn tokens_at(rec: &[u8], at: usize) -> Tokens
     requires { ⌜ at + 2 ≤ length (now rec) ⌝ }
@@ -290,14 +344,14 @@ fn read_tokens(rec: &[u8], at: usize, c: Card) -> TokensAt
     TokensAt { service, next }
 }
 
-// A load of four lists, each read after the one before it, with no bytes left over.
-fn load_of(rec: &[u8], first: ListAt, second: ListAt, third: ListAt, last: ListAt) -> Body
-    ensures { λ r. ⌜ r ≡ loadOf (length (now (rec .entry))) first second third last ⌝ }
+// A load: the services, and three lists of rows after them, with no bytes left over.
+fn load_of(rec: &[u8], first: ListAt, rows: RowsAt) -> Body
+    ensures { λ r. ⌜ r ≡ loadOf (length (now (rec .entry))) first rows ⌝ }
 {
     let p = first.list;
-    let q = second.list;
-    let g = third.list;
-    let n = last.list;
+    let q = rows.calls;
+    let g = rows.grants;
+    let n = rows.needs;
     let Placed::Found(provides) = p else {
         return Body::Malformed;
     };
@@ -310,15 +364,16 @@ fn load_of(rec: &[u8], first: ListAt, second: ListAt, third: ListAt, last: ListA
     let Placed::Found(needs) = n else {
         return Body::Malformed;
     };
-    if last.next < rec.len() {
+    if rows.next < rec.len() {
         return Body::Malformed;
     }
-    Body::Whole(Kind::Load {
+    let lists = Lists {
         provides,
         calls,
         grants,
         needs,
-    })
+    };
+    Body::Whole(Kind::Load(lists))
 }
 
 // A service and the list of its callers, read after it, with no bytes left over.
@@ -355,17 +410,17 @@ fn read_remove_service(rec: &[u8], at: usize, c: Card) -> Body
     Body::Whole(Kind::RemoveService(tokens))
 }
 
-// The kind of a record whose change is of one row.
-fn row_kind(kind: u8, other: Aid, tokens: Tokens) -> Kind
-    ensures { λ r. ⌜ r ≡ rowKind kind other tokens ⌝ }
+// What a record of one row does with it, by its kind byte.
+fn row_kind(kind: u8) -> RowKind
+    ensures { λ r. ⌜ r ≡ rowKind kind ⌝ }
 {
     match kind {
-        5 => Kind::AddCall(other, tokens),
-        6 => Kind::RemoveCall(other, tokens),
-        7 => Kind::AddGrant(other, tokens),
-        8 => Kind::RemoveGrant(other, tokens),
-        9 => Kind::AddNeed(other, tokens),
-        _ => Kind::RemoveNeed(other, tokens),
+        5 => RowKind::AddCall,
+        6 => RowKind::RemoveCall,
+        7 => RowKind::AddGrant,
+        8 => RowKind::RemoveGrant,
+        9 => RowKind::AddNeed,
+        _ => RowKind::RemoveNeed,
     }
 }
 
@@ -377,11 +432,9 @@ fn row_at(rec: &[u8], at: usize) -> RowAt
     let len = rec[at] as usize;
     let other = Aid { at: at + 1, len };
     let tokens = tokens_at(rec, at + 1 + len);
-    RowAt {
-        other,
-        tokens,
-        next: at + 3 + len,
-    }
+    let row = Row { other, tokens };
+    let next = at + 3 + len;
+    RowAt { row, next }
 }
 
 // One row, from a position to the record's end.
@@ -396,9 +449,8 @@ fn read_row(rec: &[u8], at: usize, c: Card, kind: u8) -> Body
     if r.next < rec.len() {
         return Body::Malformed;
     }
-    let other = r.other;
-    let tokens = r.tokens;
-    Body::Whole(row_kind(kind, other, tokens))
+    let row = r.row;
+    Body::Whole(Kind::Row(row_kind(kind), row))
 }
 
 // What follows the first AID, from a position to the record's end.

@@ -1,17 +1,18 @@
-// Cause 3: whether a record that was read is proper.
+// Cause 3: whether a record that was read is proper, by what it changes. A record without lists and rows is.
 ghost use mathlib.Core.Path.{_≡_};
-ghost use mathlib.Core.Bool.{not, _&&_};
+ghost use mathlib.Core.Bool.{_&&_};
 ghost use Rattle.policy.specs.Lists.{every, exists, distinct};
-ghost use Rattle.policy.specs.Contract.{eqAid, eqTok, eqRow, hasTok, hasRow};
-ghost use Rattle.policy.specs.Record.{aid, tokens, aRow, load, notOwn, proper};
+ghost use Rattle.policy.specs.Contract.{Tok, Row as RowOf, eqAid, eqTok, eqRow, hasTok, hasRow};
+ghost use Rattle.policy.specs.Record.{aid, tokens, aRow, addService, notOwn, proper};
 ghost use Rattle.geometry.specs.declared.Card.{Card};
-ghost use Rattle.geometry.specs.Geometry.{layoutOf};
-ghost use Rattle.record.specs.Meaning.{AidFits, Stands, RecordFits, aidIn, tokOf, rowIn, itemsIn, kindOf};
+ghost use Rattle.geometry.specs.Geometry.{layoutOf, tokOf};
+ghost use Rattle.record.specs.declared.RowKind.{RowKind};
+ghost use Rattle.record.specs.Meaning.{AidFits, Stands, ListsStand, aidIn, rowIn, itemsIn, loadIn, changeOf};
 use crate::Aid;
 use crate::Items;
-use crate::Kind;
-use crate::Record;
-use crate::Tokens;
+use crate::Lists;
+use crate::Row;
+use geometry::Tokens;
 
 // Whether tokens are among those of a list.
 pub fn has_tokens(rec: &[u8], t: Tokens, of: Items) -> bool
@@ -48,19 +49,18 @@ pub fn has_aid(rec: &[u8], a: Aid, of: Items) -> bool
 }
 
 // Whether a row is among those of a list.
-pub fn has_row(rec: &[u8], a: Aid, t: Tokens, of: Items) -> bool
-    requires { ⌜ AidFits (now rec) a × Stands aRow (now rec) of ⌝ }
-    ensures { λ r. ⌜ r ≡ hasRow (rowIn (now (rec .entry)) a t) (itemsIn aRow (now (rec .entry)) of) ⌝ }
+pub fn has_row(rec: &[u8], r: Row, of: Items) -> bool
+    requires { ⌜ AidFits (now rec) (r .other) × Stands aRow (now rec) of ⌝ }
+    ensures { λ b. ⌜ b ≡ hasRow (rowIn (now (rec .entry)) r) (itemsIn aRow (now (rec .entry)) of) ⌝ }
 {
     let mut todo = of;
     while 0 < todo.count {
-        let r = crate::steps::take_row(rec, todo);
-        let b = r.other;
-        let u = r.tokens;
-        if crate::same::same_row(rec, a, t, b, u) {
+        let next = crate::steps::take_row(rec, todo);
+        let s = next.row;
+        if crate::same::same_row(rec, r, s) {
             return true;
         }
-        todo = r.rest;
+        todo = next.rest;
     }
     false
 }
@@ -83,20 +83,21 @@ fn tokens_proper(rec: &[u8], of: Items) -> bool
     true
 }
 
-// Whether no caller stands twice in a list, and none is the own AID.
-fn callers_proper(rec: &[u8], own: Aid, of: Items) -> bool
-    requires { ⌜ AidFits (now rec) own × Stands aid (now rec) of ⌝ }
-    ensures { λ r. ⌜ r ≡ (every (λ b. not (eqAid b (aidIn (now (rec .entry)) own))) (itemsIn aid (now (rec .entry)) of) && distinct eqAid (itemsIn aid (now (rec .entry)) of)) ⌝ }
+// Kind 3: whether no caller stands twice in the list, and none is the own AID.
+pub fn callers_proper(rec: &[u8], own: &[u8], of: Items) -> bool
+    requires { ⌜ Stands aid (now rec) of ⌝ }
+    ensures { λ r. ⌜ ((c : Card) (s : Tok)
+        → r ≡ proper (layoutOf c) (now (own .entry)) (addService s (itemsIn aid (now (rec .entry)) of))) ⌝ }
 {
     let mut todo = of;
     while 0 < todo.count {
         let r = crate::steps::take_aid(rec, todo);
-        let b = r.aid;
+        let a = r.aid;
         let rest = r.rest;
-        if crate::same::same_aid(rec, b, own) {
+        if crate::same::aid_is(rec, a, own) {
             return false;
         }
-        if has_aid(rec, b, rest) {
+        if has_aid(rec, a, rest) {
             return false;
         }
         todo = rest;
@@ -105,20 +106,21 @@ fn callers_proper(rec: &[u8], own: Aid, of: Items) -> bool
 }
 
 // Whether no row stands twice in a list, and none has the own AID as the other end.
-fn rows_proper(rec: &[u8], own: Aid, of: Items) -> bool
-    requires { ⌜ AidFits (now rec) own × Stands aRow (now rec) of ⌝ }
-    ensures { λ r. ⌜ r ≡ (notOwn (aidIn (now (rec .entry)) own) (itemsIn aRow (now (rec .entry)) of) && distinct eqRow (itemsIn aRow (now (rec .entry)) of)) ⌝ }
+fn rows_proper(rec: &[u8], own: &[u8], of: Items) -> bool
+    requires { ⌜ Stands aRow (now rec) of ⌝ }
+    ensures { λ r. ⌜ r ≡ (notOwn (now (own .entry)) (itemsIn aRow (now (rec .entry)) of)
+        && distinct eqRow (itemsIn aRow (now (rec .entry)) of)) ⌝ }
 {
     let mut todo = of;
     while 0 < todo.count {
         let r = crate::steps::take_row(rec, todo);
-        let b = r.other;
-        let t = r.tokens;
+        let row = r.row;
         let rest = r.rest;
-        if crate::same::same_aid(rec, b, own) {
+        let a = row.other;
+        if crate::same::aid_is(rec, a, own) {
             return false;
         }
-        if has_row(rec, b, t, rest) {
+        if has_row(rec, row, rest) {
             return false;
         }
         todo = rest;
@@ -134,9 +136,8 @@ fn all_called(rec: &[u8], needs: Items, calls: Items) -> bool
     let mut todo = needs;
     while 0 < todo.count {
         let r = crate::steps::take_row(rec, todo);
-        let b = r.other;
-        let t = r.tokens;
-        if has_row(rec, b, t, calls) {
+        let row = r.row;
+        if has_row(rec, row, calls) {
             todo = r.rest;
         } else {
             return false;
@@ -145,67 +146,27 @@ fn all_called(rec: &[u8], needs: Items, calls: Items) -> bool
     true
 }
 
-// Whether the lists of a load are proper.
-fn load_proper(
-    rec: &[u8],
-    own: Aid,
-    provides: Items,
-    calls: Items,
-    grants: Items,
-    needs: Items,
-) -> bool
-    requires { ⌜ AidFits (now rec) own × Stands tokens (now rec) provides × Stands aRow (now rec) calls × Stands aRow (now rec) grants × Stands aRow (now rec) needs ⌝ }
-    ensures { λ r. ⌜ ((c : Card) → r ≡ proper (layoutOf c) (aidIn (now (rec .entry)) own) (load (itemsIn tokens (now (rec .entry)) provides) (itemsIn aRow (now (rec .entry)) calls) (itemsIn aRow (now (rec .entry)) grants) (itemsIn aRow (now (rec .entry)) needs))) ⌝ }
+// Kind 1: whether the lists of a load are proper.
+pub fn load_proper(rec: &[u8], own: &[u8], l: Lists) -> bool
+    requires { ⌜ ListsStand (now rec) l ⌝ }
+    ensures { λ r. ⌜ ((c : Card) → r ≡ proper (layoutOf c) (now (own .entry)) (loadIn (now (rec .entry)) l)) ⌝ }
 {
+    let provides = l.provides;
+    let calls = l.calls;
+    let grants = l.grants;
+    let needs = l.needs;
     let p = tokens_proper(rec, provides);
-    if !p {
-        return false;
-    }
-    let c = rows_proper(rec, own, calls);
-    if !c {
-        return false;
-    }
+    let q = rows_proper(rec, own, calls);
     let g = rows_proper(rec, own, grants);
-    if !g {
-        return false;
-    }
     let n = rows_proper(rec, own, needs);
-    if !n {
-        return false;
-    }
-    all_called(rec, needs, calls)
+    let called = all_called(rec, needs, calls);
+    p & q & g & n & called
 }
 
-// Whether the other end of a row is not the own AID.
-fn other_proper(rec: &[u8], own: Aid, other: Aid) -> bool
-    requires { ⌜ AidFits (now rec) own × AidFits (now rec) other ⌝ }
-    ensures { λ r. ⌜ r ≡ not (eqAid (aidIn (now (rec .entry)) other) (aidIn (now (rec .entry)) own)) ⌝ }
+// Kinds 5 to 10: whether the other end of a row is not the own AID.
+pub fn other_proper(own: &[u8], other: &[u8]) -> bool
+    ensures { λ b. ⌜ ((c : Card) (k : RowKind) (r : RowOf) → r .aid ≡ now (other .entry)
+        → b ≡ proper (layoutOf c) (now (own .entry)) (changeOf k r)) ⌝ }
 {
-    !crate::same::same_aid(rec, other, own)
-}
-
-// Whether a record that was read is proper, alike on every card.
-pub fn is_proper(rec: &[u8], r: Record) -> bool
-    requires { ⌜ RecordFits (now rec) r ⌝ }
-    ensures { λ b. ⌜ ((c : Card) → b ≡ proper (layoutOf c) (aidIn (now (rec .entry)) (r .aid)) (kindOf (now (rec .entry)) (r .kind))) ⌝ }
-{
-    let own = r.aid;
-    let kind = r.kind;
-    match kind {
-        Kind::Load {
-            provides,
-            calls,
-            grants,
-            needs,
-        } => load_proper(rec, own, provides, calls, grants, needs),
-        Kind::Remove => true,
-        Kind::AddService(_, callers) => callers_proper(rec, own, callers),
-        Kind::RemoveService(_) => true,
-        Kind::AddCall(other, _) => other_proper(rec, own, other),
-        Kind::RemoveCall(other, _) => other_proper(rec, own, other),
-        Kind::AddGrant(other, _) => other_proper(rec, own, other),
-        Kind::RemoveGrant(other, _) => other_proper(rec, own, other),
-        Kind::AddNeed(other, _) => other_proper(rec, own, other),
-        Kind::RemoveNeed(other, _) => other_proper(rec, own, other),
-    }
+    !crate::same::same_bytes(other, own)
 }

@@ -1,12 +1,13 @@
-// A reader: a record and a position in it. Its methods are thin, over covered functions; a load's four lists, and a service and its callers, are read by one reader that moves on.
+// A reader: a record and a position in it. Its methods are thin, over covered functions. A load's lists, and a service and its
+// callers, are read by one reader that moves on.
 ghost use Prim.Native.Nat.{_≤_};
 ghost use lib.ListN.{length, drop};
-ghost use Rattle.policy.specs.Record.{aLoad, aService};
+ghost use Rattle.policy.specs.Record.{aid, tokens, tokenList, callerList, aLoad, aService};
 ghost use Rattle.geometry.specs.Geometry.{layoutOf};
-ghost use Rattle.record.specs.Meaning.{Places, Served, Bodies, reader, listReader};
+ghost use Rattle.record.specs.Meaning.{Places, PlacesRows, Served, Bodies};
 use crate::Body;
 use crate::ListAt;
-use crate::Sort;
+use crate::RowsAt;
 use crate::TokensAt;
 use geometry::Card;
 
@@ -16,12 +17,20 @@ pub struct Reader<'a> {
 }
 
 impl<'a> Reader<'a> {
-    // The list at the position.
-    pub fn list(self, c: Card, sort: Sort) -> ListAt
+    // The services of a load, at the position.
+    pub fn services(self, c: Card) -> ListAt
         requires { ⌜ self .at ≤ length (now (self .src)) ⌝ }
-        ensures { λ r. ⌜ Places (reader sort) (listReader (layoutOf c) sort) (self .entry .at) (now (self .entry .src)) r ⌝ }
+        ensures { λ r. ⌜ Places tokens (tokenList (layoutOf c)) (self .entry .at) (now (self .entry .src)) r ⌝ }
     {
-        crate::list_at(self.src, self.at, c, sort)
+        crate::services_at(self.src, self.at, c)
+    }
+
+    // The calls, grants and needs of a load, from the position on.
+    pub fn rows(self, c: Card) -> RowsAt
+        requires { ⌜ self .at ≤ length (now (self .src)) ⌝ }
+        ensures { λ r. ⌜ PlacesRows (layoutOf c) (self .entry .at) (now (self .entry .src)) r ⌝ }
+    {
+        crate::rows_at(self.src, self.at, c)
     }
 
     // The tokens at the position.
@@ -31,6 +40,14 @@ impl<'a> Reader<'a> {
     {
         crate::read_tokens(self.src, self.at, c)
     }
+
+    // The callers of a service, at the position.
+    pub fn callers(self, c: Card) -> ListAt
+        requires { ⌜ self .at ≤ length (now (self .src)) ⌝ }
+        ensures { λ r. ⌜ Places aid (callerList (layoutOf c)) (self .entry .at) (now (self .entry .src)) r ⌝ }
+    {
+        crate::callers_at(self.src, self.at, c)
+    }
 }
 
 // A load's four lists, from a position to the record's end.
@@ -39,14 +56,10 @@ pub fn read_load(rec: &[u8], at: usize, c: Card) -> Body
     ensures { λ r. ⌜ Bodies (layoutOf c) (aLoad (layoutOf c) (drop at (now (rec .entry)))) (now (rec .entry)) r ⌝ }
 {
     let mut r = Reader { src: rec, at };
-    let provides = r.list(c, Sort::Service);
-    r.at = provides.next;
-    let calls = r.list(c, Sort::Row);
-    r.at = calls.next;
-    let grants = r.list(c, Sort::Row);
-    r.at = grants.next;
-    let needs = r.list(c, Sort::Row);
-    crate::load_of(rec, provides, calls, grants, needs)
+    let services = r.services(c);
+    r.at = services.next;
+    let rows = r.rows(c);
+    crate::load_of(rec, services, rows)
 }
 
 // A service and its callers, from a position to the record's end.
@@ -57,6 +70,6 @@ pub fn read_add_service(rec: &[u8], at: usize, c: Card) -> Body
     let mut r = Reader { src: rec, at };
     let service = r.tokens(c);
     r.at = service.next;
-    let callers = r.list(c, Sort::Caller);
+    let callers = r.callers(c);
     crate::service_of(rec, service, callers)
 }

@@ -2,9 +2,11 @@
 ghost use mathlib.Core.Path.{_≡_};
 ghost use Rattle.policy.specs.Lists.{eqBytes};
 ghost use Rattle.policy.specs.Contract.{eqAid, eqTok, eqRow};
-ghost use Rattle.record.specs.Meaning.{AidFits, aidIn, tokOf, rowIn};
+ghost use Rattle.geometry.specs.Geometry.{tokOf};
+ghost use Rattle.record.specs.Meaning.{AidFits, aidIn, rowIn};
 use crate::Aid;
-use crate::Tokens;
+use crate::Row;
+use geometry::Tokens;
 
 pub fn same_bytes(a: &[u8], b: &[u8]) -> bool
     ensures { λ r. ⌜ r ≡ eqBytes (now (a .entry)) (now (b .entry)) ⌝ }
@@ -15,14 +17,22 @@ pub fn same_bytes(a: &[u8], b: &[u8]) -> bool
     rows::same_at(a, 0, b)
 }
 
+// An AID of a record, and bytes.
+pub fn aid_is(rec: &[u8], a: Aid, bytes: &[u8]) -> bool
+    requires { ⌜ AidFits (now rec) a ⌝ }
+    ensures { λ r. ⌜ r ≡ eqAid (aidIn (now (rec .entry)) a) (now (bytes .entry)) ⌝ }
+{
+    let part = crate::aid_bytes(rec, a);
+    same_bytes(part, bytes)
+}
+
 // Two AIDs of one record.
 pub fn same_aid(rec: &[u8], a: Aid, b: Aid) -> bool
     requires { ⌜ AidFits (now rec) a × AidFits (now rec) b ⌝ }
     ensures { λ r. ⌜ r ≡ eqAid (aidIn (now (rec .entry)) a) (aidIn (now (rec .entry)) b) ⌝ }
 {
-    let p = crate::aid_bytes(rec, a);
-    let q = crate::aid_bytes(rec, b);
-    same_bytes(p, q)
+    let bytes = crate::aid_bytes(rec, b);
+    aid_is(rec, a, bytes)
 }
 
 pub fn same_tokens(t: Tokens, u: Tokens) -> bool
@@ -32,11 +42,15 @@ pub fn same_tokens(t: Tokens, u: Tokens) -> bool
 }
 
 // Two rows of one record.
-pub fn same_row(rec: &[u8], a: Aid, t: Tokens, b: Aid, u: Tokens) -> bool
-    requires { ⌜ AidFits (now rec) a × AidFits (now rec) b ⌝ }
-    ensures { λ r. ⌜ r ≡ eqRow (rowIn (now (rec .entry)) a t) (rowIn (now (rec .entry)) b u) ⌝ }
+pub fn same_row(rec: &[u8], r: Row, s: Row) -> bool
+    requires { ⌜ AidFits (now rec) (r .other) × AidFits (now rec) (s .other) ⌝ }
+    ensures { λ b. ⌜ b ≡ eqRow (rowIn (now (rec .entry)) r) (rowIn (now (rec .entry)) s) ⌝ }
 {
+    let t = r.tokens;
+    let u = s.tokens;
     if same_tokens(t, u) {
+        let a = r.other;
+        let b = s.other;
         return same_aid(rec, a, b);
     }
     false

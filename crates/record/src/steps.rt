@@ -4,12 +4,12 @@ ghost use Rattle.policy.specs.Record.{aid, tokens, aRow};
 ghost use Rattle.record.specs.Meaning.{Stands, UnconsRow, UnconsAid, UnconsTokens};
 use crate::Aid;
 use crate::Items;
-use crate::Tokens;
+use crate::Row;
+use geometry::Tokens;
 
 // The first row of a list, and the list of the rows after it.
 pub struct RowStep {
-    pub other: Aid,
-    pub tokens: Tokens,
+    pub row: Row,
     pub rest: Items,
 }
 
@@ -33,18 +33,13 @@ pub fn take_row(rec: &[u8], items: Items) -> RowStep
     let at = items.at;
     let left = items.count - 1;
     let r = crate::row_at(rec, at);
-    let other = r.other;
-    let tokens = r.tokens;
+    let row = r.row;
     let next = r.next;
     let rest = Items {
         at: next,
         count: left,
     };
-    RowStep {
-        other,
-        tokens,
-        rest,
-    }
+    RowStep { row, rest }
 }
 
 // Takes the first AID off a list of callers.

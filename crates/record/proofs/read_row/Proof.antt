@@ -59,8 +59,10 @@ row-kind-requires c κs = search needs
 
 returns-3 : tie.Need-returns-3
 returns-3 c =
-    let a = c .before .before .before .before .before .before .before .before .before .before .before in
-    row-good _ _ _ _ (a .pre .1) (a .pre .2) (front (c .before .before .before .before .before .before)) (c .before .before .before .before .before .row-at .ensures) (c .row-kind .ensures) (c .before .before .before .if1 .left)
+    let met = c .before .before in
+    let told = met .before .before .before in
+    let a = told .before .before .before .before .before in
+    row-good _ _ _ _ (a .pre .1) (a .pre .2) (front told) (met .before .before .row-at .ensures) (c .row-kind .ensures) (met .if1 .left)
 
 pub read-row-spec : {M : Type 1} → statement M
 read-row-spec =

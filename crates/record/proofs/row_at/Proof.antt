@@ -26,11 +26,11 @@ add-tokens-at-3 c = omega (arith, here (c .before .before) .end)
 tokens-at-requires : tie.Need-tokens-at-requires
 tokens-at-requires c κs = omega (arith, here (c .before .before) .end)
 
-add-t8 : tie.Need-add-t8
-add-t8 c = omega (arith, here (c .before .before .before) .end)
+add-next : tie.Need-add-next
+add-next c = omega (arith, here (c .before .before .before) .end)
 
-add-t9 : tie.Need-add-t9
-add-t9 c = omega (arith, here (c .before .before .before) .end)
+add-next-2 : tie.Need-add-next-2
+add-next-2 c = omega (arith, here (c .before .before .before) .end)
 
 returns : tie.Need-returns
 returns c =
@@ -47,6 +47,6 @@ row-at-spec =
     add-tokens-at-2
     add-tokens-at-3
     tokens-at-requires
-    add-t8
-    add-t9
+    add-next
+    add-next-2
     returns)

@@ -21,19 +21,19 @@ take-row-requires : tie.Need-take-row-requires Inv-loop μ-loop
 take-row-requires c κs = (c .before .before .loop .inv .stands, c .if1 .taken)
 
 has-row-requires : tie.Need-has-row-requires Inv-loop μ-loop
-has-row-requires c κs = (c .before .before .take-row .ensures .other, c .before .before .before .before .before .before .before .pre .1)
+has-row-requires c κs = (c .before .take-row .ensures .other, c .before .before .before .before .before .before .pre .1)
 
 loop-less : tie.Need-loop-less Inv-loop μ-loop
-loop-less c = omega (arith, c .before .before .before .before .before .take-row .ensures .split .fewer)
+loop-less c = omega (arith, c .before .before .before .before .take-row .ensures .split .fewer)
 
 loop-again : tie.Need-loop-again Inv-loop μ-loop
 loop-again c =
-    let d = c .before .before .before .before .before in
+    let d = c .before .before .before .before in
     every-next _ (d .take-row .ensures .split) (c .before .before .has-row .ensures) (d .before .before .before .loop .inv) (c .before .if2 .taken)
 
 returns : tie.Need-returns Inv-loop μ-loop
 returns c =
-    let d = c .before .before .before .before in
+    let d = c .before .before .before in
     every-stop _ (d .take-row .ensures .split) (c .before .has-row .ensures) (d .before .before .before .loop .inv) (c .if2 .left)
 
 returns-2 : tie.Need-returns-2 Inv-loop μ-loop

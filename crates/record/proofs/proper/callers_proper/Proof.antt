@@ -2,53 +2,57 @@
 use native.Mathlib.Omega.{arith}
 use denote.Ref.{now}
 use Rattle.policy.specs.Contract.{eqAid}
-use Rattle.policy.specs.Record.{aid}
+use Rattle.policy.specs.Record.{aid, proper}
 use Rattle.record.proofs.Loops.{Left, todo-start, todo-end}
 use Rattle.record.proofs.Improper.{ownAid, others, own-stop, twice-stop, once-next}
 use Rattle.record.proofs.proper.callers_proper.Statement.{statement}
 use Rattle.record.proofs.proper.callers_proper.Tie as tie
 
 abbrev Inv-loop : tie.InvT-loop
-Inv-loop rec own todo₀ todo = Left aid rec (others (ownAid rec own) eqAid) todo₀ todo
+Inv-loop rec own todo₀ todo = Left aid rec (others (ownAid own) eqAid) todo₀ todo
 
 abbrev μ-loop : tie.MeasureT-loop
 μ-loop rec own todo₀ todo = todo .count
 
 loop-holds : tie.Need-loop-holds Inv-loop μ-loop
-loop-holds c = todo-start (c .before .pre .1)
+loop-holds c = todo-start (c .before .before .pre)
 
 take-aid-requires : tie.Need-take-aid-requires Inv-loop μ-loop
 take-aid-requires c κs = (c .before .before .loop .inv .stands, c .if1 .taken)
 
-same-aid-requires : tie.Need-same-aid-requires Inv-loop μ-loop
-same-aid-requires c κs = (c .before .before .take-aid .ensures .fits, c .before .before .before .before .before .before .before .pre .0)
+aid-is-requires : tie.Need-aid-is-requires Inv-loop μ-loop
+aid-is-requires c κs = c .before .before .take-aid .ensures .fits
 
 returns : tie.Need-returns Inv-loop μ-loop
-returns c =
-    let d = c .before .before .before .before in
-    let a = d .before .before .before .before .before .args in
-    own-stop (ownAid (now (a .rec)) (a .own)) eqAid (d .take-aid .ensures .split) (d .before .before .before .loop .inv) (c .before .same-aid .ensures) (c .if2 .taken)
+unfolding proper
+returns c k s =
+    let first = c .before .before .before .before in
+    own-stop (ownAid _) eqAid (first .take-aid .ensures .split) (first .before .before .before .loop .inv) (c .before .aid-is .ensures) (c .if2 .taken)
 
 has-aid-requires : tie.Need-has-aid-requires Inv-loop μ-loop
-has-aid-requires c κs = let d = c .before .before .before .before in (d .take-aid .ensures .fits, d .take-aid .ensures .split .stands)
+has-aid-requires c κs = let first = c .before .before .before .before in (first .take-aid .ensures .fits, first .take-aid .ensures .split .stands)
 
 returns-2 : tie.Need-returns-2 Inv-loop μ-loop
-returns-2 c =
-    let d = c .before .before .before .before .before .before in
-    let a = d .before .before .before .before .before .args in
-    twice-stop (ownAid (now (a .rec)) (a .own)) eqAid (d .take-aid .ensures .split) (d .before .before .before .loop .inv) (c .before .before .before .same-aid .ensures) (c .before .before .if2 .left) (c .before .has-aid .ensures) (c .if3 .taken)
+unfolding proper
+returns-2 c k s =
+    let other = c .before .before in
+    let first = other .before .before .before .before in
+    twice-stop (ownAid _) eqAid (first .take-aid .ensures .split) (first .before .before .before .loop .inv) (other .before .aid-is .ensures) (other .if2 .left)
+    (c .before .has-aid .ensures) (c .if3 .taken)
 
 loop-less : tie.Need-loop-less Inv-loop μ-loop
 loop-less c = omega (arith, c .before .before .before .before .before .before .take-aid .ensures .split .fewer)
 
 loop-again : tie.Need-loop-again Inv-loop μ-loop
 loop-again c =
-    let d = c .before .before .before .before .before .before in
-    let a = d .before .before .before .before .before .args in
-    once-next (ownAid (now (a .rec)) (a .own)) eqAid (d .take-aid .ensures .split) (d .before .before .before .loop .inv) (c .before .before .before .same-aid .ensures) (c .before .before .if2 .left) (c .before .has-aid .ensures) (c .if3 .left)
+    let other = c .before .before in
+    let first = other .before .before .before .before in
+    once-next (ownAid _) eqAid (first .take-aid .ensures .split) (first .before .before .before .loop .inv) (other .before .aid-is .ensures) (other .if2 .left)
+    (c .before .has-aid .ensures) (c .if3 .left)
 
 returns-3 : tie.Need-returns-3 Inv-loop μ-loop
-returns-3 c = todo-end (c .before .before .loop .inv) (c .if1 .left)
+unfolding proper
+returns-3 c k s = todo-end (c .before .before .loop .inv) (c .if1 .left)
 
 pub callers-proper-spec : {M : Type 1} → statement M
 callers-proper-spec =
@@ -58,7 +62,7 @@ callers-proper-spec =
     μ-loop
     loop-holds
     take-aid-requires
-    same-aid-requires
+    aid-is-requires
     returns
     has-aid-requires
     returns-2

@@ -9,10 +9,10 @@ use Rattle.record.proofs.proper.has_row.Statement.{statement}
 use Rattle.record.proofs.proper.has_row.Tie as tie
 
 abbrev Inv-loop : tie.InvT-loop
-Inv-loop rec a t todo₀ todo = Left aRow rec (exists (eqRow (rowIn rec a t))) todo₀ todo
+Inv-loop rec r todo₀ todo = Left aRow rec (exists (eqRow (rowIn rec r))) todo₀ todo
 
 abbrev μ-loop : tie.MeasureT-loop
-μ-loop rec a t todo₀ todo = todo .count
+μ-loop rec r todo₀ todo = todo .count
 
 loop-holds : tie.Need-loop-holds Inv-loop μ-loop
 loop-holds c = todo-start (c .before .pre .1)
@@ -21,19 +21,19 @@ take-row-requires : tie.Need-take-row-requires Inv-loop μ-loop
 take-row-requires c κs = (c .before .before .loop .inv .stands, c .if1 .taken)
 
 same-row-requires : tie.Need-same-row-requires Inv-loop μ-loop
-same-row-requires c κs = (c .before .before .before .before .before .before .before .pre .0, c .before .before .take-row .ensures .other)
+same-row-requires c κs = (c .before .before .before .before .before .before .pre .0, c .before .take-row .ensures .other)
 
 returns : tie.Need-returns Inv-loop μ-loop
 returns c =
-    let d = c .before .before .before .before in
+    let d = c .before .before .before in
     exists-stop _ (d .take-row .ensures .split) (c .before .same-row .ensures) (d .before .before .before .loop .inv) (c .if2 .taken)
 
 loop-less : tie.Need-loop-less Inv-loop μ-loop
-loop-less c = omega (arith, c .before .before .before .before .before .take-row .ensures .split .fewer)
+loop-less c = omega (arith, c .before .before .before .before .take-row .ensures .split .fewer)
 
 loop-again : tie.Need-loop-again Inv-loop μ-loop
 loop-again c =
-    let d = c .before .before .before .before .before in
+    let d = c .before .before .before .before in
     exists-next _ (d .take-row .ensures .split) (c .before .before .same-row .ensures) (d .before .before .before .loop .inv) (c .before .if2 .left)
 
 returns-2 : tie.Need-returns-2 Inv-loop μ-loop

@@ -4,7 +4,7 @@ use borrow.Author.Needs.{needs}
 use Rattle.policy.specs.Lists.{exists}
 use Rattle.policy.specs.Contract.{eqTok}
 use Rattle.policy.specs.Record.{tokens}
-use Rattle.record.specs.Meaning.{tokOf}
+use Rattle.geometry.specs.Geometry.{tokOf}
 use Rattle.record.proofs.Loops.{Left, todo-start, todo-end, exists-stop, exists-next}
 use Rattle.record.proofs.proper.has_tokens.Statement.{statement}
 use Rattle.record.proofs.proper.has_tokens.Tie as tie

@@ -12,8 +12,8 @@ row-at-requires c κs = first-good (c .before .before .pre .0) (c .before .befor
 
 returns : tie.Need-returns
 returns c =
-    let a = c .before .before .before .before .before in
-    uncons-row (a .pre .0) (a .pre .1) (c .before .before .row-at .ensures)
+    let a = c .before .before .before .before in
+    uncons-row (a .pre .0) (a .pre .1) (c .before .row-at .ensures)
 
 pub take-row-spec : {M : Type 1} → statement M
 take-row-spec = tie.close (tie.spec sub-left row-at-requires returns)
