@@ -3,16 +3,14 @@ use Prim.Native.Nat.{ℕ}
 use mathlib.Core.Path.{_≡_, refl, sym, _∙_}
 use mathlib.Core.Bool.{Bool, true, false, not, _&&_, and-false, and-true}
 use mathlib.Core.List.{List}
-use native.Mathlib.Omega.{arith}
 use Rattle.policy.specs.Lists.{every, exists, distinct}
 use Rattle.policy.specs.Contract.{Aid as Bytes, Tok, Row, eqAid, eqTok, eqRow, hasRow}
 use Rattle.policy.specs.Record.{Reader, load, notOwn, proper}
 use Rattle.geometry.specs.declared.Card.{Card}
 use Rattle.geometry.specs.Geometry.{layoutOf}
 use Rattle.geometry.proofs.Bounds.{early}
-use Rattle.record.specs.Meaning.{itemsIn, loadIn, changeOf, Uncons}
+use Rattle.record.specs.Meaning.{itemsIn, changeOf, Uncons}
 use Rattle.record.specs.declared.Items.{Items}
-use Rattle.record.specs.declared.Lists.{Lists}
 use Rattle.record.specs.declared.RowKind.{RowKind}
 use Rattle.record.specs.declared.RowKind.the-variants.{AddCall, RemoveCall, AddGrant, RemoveGrant, AddNeed, RemoveNeed}
 use Rattle.record.proofs.Loops.{Todo, todo-cons, todo-next}
@@ -67,20 +65,20 @@ arranged true true true true true true false x = refl
 arranged true true true true true true true x = and-true x
 
 -- R-2: a grant of a service that is not provided is proper
-pub load-is : (a : Bytes) (p : List Tok) (c g n : List Row) {rp rc rg rn x : Bool}
+pub load-proper : (a : Bytes) (p : List Tok) (c g n : List Row) {rp rc rg rn x : Bool}
     → rp ≡ distinct eqTok p → rc ≡ (notOwn a c && distinct eqRow c) → rg ≡ (notOwn a g && distinct eqRow g) → rn ≡ (notOwn a n && distinct eqRow n)
     → x ≡ every (λ r. hasRow r c) n → (k : Card) → ((((rp && rc) && rg) && rn) && x) ≡ proper (layoutOf k) a (load p c g n)
 unfolding proper
-load-is a p c g n hp hc hg hn hx k =
+load-proper a p c g n hp hc hg hn hx k =
     rw (early k, hp, hc, hg, hn, hx)
     (sym (arranged (distinct eqTok p) (distinct eqRow c) (distinct eqRow g) (distinct eqRow n) (notOwn a c) (notOwn a g) (notOwn a n) (every (λ r. hasRow r c) n)))
 
 -- ---- a row whose other end is b
-pub row-is : (a b : Bytes) {r : Bool} → r ≡ eqAid b a → (k : Card) (x : RowKind) (t : Row) → t .aid ≡ b → not r ≡ proper (layoutOf k) a (changeOf x t)
+pub row-proper : (a b : Bytes) {r : Bool} → r ≡ eqAid b a → (k : Card) (x : RowKind) (t : Row) → t .aid ≡ b → not r ≡ proper (layoutOf k) a (changeOf x t)
 unfolding proper
-row-is a b q k AddCall t e = rw (q, ← e)
-row-is a b q k RemoveCall t e = rw (q, ← e)
-row-is a b q k AddGrant t e = rw (q, ← e)
-row-is a b q k RemoveGrant t e = rw (q, ← e)
-row-is a b q k AddNeed t e = rw (q, ← e)
-row-is a b q k RemoveNeed t e = rw (q, ← e)
+row-proper a b q k AddCall t e = rw (q, ← e)
+row-proper a b q k RemoveCall t e = rw (q, ← e)
+row-proper a b q k AddGrant t e = rw (q, ← e)
+row-proper a b q k RemoveGrant t e = rw (q, ← e)
+row-proper a b q k AddNeed t e = rw (q, ← e)
+row-proper a b q k RemoveNeed t e = rw (q, ← e)

@@ -25,7 +25,7 @@ use denote.Laws.{Is}
 use denote.Plain.{uint-makes}
 use denote.Builtin.{SliceRefOf, u8, usize}
 use denote.Ref.{now}
-use denote.Signature.{Signature, namedLft, plain}
+use denote.Signature.{namedLft, plain}
 use denote.Steps.{owned, nothing}
 use denote.Enum.Laws as EL
 use denote.Struct.Laws as LL

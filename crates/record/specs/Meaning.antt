@@ -12,7 +12,6 @@ use Rattle.policy.specs.Record.{Got, got, bad, Reader, number, aid, tokens, aRo
 use Rattle.policy.specs.Record.{Change, load, remove, addService, removeService, whole, Request, parse}
 use Rattle.policy.specs.Record.{addCall, removeCall, addGrant, removeGrant, addNeed, removeNeed}
 use Rattle.geometry.specs.Geometry.{tokOf}
-use Rattle.geometry.specs.declared.Tokens.{Tokens}
 use Rattle.record.specs.declared.Took.{Took}
 use Rattle.record.specs.declared.Took.the-variants as took
 use Rattle.record.specs.declared.Sort.{Sort}

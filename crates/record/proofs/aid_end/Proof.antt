@@ -9,9 +9,6 @@ use Rattle.record.proofs.aid_end.Tie as tie
 returns : tie.Need-returns
 returns c = takes-bad aid (aid-bad _ (λ h. omega arith))
 
-shared-slice-read-n : tie.Need-shared-slice-read-n
-shared-slice-read-n c = search needs
-
 cast-n : tie.Need-cast-n
 cast-n c = omega (arith, c .shared-slice-known .given 0)
 
@@ -21,14 +18,8 @@ returns-2 c = takes-bad aid (aid-bad _ (λ h. omega arith))
 returns-3 : tie.Need-returns-3
 returns-3 c = takes-bad aid (aid-bad _ (λ h. omega arith))
 
-sub-if4 : tie.Need-sub-if4
-sub-if4 c = search needs
-
 returns-4 : tie.Need-returns-4
 returns-4 c = takes-bad aid (aid-bad _ (λ h. omega arith))
-
-add-t3 : tie.Need-add-t3
-add-t3 c = search needs
 
 returns-5 : tie.Need-returns-5
 returns-5 c = takes aid (omega arith) (aid-good _ (omega arith))
@@ -38,11 +29,11 @@ aid-end-spec =
     tie.close
     (tie.spec
     returns
-    shared-slice-read-n
+    (λ c. search needs)
     cast-n
     returns-2
     returns-3
-    sub-if4
+    (λ c. search needs)
     returns-4
-    add-t3
+    (λ c. search needs)
     returns-5)

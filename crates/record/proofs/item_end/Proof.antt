@@ -2,24 +2,6 @@ use borrow.Author.Needs.{needs}
 use Rattle.record.proofs.item_end.Statement.{statement}
 use Rattle.record.proofs.item_end.Tie as tie
 
-enum-told : tie.Need-enum-told
-enum-told c = search needs
-
-tokens-end-requires : tie.Need-tokens-end-requires
-tokens-end-requires c κs = search needs
-
-enum-told-2 : tie.Need-enum-told-2
-enum-told-2 c = search needs
-
-aid-end-requires : tie.Need-aid-end-requires
-aid-end-requires c κs = search needs
-
-enum-told-3 : tie.Need-enum-told-3
-enum-told-3 c = search needs
-
-row-end-requires : tie.Need-row-end-requires
-row-end-requires c κs = search needs
-
 returns : tie.Need-returns
 returns c = rw (c .before .enum-told .given .1) (c .tokens-end .ensures .takes)
 
@@ -33,12 +15,12 @@ pub item-end-spec : {M : Type 1} → statement M
 item-end-spec =
     tie.close
     (tie.spec
-    enum-told
-    tokens-end-requires
-    enum-told-2
-    aid-end-requires
-    enum-told-3
-    row-end-requires
+    (λ c. search needs)
+    (λ c κs. search needs)
+    (λ c. search needs)
+    (λ c κs. search needs)
+    (λ c. search needs)
+    (λ c κs. search needs)
     returns
     returns-2
     returns-3)

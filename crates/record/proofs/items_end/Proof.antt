@@ -20,29 +20,11 @@ abbrev μ-loop : tie.MeasureT-loop
 loop-holds : tie.Need-loop-holds Inv-loop μ-loop
 loop-holds c = record { inside = omega arith; same = refl }
 
-sub-item-end : tie.Need-sub-item-end Inv-loop μ-loop
-sub-item-end c = search needs
-
-part-item-end-start : tie.Need-part-item-end-start Inv-loop μ-loop
-part-item-end-start c = search needs
-
-part-item-end-end : tie.Need-part-item-end-end Inv-loop μ-loop
-part-item-end-end c = search needs
-
-item-end-requires : tie.Need-item-end-requires Inv-loop μ-loop
-item-end-requires c κs = search needs
-
-enum-told : tie.Need-enum-told Inv-loop μ-loop
-enum-told c = search needs
-
 returns : tie.Need-returns Inv-loop μ-loop
 returns c =
     let l = c .before .before .before .before in
     still-bad (l .before .loop .inv) (l .loop-test .taken)
     (at-part (now (l .before .before .before .args .part)) (l .before .loop .at) (c .enum-told .given .1) (c .before .before .item-end .ensures))
-
-enum-known-n : tie.Need-enum-known-n Inv-loop μ-loop
-enum-known-n c = search needs
 
 -- what item_end says where it took n bytes
 next : (c : tie.After-known-told Inv-loop μ-loop)
@@ -56,12 +38,6 @@ add-at : tie.Need-add-at Inv-loop μ-loop
 add-at c =
     let l = c .before .before .before .before .before in
     omega (arith, next c .fits, length-drop (l .before .loop .at) (now (l .before .before .before .args .part)), l)
-
-sub-left : tie.Need-sub-left Inv-loop μ-loop
-sub-left c = search needs
-
-loop-less : tie.Need-loop-less Inv-loop μ-loop
-loop-less c = search needs
 
 loop-again : tie.Need-loop-again Inv-loop μ-loop
 loop-again c =
@@ -78,15 +54,15 @@ items-end-spec =
     Inv-loop
     μ-loop
     loop-holds
-    sub-item-end
-    part-item-end-start
-    part-item-end-end
-    item-end-requires
-    enum-told
+    (λ c. search needs)
+    (λ c. search needs)
+    (λ c. search needs)
+    (λ c κs. search needs)
+    (λ c. search needs)
     returns
-    enum-known-n
+    (λ c. search needs)
     add-at
-    sub-left
-    loop-less
+    (λ c. search needs)
+    (λ c. search needs)
     loop-again
     returns-2)

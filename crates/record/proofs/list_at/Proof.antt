@@ -7,24 +7,6 @@ use borrow.Author.Needs.{needs}
 use Rattle.record.proofs.list_at.Statement.{statement}
 use Rattle.record.proofs.list_at.Tie as tie
 
-sub-list-end : tie.Need-sub-list-end
-sub-list-end c = search needs
-
-part-list-end-start : tie.Need-part-list-end-start
-part-list-end-start c = search needs
-
-part-list-end-end : tie.Need-part-list-end-end
-part-list-end-end c = search needs
-
-list-end-requires : tie.Need-list-end-requires
-list-end-requires c κs = search needs
-
-enum-known-start : tie.Need-enum-known-start
-enum-known-start c = search needs
-
-enum-told : tie.Need-enum-told
-enum-told c = search needs
-
 returns : tie.Need-returns
 returns c =
     let a = c .before .before .before .before .before in
@@ -51,12 +33,12 @@ pub list-at-spec : {M : Type 1} → statement M
 list-at-spec =
     tie.close
     (tie.spec
-    sub-list-end
-    part-list-end-start
-    part-list-end-end
-    list-end-requires
-    enum-known-start
-    enum-told
+    (λ c. search needs)
+    (λ c. search needs)
+    (λ c. search needs)
+    (λ c κs. search needs)
+    (λ c. search needs)
+    (λ c. search needs)
     returns
     add-first
     add-next

@@ -27,20 +27,8 @@ things c =
     let d = c .before .before .before .before .before .before .before in
     at-part (now (d .before .before .before .before .before .args .part)) (d .before .count .given .0 .1 .0) (c .before .n .given .1) (c .before .before .before .items-end .ensures)
 
-read-count-requires : tie.Need-read-count-requires
-read-count-requires c κs = search needs
-
-enum-known-count : tie.Need-enum-known-count
-enum-known-count c = search needs
-
-enum-told : tie.Need-enum-told
-enum-told c = search needs
-
 returns : tie.Need-returns
 returns c = list-none _ _ _ _ (rw (c .enum-told .given .1) at (c .before .before .read-count .ensures))
-
-most-requires : tie.Need-most-requires
-most-requires c κs = search needs
 
 returns-2 : tie.Need-returns-2
 returns-2 c = list-over _ _ _ _ (counted (c .before .before)) (rw (c .before .most .ensures) at (c .if1 .taken))
@@ -50,18 +38,6 @@ sub-items-end c = counted (c .before .before) .fits
 
 part-items-end-start : tie.Need-part-items-end-start
 part-items-end-start c = counted (c .before .before) .fits
-
-part-items-end-end : tie.Need-part-items-end-end
-part-items-end-end c = search needs
-
-items-end-requires : tie.Need-items-end-requires
-items-end-requires c κs = search needs
-
-enum-known-n : tie.Need-enum-known-n
-enum-known-n c = search needs
-
-enum-told-2 : tie.Need-enum-told-2
-enum-told-2 c = search needs
 
 returns-3 : tie.Need-returns-3
 returns-3 c =
@@ -84,18 +60,18 @@ pub list-end-spec : {M : Type 1} → statement M
 list-end-spec =
     tie.close
     (tie.spec
-    read-count-requires
-    enum-known-count
-    enum-told
+    (λ c κs. search needs)
+    (λ c. search needs)
+    (λ c. search needs)
     returns
-    most-requires
+    (λ c κs. search needs)
     returns-2
     sub-items-end
     part-items-end-start
-    part-items-end-end
-    items-end-requires
-    enum-known-n
-    enum-told-2
+    (λ c. search needs)
+    (λ c κs. search needs)
+    (λ c. search needs)
+    (λ c. search needs)
     returns-3
     add-size
     returns-4)

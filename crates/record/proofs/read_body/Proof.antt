@@ -7,17 +7,8 @@ use borrow.Author.Needs.{needs}
 use Rattle.record.proofs.read_body.Statement.{statement}
 use Rattle.record.proofs.read_body.Tie as tie
 
-read-load-requires : tie.Need-read-load-requires
-read-load-requires c κs = search needs
-
 returns : tie.Need-returns
 returns c = rw (c .before .match .keys2) (remove-left _ _ _ (c .if1 .taken))
-
-read-add-service-requires : tie.Need-read-add-service-requires
-read-add-service-requires c κs = search needs
-
-read-remove-service-requires : tie.Need-read-remove-service-requires
-read-remove-service-requires c κs = search needs
 
 returns-2 : tie.Need-returns-2
 returns-2 c =
@@ -29,9 +20,6 @@ returns-3 : tie.Need-returns-3
 returns-3 c =
     let a = c .before .before .before .before .args in
     kind-over (layoutOf (a .c)) (a .kind) (a .at) (now (a .rec)) (c .if3 .taken)
-
-read-row-requires : tie.Need-read-row-requires
-read-row-requires c κs = search needs
 
 returns-4 : tie.Need-returns-4
 unfolding change
@@ -47,22 +35,19 @@ returns-6 c = rw (c .before .match .keys3) (c .read-add-service .ensures)
 returns-7 : tie.Need-returns-7
 returns-7 c = rw (c .before .match .keys4) (c .read-remove-service .ensures)
 
-returns-8 : tie.Need-returns-8
-returns-8 c = search needs
-
 pub read-body-spec : {M : Type 1} → statement M
 read-body-spec =
     tie.close
     (tie.spec
-    read-load-requires
+    (λ c κs. search needs)
     returns
-    read-add-service-requires
-    read-remove-service-requires
+    (λ c κs. search needs)
+    (λ c κs. search needs)
     returns-2
     returns-3
-    read-row-requires
+    (λ c κs. search needs)
     returns-4
     returns-5
     returns-6
     returns-7
-    returns-8)
+    (λ c. search needs))

@@ -9,9 +9,6 @@ use Rattle.record.proofs.read_count.Tie as tie
 returns : tie.Need-returns
 returns c = let a = c .before .args in rw (one-byte (a .c) (a .sort)) (count-none (now (a .part)) (omega arith))
 
-shared-slice-read-count : tie.Need-shared-slice-read-count
-shared-slice-read-count c = search needs
-
 cast-count : tie.Need-cast-count
 cast-count c = omega (arith, c .shared-slice-known .given 0)
 
@@ -19,4 +16,4 @@ returns-2 : tie.Need-returns-2
 returns-2 c = let a = c .before .before .args in rw (one-byte (a .c) (a .sort)) (count-one (now (a .part)) (omega arith))
 
 pub read-count-spec : {M : Type 1} → statement M
-read-count-spec = tie.close (tie.spec returns shared-slice-read-count cast-count returns-2)
+read-count-spec = tie.close (tie.spec returns (λ c. search needs) cast-count returns-2)

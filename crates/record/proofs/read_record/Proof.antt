@@ -42,17 +42,11 @@ inside c = aid-inside (now (c .before .before .before .before .before .before .b
 returns : tie.Need-returns
 returns c = record-short _ _ (c .if1 .taken)
 
-shared-slice-read-length : tie.Need-shared-slice-read-length
-shared-slice-read-length c = search needs
-
 cast-length : tie.Need-cast-length
 cast-length c = omega (arith, c .shared-slice-known2 .given 0)
 
 mul-length : tie.Need-mul-length
 mul-length c = omega (arith, c .shared-slice-known2 .given 0)
-
-shared-slice-read-length-2 : tie.Need-shared-slice-read-length-2
-shared-slice-read-length-2 c = search needs
 
 cast-length-2 : tie.Need-cast-length-2
 cast-length-2 c = omega (arith, c .shared-slice-known3 .given 1)
@@ -63,32 +57,8 @@ add-length c = omega (arith, c .shared-slice-known3 .given 0, c .shared-slice-kn
 returns-2 : tie.Need-returns-2
 returns-2 c = record-length _ _ (c .before .before .before .if1 .left) (c .if2 .taken)
 
-version-requires : tie.Need-version-requires
-version-requires c κs = search needs
-
-shared-slice-read-if3 : tie.Need-shared-slice-read-if3
-shared-slice-read-if3 c = search needs
-
 returns-3 : tie.Need-returns-3
 returns-3 c = record-version _ _ (c .before .before .before .before .before .before .if1 .left) (c .before .before .before .if2 .left) (λ e. c .if3 .taken (e ∙ sym (c .before .before .version .ensures)))
-
-sub-aid-end : tie.Need-sub-aid-end
-sub-aid-end c = search needs
-
-part-aid-end-start : tie.Need-part-aid-end-start
-part-aid-end-start c = search needs
-
-part-aid-end-end : tie.Need-part-aid-end-end
-part-aid-end-end c = search needs
-
-aid-end-requires : tie.Need-aid-end-requires
-aid-end-requires c κs = search needs
-
-enum-known-n : tie.Need-enum-known-n
-enum-known-n c = search needs
-
-enum-told : tie.Need-enum-told
-enum-told c = search needs
 
 returns-4 : tie.Need-returns-4
 returns-4 c =
@@ -99,17 +69,8 @@ returns-4 c =
 add-read-body : tie.Need-add-read-body
 add-read-body c = omega (arith, inside c)
 
-shared-slice-read-read-body : tie.Need-shared-slice-read-read-body
-shared-slice-read-read-body c = search needs
-
 read-body-requires : tie.Need-read-body-requires
 read-body-requires c κs = inside (c .before) .2
-
-enum-known-kind : tie.Need-enum-known-kind
-enum-known-kind c = search needs
-
-enum-told-2 : tie.Need-enum-told-2
-enum-told-2 c = search needs
 
 returns-5 : tie.Need-returns-5
 returns-5 c =
@@ -131,28 +92,28 @@ read-record-spec =
     tie.close
     (tie.spec
     returns
-    shared-slice-read-length
+    (λ c. search needs)
     cast-length
     mul-length
-    shared-slice-read-length-2
+    (λ c. search needs)
     cast-length-2
     add-length
     returns-2
-    version-requires
-    shared-slice-read-if3
+    (λ c κs. search needs)
+    (λ c. search needs)
     returns-3
-    sub-aid-end
-    part-aid-end-start
-    part-aid-end-end
-    aid-end-requires
-    enum-known-n
-    enum-told
+    (λ c. search needs)
+    (λ c. search needs)
+    (λ c. search needs)
+    (λ c κs. search needs)
+    (λ c. search needs)
+    (λ c. search needs)
     returns-4
     add-read-body
-    shared-slice-read-read-body
+    (λ c. search needs)
     read-body-requires
-    enum-known-kind
-    enum-told-2
+    (λ c. search needs)
+    (λ c. search needs)
     returns-5
     sub-len
     returns-6)

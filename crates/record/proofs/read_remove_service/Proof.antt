@@ -4,15 +4,6 @@ use borrow.Author.Needs.{needs}
 use Rattle.record.proofs.read_remove_service.Statement.{statement}
 use Rattle.record.proofs.read_remove_service.Tie as tie
 
-read-tokens-requires : tie.Need-read-tokens-requires
-read-tokens-requires c κs = search needs
-
-enum-known-service : tie.Need-enum-known-service
-enum-known-service c = search needs
-
-enum-told : tie.Need-enum-told
-enum-told c = search needs
-
 returns : tie.Need-returns
 returns c = alone-bad _ _ (c .before .before .read-tokens .ensures) (c .enum-told .given .1)
 
@@ -25,4 +16,4 @@ returns-3 c = alone-good _ _ (c .before .before .before .before .before .read-to
 pub read-remove-service-spec : {M : Type 1} → statement M
 read-remove-service-spec =
     tie.close
-    (tie.spec read-tokens-requires enum-known-service enum-told returns returns-2 returns-3)
+    (tie.spec (λ c κs. search needs) (λ c. search needs) (λ c. search needs) returns returns-2 returns-3)

@@ -20,24 +20,6 @@ front c =
     let a = c .before .before .before .before .before .args in
     at-part (now (a .rec)) (a .at) (c .enum-told .given .1) (c .before .before .row-end .ensures)
 
-sub-row-end : tie.Need-sub-row-end
-sub-row-end c = search needs
-
-part-row-end-start : tie.Need-part-row-end-start
-part-row-end-start c = search needs
-
-part-row-end-end : tie.Need-part-row-end-end
-part-row-end-end c = search needs
-
-row-end-requires : tie.Need-row-end-requires
-row-end-requires c κs = search needs
-
-enum-told : tie.Need-enum-told
-enum-told c = search needs
-
-enum-told-2 : tie.Need-enum-told-2
-enum-told-2 c = search needs
-
 returns : tie.Need-returns
 returns c =
     let a = c .before .before .before .before .before in
@@ -54,9 +36,6 @@ returns-2 c =
     let a = c .before .before .before .before .before .before .before .before in
     row-left _ _ _ _ (a .pre .1) (a .pre .2) (front (c .before .before .before)) (c .before .before .row-at .ensures) (c .if1 .taken)
 
-row-kind-requires : tie.Need-row-kind-requires
-row-kind-requires c κs = search needs
-
 returns-3 : tie.Need-returns-3
 returns-3 c =
     let met = c .before .before in
@@ -68,14 +47,14 @@ pub read-row-spec : {M : Type 1} → statement M
 read-row-spec =
     tie.close
     (tie.spec
-    sub-row-end
-    part-row-end-start
-    part-row-end-end
-    row-end-requires
-    enum-told
-    enum-told-2
+    (λ c. search needs)
+    (λ c. search needs)
+    (λ c. search needs)
+    (λ c κs. search needs)
+    (λ c. search needs)
+    (λ c. search needs)
     returns
     row-at-requires
     returns-2
-    row-kind-requires
+    (λ c κs. search needs)
     returns-3)

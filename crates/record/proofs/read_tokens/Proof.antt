@@ -6,24 +6,6 @@ use borrow.Author.Needs.{needs}
 use Rattle.record.proofs.read_tokens.Statement.{statement}
 use Rattle.record.proofs.read_tokens.Tie as tie
 
-sub-tokens-end : tie.Need-sub-tokens-end
-sub-tokens-end c = search needs
-
-part-tokens-end-start : tie.Need-part-tokens-end-start
-part-tokens-end-start c = search needs
-
-part-tokens-end-end : tie.Need-part-tokens-end-end
-part-tokens-end-end c = search needs
-
-tokens-end-requires : tie.Need-tokens-end-requires
-tokens-end-requires c κs = search needs
-
-enum-told : tie.Need-enum-told
-enum-told c = search needs
-
-enum-told-2 : tie.Need-enum-told-2
-enum-told-2 c = search needs
-
 returns : tie.Need-returns
 returns c =
     let a = c .before .before .before .before .before in
@@ -34,9 +16,6 @@ tokens-at-requires c κs =
     let a = c .before .before .before .before .before in
     served-two _ (a .args .at) (now (a .args .rec)) (a .pre) (at-part (now (a .args .rec)) (a .args .at) (c .enum-told .given .1) (c .before .before .tokens-end .ensures .takes))
 
-add-next : tie.Need-add-next
-add-next c = search needs
-
 returns-2 : tie.Need-returns-2
 returns-2 c =
     let a = c .before .before .before .before .before .before in
@@ -46,13 +25,13 @@ pub read-tokens-spec : {M : Type 1} → statement M
 read-tokens-spec =
     tie.close
     (tie.spec
-    sub-tokens-end
-    part-tokens-end-start
-    part-tokens-end-end
-    tokens-end-requires
-    enum-told
-    enum-told-2
+    (λ c. search needs)
+    (λ c. search needs)
+    (λ c. search needs)
+    (λ c κs. search needs)
+    (λ c. search needs)
+    (λ c. search needs)
     returns
     tokens-at-requires
-    add-next
+    (λ c. search needs)
     returns-2)

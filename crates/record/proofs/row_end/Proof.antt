@@ -14,15 +14,6 @@ use Rattle.record.proofs.row_end.Tie as tie
 front : (c : tie.After-known-told) → Takes aid (now (c .before .before .before .before .before .args .part)) (Bytes (c .before .n .given .0 .0))
 front c = rw (c .before .n .given .1) at (c .before .before .before .aid-end .ensures)
 
-aid-end-requires : tie.Need-aid-end-requires
-aid-end-requires c κs = search needs
-
-enum-known-n : tie.Need-enum-known-n
-enum-known-n c = search needs
-
-enum-told : tie.Need-enum-told
-enum-told c = search needs
-
 returns : tie.Need-returns
 returns c = row-none _ (rw (c .enum-told .given .1) at (c .before .before .aid-end .ensures))
 
@@ -31,18 +22,6 @@ sub-tokens-end c = front c .fits
 
 part-tokens-end-start : tie.Need-part-tokens-end-start
 part-tokens-end-start c = front c .fits
-
-part-tokens-end-end : tie.Need-part-tokens-end-end
-part-tokens-end-end c = search needs
-
-tokens-end-requires : tie.Need-tokens-end-requires
-tokens-end-requires c κs = search needs
-
-enum-known-m : tie.Need-enum-known-m
-enum-known-m c = search needs
-
-enum-told-2 : tie.Need-enum-told-2
-enum-told-2 c = search needs
 
 returns-2 : tie.Need-returns-2
 returns-2 c =
@@ -64,16 +43,16 @@ pub row-end-spec : {M : Type 1} → statement M
 row-end-spec =
     tie.close
     (tie.spec
-    aid-end-requires
-    enum-known-n
-    enum-told
+    (λ c κs. search needs)
+    (λ c. search needs)
+    (λ c. search needs)
     returns
     sub-tokens-end
     part-tokens-end-start
-    part-tokens-end-end
-    tokens-end-requires
-    enum-known-m
-    enum-told-2
+    (λ c. search needs)
+    (λ c κs. search needs)
+    (λ c. search needs)
+    (λ c. search needs)
     returns-2
     add-t8
     returns-3)

@@ -8,12 +8,6 @@ use Rattle.record.proofs.tokens_end.Tie as tie
 returns : tie.Need-returns
 returns c = tokens-none _ (λ h. omega arith)
 
-methods-requires : tie.Need-methods-requires
-methods-requires c κs = search needs
-
-shared-slice-read-if2 : tie.Need-shared-slice-read-if2
-shared-slice-read-if2 c = search needs
-
 returns-2 : tie.Need-returns-2
 returns-2 c = tokens-none _ (λ h. omega (arith, c .before .before .methods .ensures))
 
@@ -21,4 +15,4 @@ returns-3 : tie.Need-returns-3
 returns-3 c = tokens-two _ (omega (arith, c .before .before .methods .ensures))
 
 pub tokens-end-spec : {M : Type 1} → statement M
-tokens-end-spec = tie.close (tie.spec returns methods-requires shared-slice-read-if2 returns-2 returns-3)
+tokens-end-spec = tie.close (tie.spec returns (λ c κs. search needs) (λ c. search needs) returns-2 returns-3)

@@ -1,6 +1,5 @@
 -- `record::proper::callers_proper` meets its contract: the things to come decide.
 use native.Mathlib.Omega.{arith}
-use denote.Ref.{now}
 use Rattle.policy.specs.Contract.{eqAid}
 use Rattle.policy.specs.Record.{aid, proper}
 use Rattle.record.proofs.Loops.{Left, todo-start, todo-end}

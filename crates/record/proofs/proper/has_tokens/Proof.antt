@@ -21,9 +21,6 @@ loop-holds c = todo-start (c .before .pre)
 take-tokens-requires : tie.Need-take-tokens-requires Inv-loop μ-loop
 take-tokens-requires c κs = (c .before .before .loop .inv .stands, c .if1 .taken)
 
-same-tokens-requires : tie.Need-same-tokens-requires Inv-loop μ-loop
-same-tokens-requires c κs = search needs
-
 returns : tie.Need-returns Inv-loop μ-loop
 returns c =
     let d = c .before .before .before in
@@ -48,7 +45,7 @@ has-tokens-spec =
     μ-loop
     loop-holds
     take-tokens-requires
-    same-tokens-requires
+    (λ c κs. search needs)
     returns
     loop-less
     loop-again

@@ -1,7 +1,6 @@
 -- `record::proper::load_proper` meets its contract: the five answers together.
-use denote.Ref.{now}
 use borrow.Author.Needs.{needs}
-use Rattle.record.proofs.Improper.{load-is}
+use Rattle.record.proofs.Improper.{load-proper}
 use Rattle.record.proofs.proper.load_proper.Statement.{statement}
 use Rattle.record.proofs.proper.load_proper.Tie as tie
 
@@ -10,7 +9,7 @@ returns c =
     let needs′ = c .before in
     let grants = needs′ .before in
     let calls = grants .before in
-    load-is _ _ _ _ _ (calls .before .tokens-proper .ensures) (calls .rows-proper .ensures) (grants .rows-proper2 .ensures) (needs′ .rows-proper3 .ensures) (c .all-called .ensures)
+    load-proper _ _ _ _ _ (calls .before .tokens-proper .ensures) (calls .rows-proper .ensures) (grants .rows-proper2 .ensures) (needs′ .rows-proper3 .ensures) (c .all-called .ensures)
 
 pub load-proper-spec : {M : Type 1} → statement M
 load-proper-spec =

@@ -1,6 +1,5 @@
 -- `record::proper::rows_proper` meets its contract: the things to come decide.
 use native.Mathlib.Omega.{arith}
-use denote.Ref.{now}
 use Rattle.policy.specs.Contract.{eqRow}
 use Rattle.policy.specs.Record.{aRow}
 use Rattle.record.proofs.Loops.{Left, todo-start, todo-end}

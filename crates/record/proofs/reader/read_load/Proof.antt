@@ -8,11 +8,7 @@ use Rattle.geometry.specs.Geometry.{layoutOf}
 use Rattle.record.specs.Meaning.{Places, PlacesRows, Bodies, loadOf}
 use Rattle.record.proofs.Held.{a-list, three-lists, a-body}
 use Rattle.record.proofs.Bodies.{load-is}
-use Rattle.record.proofs.Thin.{MethodOf}
-use Rattle.record.proofs.Moving.{JoiningOf, moving-meets}
-use Rattle.record.proofs.ListAt as R₁
-use Rattle.record.proofs.RowsAt as R₂
-use Rattle.record.proofs.Body as R
+use Rattle.record.proofs.Moving.{moving-meets}
 use Rattle.record.proofs.reader.Reader.services.Symbol as first
 use Rattle.record.proofs.reader.Reader.services.Met as first-thm
 use Rattle.record.proofs.reader.Reader.rows.Symbol as second
@@ -29,8 +25,9 @@ unfolding code.routine tablesOf
 read-load-spec 𝓤 H 𝓜 𝓖 𝓡 =
     entered 𝓤 H (tripleOf 𝓤 H (𝓖 .A) read.signature (read.spec 𝓤 H (𝓖 .A) (𝓜 .mem) (𝓡 .run)))
     (tables 𝓤 H 𝓜 𝓡 code.env .C) (tables 𝓤 H 𝓜 𝓡 code.env .Λ) key.name code.function (code.unfolded 𝓤 H 𝓜 𝓡)
-    (moving-meets a-list three-lists a-body (λ c at s r. Places tokens (tokenList (layoutOf c)) at s r) (λ c at s r. PlacesRows (layoutOf c) at s r) loadOf (λ c at s r. Bodies (layoutOf c) (aLoad (layoutOf c) (drop at s)) s r) first.name second.name joins.name
-    (λ c n s x h. h .inside) (λ c n s x y. load-is (layoutOf c) s x y) 𝓤 H (𝓖 .A) (givenOf 𝓤 H 𝓜 𝓖) (tablesOf 𝓤 H 𝓜 (tables 𝓤 H 𝓜 𝓡 code.env))
-    (cited 𝓤 H (MethodOf R₁.the-row (λ c at s r. Places tokens (tokenList (layoutOf c)) at s r) 𝓤 H (𝓖 .A)) 𝓜 𝓡 code.env first.name first.routine code.calls-record·reader·Reader·services (first-thm.met 𝓤 H 𝓜 𝓖 𝓡))
-    (cited 𝓤 H (MethodOf R₂.the-row (λ c at s r. PlacesRows (layoutOf c) at s r) 𝓤 H (𝓖 .A)) 𝓜 𝓡 code.env second.name second.routine code.calls-record·reader·Reader·rows (second-thm.met 𝓤 H 𝓜 𝓖 𝓡))
-    (cited 𝓤 H (JoiningOf R₁.the-row R₂.the-row R.the-row loadOf 𝓤 H (𝓖 .A)) 𝓜 𝓡 code.env joins.name joins.routine code.calls-record·load-of (joins-thm.met 𝓤 H 𝓜 𝓖 𝓡)))
+    (moving-meets a-list three-lists a-body (λ c. Places tokens (tokenList (layoutOf c))) (λ c. PlacesRows (layoutOf c)) loadOf
+    (λ c at s. Bodies (layoutOf c) (aLoad (layoutOf c) (drop at s)) s) first.name second.name joins.name
+    (λ c at s x h. h .inside) (λ c at s. load-is (layoutOf c) s) 𝓤 H (𝓖 .A) (givenOf 𝓤 H 𝓜 𝓖) (tablesOf 𝓤 H 𝓜 (tables 𝓤 H 𝓜 𝓡 code.env))
+    (cited 𝓤 H _ 𝓜 𝓡 code.env first.name first.routine code.calls-record·reader·Reader·services (first-thm.met 𝓤 H 𝓜 𝓖 𝓡))
+    (cited 𝓤 H _ 𝓜 𝓡 code.env second.name second.routine code.calls-record·reader·Reader·rows (second-thm.met 𝓤 H 𝓜 𝓖 𝓡))
+    (cited 𝓤 H _ 𝓜 𝓡 code.env joins.name joins.routine code.calls-record·load-of (joins-thm.met 𝓤 H 𝓜 𝓖 𝓡)))

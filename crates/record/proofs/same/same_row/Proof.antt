@@ -5,12 +5,6 @@ use Rattle.record.proofs.Alike.{row-differs, row-by-aids}
 use Rattle.record.proofs.same.same_row.Statement.{statement}
 use Rattle.record.proofs.same.same_row.Tie as tie
 
-same-tokens-requires : tie.Need-same-tokens-requires
-same-tokens-requires c κs = search needs
-
-same-aid-requires : tie.Need-same-aid-requires
-same-aid-requires c κs = search needs
-
 returns : tie.Need-returns
 returns c =
     let met = c .before .before .before in
@@ -23,4 +17,4 @@ returns-2 c =
     row-differs (now (a .rec)) (a .r) (a .s) (c .before .same-tokens .ensures) (c .if1 .left)
 
 pub same-row-spec : {M : Type 1} → statement M
-same-row-spec = tie.close (tie.spec same-tokens-requires same-aid-requires returns returns-2)
+same-row-spec = tie.close (tie.spec (λ c κs. search needs) (λ c κs. search needs) returns returns-2)

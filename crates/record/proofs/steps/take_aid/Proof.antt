@@ -16,18 +16,12 @@ shared-slice-read-len c = omega (arith, here (c .before) .fits)
 cast-len : tie.Need-cast-len
 cast-len c = omega (arith, c .shared-slice-known .given (c .before .args .items .at))
 
-add-at : tie.Need-add-at
-add-at c = search needs
-
 add-next : tie.Need-add-next
 add-next c = omega (arith, here (c .before) .fits, c .before)
-
-sub-left : tie.Need-sub-left
-sub-left c = search needs
 
 returns : tie.Need-returns
 returns c = uncons-aid (c .before .before .pre .0) (c .before .before .pre .1)
 
 pub take-aid-spec : {M : Type 1} → statement M
 take-aid-spec =
-    tie.close (tie.spec shared-slice-read-len cast-len add-at add-next sub-left returns)
+    tie.close (tie.spec shared-slice-read-len cast-len (λ c. search needs) add-next (λ c. search needs) returns)

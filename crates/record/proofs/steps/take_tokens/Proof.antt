@@ -7,14 +7,8 @@ use Rattle.record.proofs.steps.take_tokens.Tie as tie
 tokens-at-requires : tie.Need-tokens-at-requires
 tokens-at-requires c κs = tokens-inside (c .before .pre .0) (c .before .pre .1)
 
-add-next : tie.Need-add-next
-add-next c = search needs
-
-sub-left : tie.Need-sub-left
-sub-left c = search needs
-
 returns : tie.Need-returns
 returns c = uncons-tokens (c .before .before .before .pre .0) (c .before .before .before .pre .1) (c .before .tokens-at .ensures)
 
 pub take-tokens-spec : {M : Type 1} → statement M
-take-tokens-spec = tie.close (tie.spec tokens-at-requires add-next sub-left returns)
+take-tokens-spec = tie.close (tie.spec tokens-at-requires (λ c. search needs) (λ c. search needs) returns)

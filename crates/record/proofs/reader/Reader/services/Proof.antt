@@ -1,14 +1,12 @@
 -- `record::reader::Reader::services` meets its contract: it is thin, over `services_at`.
 use contract.Running.{givenOf, tables, tablesOf}
-use denote.Ref.{now}
 use denote.Triple.Spec.{tripleOf}
 use denote.Triple.Table.{entered, cited}
 use Rattle.policy.specs.Record.{tokens, tokenList}
-use Rattle.record.specs.Meaning.{Places}
 use Rattle.geometry.specs.Geometry.{layoutOf}
+use Rattle.record.specs.Meaning.{Places}
 use Rattle.record.proofs.Held.{shown, a-list}
-use Rattle.record.proofs.Thin.{UnderOf, thin-meets}
-use Rattle.record.proofs.ListAt as R
+use Rattle.record.proofs.Thin.{thin-meets}
 use Rattle.record.proofs.services_at.Symbol as step
 use Rattle.record.proofs.services_at.Met as step-thm
 use Rattle.record.proofs.reader.Reader.services.Key as key
@@ -21,5 +19,5 @@ unfolding code.routine tablesOf
 services-spec 𝓤 H 𝓜 𝓖 𝓡 =
     entered 𝓤 H (tripleOf 𝓤 H (𝓖 .A) services.signature (services.spec 𝓤 H (𝓖 .A) (𝓜 .mem) (𝓡 .run)))
     (tables 𝓤 H 𝓜 𝓡 code.env .C) (tables 𝓤 H 𝓜 𝓡 code.env .Λ) key.name code.function (code.unfolded 𝓤 H 𝓜 𝓡)
-    (thin-meets (shown a-list) (λ c at s r. Places tokens (tokenList (layoutOf c)) at s r) step.name 𝓤 H (𝓖 .A) (givenOf 𝓤 H 𝓜 𝓖) (tablesOf 𝓤 H 𝓜 (tables 𝓤 H 𝓜 𝓡 code.env))
-    (cited 𝓤 H (UnderOf R.the-row (λ c at s r. Places tokens (tokenList (layoutOf c)) at s r) 𝓤 H (𝓖 .A)) 𝓜 𝓡 code.env step.name step.routine code.calls-record·services-at (step-thm.met 𝓤 H 𝓜 𝓖 𝓡)))
+    (thin-meets (shown a-list) (λ c. Places tokens (tokenList (layoutOf c))) step.name 𝓤 H (𝓖 .A) (givenOf 𝓤 H 𝓜 𝓖) (tablesOf 𝓤 H 𝓜 (tables 𝓤 H 𝓜 𝓡 code.env))
+    (cited 𝓤 H _ 𝓜 𝓡 code.env step.name step.routine code.calls-record·services-at (step-thm.met 𝓤 H 𝓜 𝓖 𝓡)))
