@@ -5,9 +5,6 @@ use mathlib.Core.Path.{refl}
 use Rattle.record.proofs.aid_bytes.Statement.{statement}
 use Rattle.record.proofs.aid_bytes.Tie as tie
 
-returns : tie.Need-returns
-returns c = rw add-sub-cancel-left refl
-
 pub aid-bytes-spec : {M : Type 1} → statement M
 aid-bytes-spec =
     tie.close
@@ -16,4 +13,4 @@ aid-bytes-spec =
     (λ c. search needs)
     (λ c. search needs)
     (λ c. search needs)
-    returns)
+    (λ c. rw add-sub-cancel-left refl))

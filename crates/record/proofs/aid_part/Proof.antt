@@ -5,12 +5,6 @@ use borrow.Author.Needs.{needs}
 use Rattle.record.proofs.aid_part.Statement.{statement}
 use Rattle.record.proofs.aid_part.Tie as tie
 
-returns : tie.Need-returns
-returns c = first-none (c .before .before .before .read-record .ensures) (c .before .enum-told .given .1)
-
-aid-bytes-requires : tie.Need-aid-bytes-requires
-aid-bytes-requires c κs = parsed-fits (c .before .before .before .before .read-record .ensures) (c .before .before .r .given .1) .0
-
 returns-2 : tie.Need-returns-2
 returns-2 c = c .aid-bytes .ensures ∙ first-some (c .before .before .before .before .before .read-record .ensures) (c .before .before .before .r .given .1)
 
@@ -22,6 +16,6 @@ aid-part-spec =
     (λ c. search needs)
     (λ c. search needs)
     (λ c. search needs)
-    returns
-    aid-bytes-requires
+    (λ c. first-none (c .before .before .before .read-record .ensures) (c .before .enum-told .given .1))
+    (λ c κs. parsed-fits (c .before .before .before .before .read-record .ensures) (c .before .before .r .given .1) .0)
     returns-2)

@@ -17,9 +17,6 @@ Inv-loop part c sort count at₀ left₀ at left = Still (validReader (layoutOf 
 abbrev μ-loop : tie.MeasureT-loop
 μ-loop part c sort count at₀ left₀ at left = left
 
-loop-holds : tie.Need-loop-holds Inv-loop μ-loop
-loop-holds c = record { inside = omega arith; same = refl }
-
 returns : tie.Need-returns Inv-loop μ-loop
 returns c =
     let l = c .before .before .before .before in
@@ -44,16 +41,13 @@ loop-again c =
     let l = c .before .before .before .before .before in
     still-next (l .before .loop .inv) (l .loop-test .taken) (next c)
 
-returns-2 : tie.Need-returns-2 Inv-loop μ-loop
-returns-2 c = still-done (c .before .loop .inv) (c .loop-test .left)
-
 pub items-end-spec : {M : Type 1} → statement M
 items-end-spec =
     tie.close
     (tie.spec
     Inv-loop
     μ-loop
-    loop-holds
+    (λ c. record { inside = omega arith; same = refl })
     (λ c. search needs)
     (λ c. search needs)
     (λ c. search needs)
@@ -65,4 +59,4 @@ items-end-spec =
     (λ c. search needs)
     (λ c. search needs)
     loop-again
-    returns-2)
+    (λ c. still-done (c .before .loop .inv) (c .loop-test .left)))

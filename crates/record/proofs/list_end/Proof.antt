@@ -27,18 +27,6 @@ things c =
     let d = c .before .before .before .before .before .before .before in
     at-part (now (d .before .before .before .before .before .args .part)) (d .before .count .given .0 .1 .0) (c .before .n .given .1) (c .before .before .before .items-end .ensures)
 
-returns : tie.Need-returns
-returns c = list-none _ _ _ _ (rw (c .enum-told .given .1) at (c .before .before .read-count .ensures))
-
-returns-2 : tie.Need-returns-2
-returns-2 c = list-over _ _ _ _ (counted (c .before .before)) (rw (c .before .most .ensures) at (c .if1 .taken))
-
-sub-items-end : tie.Need-sub-items-end
-sub-items-end c = counted (c .before .before) .fits
-
-part-items-end-start : tie.Need-part-items-end-start
-part-items-end-start c = counted (c .before .before) .fits
-
 returns-3 : tie.Need-returns-3
 returns-3 c =
     let d = c .before .before .before .before .before .before in
@@ -63,11 +51,11 @@ list-end-spec =
     (λ c κs. search needs)
     (λ c. search needs)
     (λ c. search needs)
-    returns
+    (λ c. list-none _ _ _ _ (rw (c .enum-told .given .1) at (c .before .before .read-count .ensures)))
     (λ c κs. search needs)
-    returns-2
-    sub-items-end
-    part-items-end-start
+    (λ c. list-over _ _ _ _ (counted (c .before .before)) (rw (c .before .most .ensures) at (c .if1 .taken)))
+    (λ c. counted (c .before .before) .fits)
+    (λ c. counted (c .before .before) .fits)
     (λ c. search needs)
     (λ c κs. search needs)
     (λ c. search needs)

@@ -4,9 +4,6 @@ use borrow.Author.Tests.{lt-ltb, le-ltb}
 use Rattle.record.proofs.load_of.Statement.{statement}
 use Rattle.record.proofs.load_of.Tie as tie
 
-returns-3 : tie.Need-returns-3
-returns-3 c = let q = c .before .before .before in rw (q .before .before .before .p .given .1, q .q .given .1, c .enum-told3 .given .1)
-
 returns-4 : tie.Need-returns-4
 returns-4 c =
     let g = c .before .before .before in
@@ -39,7 +36,7 @@ load-of-spec =
     (λ c. search needs)
     (λ c. search needs)
     (λ c. search needs)
-    returns-3
+    (λ c. let q = c .before .before .before in rw (q .before .before .before .p .given .1, q .q .given .1, c .enum-told3 .given .1))
     (λ c. search needs)
     (λ c. search needs)
     returns-4

@@ -7,9 +7,6 @@ use borrow.Author.Needs.{needs}
 use Rattle.record.proofs.read_body.Statement.{statement}
 use Rattle.record.proofs.read_body.Tie as tie
 
-returns : tie.Need-returns
-returns c = rw (c .before .match .keys2) (remove-left _ _ _ (c .if1 .taken))
-
 returns-2 : tie.Need-returns-2
 returns-2 c =
     let a = c .before .before .before .args in
@@ -25,29 +22,23 @@ returns-4 : tie.Need-returns-4
 unfolding change
 returns-4 c = rw (c .before .match .keys1) (c .read-load .ensures)
 
-returns-5 : tie.Need-returns-5
-returns-5 c = rw (c .before .match .keys2) (remove-good _ _ _ (c .if1 .left))
-
 returns-6 : tie.Need-returns-6
 unfolding change
 returns-6 c = rw (c .before .match .keys3) (c .read-add-service .ensures)
-
-returns-7 : tie.Need-returns-7
-returns-7 c = rw (c .before .match .keys4) (c .read-remove-service .ensures)
 
 pub read-body-spec : {M : Type 1} → statement M
 read-body-spec =
     tie.close
     (tie.spec
     (λ c κs. search needs)
-    returns
+    (λ c. rw (c .before .match .keys2) (remove-left _ _ _ (c .if1 .taken)))
     (λ c κs. search needs)
     (λ c κs. search needs)
     returns-2
     returns-3
     (λ c κs. search needs)
     returns-4
-    returns-5
+    (λ c. rw (c .before .match .keys2) (remove-good _ _ _ (c .if1 .left)))
     returns-6
-    returns-7
+    (λ c. rw (c .before .match .keys4) (c .read-remove-service .ensures))
     (λ c. search needs))

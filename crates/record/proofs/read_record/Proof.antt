@@ -39,24 +39,6 @@ inside : (c : tie.After-known-told)
     → (6 ≤ c .before .n .given .0 .0) × (c .before .n .given .0 .0 ≤ 17) × (c .before .n .given .0 .0 + 4 ≤ length (now (c .before .before .before .before .before .before .before .before .before .before .before .before .before .args .rec)))
 inside c = aid-inside (now (c .before .before .before .before .before .before .before .before .before .before .before .before .before .args .rec)) (headed (c .before .before .before) .four) (front c)
 
-returns : tie.Need-returns
-returns c = record-short _ _ (c .if1 .taken)
-
-cast-length : tie.Need-cast-length
-cast-length c = omega (arith, c .shared-slice-known2 .given 0)
-
-mul-length : tie.Need-mul-length
-mul-length c = omega (arith, c .shared-slice-known2 .given 0)
-
-cast-length-2 : tie.Need-cast-length-2
-cast-length-2 c = omega (arith, c .shared-slice-known3 .given 1)
-
-add-length : tie.Need-add-length
-add-length c = omega (arith, c .shared-slice-known3 .given 0, c .shared-slice-known3 .given 1)
-
-returns-2 : tie.Need-returns-2
-returns-2 c = record-length _ _ (c .before .before .before .if1 .left) (c .if2 .taken)
-
 returns-3 : tie.Need-returns-3
 returns-3 c = record-version _ _ (c .before .before .before .before .before .before .if1 .left) (c .before .before .before .if2 .left) (λ e. c .if3 .taken (e ∙ sym (c .before .before .version .ensures)))
 
@@ -66,20 +48,11 @@ returns-4 c =
     record-aid _ _ (h .four) (h .long) (h .kept)
     (at-part (now (c .before .before .before .before .before .before .before .before .before .before .before .before .args .rec)) 4 (c .enum-told .given .1) (c .before .before .aid-end .ensures))
 
-add-read-body : tie.Need-add-read-body
-add-read-body c = omega (arith, inside c)
-
-read-body-requires : tie.Need-read-body-requires
-read-body-requires c κs = inside (c .before) .2
-
 returns-5 : tie.Need-returns-5
 returns-5 c =
     let d = c .before .before .before .before in
     let h = headed (d .before .before .before) in
     record-body _ _ (h .four) (h .long) (h .kept) (front d) (rw (c .enum-told2 .given .1) at (c .before .before .read-body .ensures))
-
-sub-len : tie.Need-sub-len
-sub-len c = omega (arith, inside (c .before .before .before .before .before))
 
 returns-6 : tie.Need-returns-6
 returns-6 c =
@@ -91,14 +64,14 @@ pub read-record-spec : {M : Type 1} → statement M
 read-record-spec =
     tie.close
     (tie.spec
-    returns
+    (λ c. record-short _ _ (c .if1 .taken))
     (λ c. search needs)
-    cast-length
-    mul-length
+    (λ c. omega (arith, c .shared-slice-known2 .given 0))
+    (λ c. omega (arith, c .shared-slice-known2 .given 0))
     (λ c. search needs)
-    cast-length-2
-    add-length
-    returns-2
+    (λ c. omega (arith, c .shared-slice-known3 .given 1))
+    (λ c. omega (arith, c .shared-slice-known3 .given 0, c .shared-slice-known3 .given 1))
+    (λ c. record-length _ _ (c .before .before .before .if1 .left) (c .if2 .taken))
     (λ c κs. search needs)
     (λ c. search needs)
     returns-3
@@ -109,11 +82,11 @@ read-record-spec =
     (λ c. search needs)
     (λ c. search needs)
     returns-4
-    add-read-body
+    (λ c. omega (arith, inside c))
     (λ c. search needs)
-    read-body-requires
+    (λ c κs. inside (c .before) .2)
     (λ c. search needs)
     (λ c. search needs)
     returns-5
-    sub-len
+    (λ c. omega (arith, inside (c .before .before .before .before .before)))
     returns-6)

@@ -4,9 +4,6 @@ use borrow.Author.Needs.{needs}
 use Rattle.record.proofs.read_remove_service.Statement.{statement}
 use Rattle.record.proofs.read_remove_service.Tie as tie
 
-returns : tie.Need-returns
-returns c = alone-bad _ _ (c .before .before .read-tokens .ensures) (c .enum-told .given .1)
-
 returns-2 : tie.Need-returns-2
 returns-2 c = alone-left _ _ (c .before .before .before .before .before .read-tokens .ensures) (c .before .before .before .service .given .1) (c .if1 .taken)
 
@@ -16,4 +13,10 @@ returns-3 c = alone-good _ _ (c .before .before .before .before .before .read-to
 pub read-remove-service-spec : {M : Type 1} → statement M
 read-remove-service-spec =
     tie.close
-    (tie.spec (λ c κs. search needs) (λ c. search needs) (λ c. search needs) returns returns-2 returns-3)
+    (tie.spec
+    (λ c κs. search needs)
+    (λ c. search needs)
+    (λ c. search needs)
+    (λ c. alone-bad _ _ (c .before .before .read-tokens .ensures) (c .enum-told .given .1))
+    returns-2
+    returns-3)

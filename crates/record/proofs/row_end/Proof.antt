@@ -14,15 +14,6 @@ use Rattle.record.proofs.row_end.Tie as tie
 front : (c : tie.After-known-told) → Takes aid (now (c .before .before .before .before .before .args .part)) (Bytes (c .before .n .given .0 .0))
 front c = rw (c .before .n .given .1) at (c .before .before .before .aid-end .ensures)
 
-returns : tie.Need-returns
-returns c = row-none _ (rw (c .enum-told .given .1) at (c .before .before .aid-end .ensures))
-
-sub-tokens-end : tie.Need-sub-tokens-end
-sub-tokens-end c = front c .fits
-
-part-tokens-end-start : tie.Need-part-tokens-end-start
-part-tokens-end-start c = front c .fits
-
 returns-2 : tie.Need-returns-2
 returns-2 c =
     let d = c .before .before .before .before in
@@ -46,9 +37,9 @@ row-end-spec =
     (λ c κs. search needs)
     (λ c. search needs)
     (λ c. search needs)
-    returns
-    sub-tokens-end
-    part-tokens-end-start
+    (λ c. row-none _ (rw (c .enum-told .given .1) at (c .before .before .aid-end .ensures)))
+    (λ c. front c .fits)
+    (λ c. front c .fits)
     (λ c. search needs)
     (λ c κs. search needs)
     (λ c. search needs)

@@ -14,18 +14,6 @@ Inv-loop rec calls todo₀ todo = Left aRow rec (every (λ x. hasRow x (itemsIn 
 abbrev μ-loop : tie.MeasureT-loop
 μ-loop rec calls todo₀ todo = todo .count
 
-loop-holds : tie.Need-loop-holds Inv-loop μ-loop
-loop-holds c = todo-start (c .before .pre .0)
-
-take-row-requires : tie.Need-take-row-requires Inv-loop μ-loop
-take-row-requires c κs = (c .before .before .loop .inv .stands, c .if1 .taken)
-
-has-row-requires : tie.Need-has-row-requires Inv-loop μ-loop
-has-row-requires c κs = (c .before .take-row .ensures .other, c .before .before .before .before .before .before .pre .1)
-
-loop-less : tie.Need-loop-less Inv-loop μ-loop
-loop-less c = omega (arith, c .before .before .before .before .take-row .ensures .split .fewer)
-
 loop-again : tie.Need-loop-again Inv-loop μ-loop
 loop-again c =
     let d = c .before .before .before .before in
@@ -36,19 +24,16 @@ returns c =
     let d = c .before .before .before in
     every-stop _ (d .take-row .ensures .split) (c .before .has-row .ensures) (d .before .before .before .loop .inv) (c .if2 .left)
 
-returns-2 : tie.Need-returns-2 Inv-loop μ-loop
-returns-2 c = todo-end (c .before .before .loop .inv) (c .if1 .left)
-
 pub all-called-spec : {M : Type 1} → statement M
 all-called-spec =
     tie.close
     (tie.spec
     Inv-loop
     μ-loop
-    loop-holds
-    take-row-requires
-    has-row-requires
-    loop-less
+    (λ c. todo-start (c .before .pre .0))
+    (λ c κs. (c .before .before .loop .inv .stands, c .if1 .taken))
+    (λ c κs. (c .before .take-row .ensures .other, c .before .before .before .before .before .before .pre .1))
+    (λ c. omega (arith, c .before .before .before .before .take-row .ensures .split .fewer))
     loop-again
     returns
-    returns-2)
+    (λ c. todo-end (c .before .before .loop .inv) (c .if1 .left)))

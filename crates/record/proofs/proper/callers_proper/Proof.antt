@@ -13,15 +13,6 @@ Inv-loop rec own todo₀ todo = Left aid rec (others (ownAid own) eqAid) todo₀
 abbrev μ-loop : tie.MeasureT-loop
 μ-loop rec own todo₀ todo = todo .count
 
-loop-holds : tie.Need-loop-holds Inv-loop μ-loop
-loop-holds c = todo-start (c .before .before .pre)
-
-take-aid-requires : tie.Need-take-aid-requires Inv-loop μ-loop
-take-aid-requires c κs = (c .before .before .loop .inv .stands, c .if1 .taken)
-
-aid-is-requires : tie.Need-aid-is-requires Inv-loop μ-loop
-aid-is-requires c κs = c .before .before .take-aid .ensures .fits
-
 returns : tie.Need-returns Inv-loop μ-loop
 unfolding proper
 returns c k s =
@@ -38,9 +29,6 @@ returns-2 c k s =
     let first = other .before .before .before .before in
     twice-stop (ownAid _) eqAid (first .take-aid .ensures .split) (first .before .before .before .loop .inv) (other .before .aid-is .ensures) (other .if2 .left)
     (c .before .has-aid .ensures) (c .if3 .taken)
-
-loop-less : tie.Need-loop-less Inv-loop μ-loop
-loop-less c = omega (arith, c .before .before .before .before .before .before .take-aid .ensures .split .fewer)
 
 loop-again : tie.Need-loop-again Inv-loop μ-loop
 loop-again c =
@@ -59,12 +47,12 @@ callers-proper-spec =
     (tie.spec
     Inv-loop
     μ-loop
-    loop-holds
-    take-aid-requires
-    aid-is-requires
+    (λ c. todo-start (c .before .before .pre))
+    (λ c κs. (c .before .before .loop .inv .stands, c .if1 .taken))
+    (λ c κs. c .before .before .take-aid .ensures .fits)
     returns
     has-aid-requires
     returns-2
-    loop-less
+    (λ c. omega (arith, c .before .before .before .before .before .before .take-aid .ensures .split .fewer))
     loop-again
     returns-3)

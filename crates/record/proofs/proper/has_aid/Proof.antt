@@ -14,30 +14,15 @@ Inv-loop rec a todo₀ todo = Left aid rec (exists (eqAid (aidIn rec a))) todo�
 abbrev μ-loop : tie.MeasureT-loop
 μ-loop rec a todo₀ todo = todo .count
 
-loop-holds : tie.Need-loop-holds Inv-loop μ-loop
-loop-holds c = todo-start (c .before .pre .1)
-
-take-aid-requires : tie.Need-take-aid-requires Inv-loop μ-loop
-take-aid-requires c κs = (c .before .before .loop .inv .stands, c .if1 .taken)
-
-same-aid-requires : tie.Need-same-aid-requires Inv-loop μ-loop
-same-aid-requires c κs = (c .before .before .before .before .before .before .pre .0, c .before .take-aid .ensures .fits)
-
 returns : tie.Need-returns Inv-loop μ-loop
 returns c =
     let d = c .before .before .before in
     exists-stop _ (d .take-aid .ensures .split) (c .before .same-aid .ensures) (d .before .before .before .loop .inv) (c .if2 .taken)
 
-loop-less : tie.Need-loop-less Inv-loop μ-loop
-loop-less c = omega (arith, c .before .before .before .before .take-aid .ensures .split .fewer)
-
 loop-again : tie.Need-loop-again Inv-loop μ-loop
 loop-again c =
     let d = c .before .before .before .before in
     exists-next _ (d .take-aid .ensures .split) (c .before .before .same-aid .ensures) (d .before .before .before .loop .inv) (c .before .if2 .left)
-
-returns-2 : tie.Need-returns-2 Inv-loop μ-loop
-returns-2 c = todo-end (c .before .before .loop .inv) (c .if1 .left)
 
 pub has-aid-spec : {M : Type 1} → statement M
 has-aid-spec =
@@ -45,10 +30,10 @@ has-aid-spec =
     (tie.spec
     Inv-loop
     μ-loop
-    loop-holds
-    take-aid-requires
-    same-aid-requires
+    (λ c. todo-start (c .before .pre .1))
+    (λ c κs. (c .before .before .loop .inv .stands, c .if1 .taken))
+    (λ c κs. (c .before .before .before .before .before .before .pre .0, c .before .take-aid .ensures .fits))
     returns
-    loop-less
+    (λ c. omega (arith, c .before .before .before .before .take-aid .ensures .split .fewer))
     loop-again
-    returns-2)
+    (λ c. todo-end (c .before .before .loop .inv) (c .if1 .left)))

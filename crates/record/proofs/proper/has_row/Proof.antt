@@ -14,30 +14,15 @@ Inv-loop rec r todo₀ todo = Left aRow rec (exists (eqRow (rowIn rec r))) todo�
 abbrev μ-loop : tie.MeasureT-loop
 μ-loop rec r todo₀ todo = todo .count
 
-loop-holds : tie.Need-loop-holds Inv-loop μ-loop
-loop-holds c = todo-start (c .before .pre .1)
-
-take-row-requires : tie.Need-take-row-requires Inv-loop μ-loop
-take-row-requires c κs = (c .before .before .loop .inv .stands, c .if1 .taken)
-
-same-row-requires : tie.Need-same-row-requires Inv-loop μ-loop
-same-row-requires c κs = (c .before .before .before .before .before .before .pre .0, c .before .take-row .ensures .other)
-
 returns : tie.Need-returns Inv-loop μ-loop
 returns c =
     let d = c .before .before .before in
     exists-stop _ (d .take-row .ensures .split) (c .before .same-row .ensures) (d .before .before .before .loop .inv) (c .if2 .taken)
 
-loop-less : tie.Need-loop-less Inv-loop μ-loop
-loop-less c = omega (arith, c .before .before .before .before .take-row .ensures .split .fewer)
-
 loop-again : tie.Need-loop-again Inv-loop μ-loop
 loop-again c =
     let d = c .before .before .before .before in
     exists-next _ (d .take-row .ensures .split) (c .before .before .same-row .ensures) (d .before .before .before .loop .inv) (c .before .if2 .left)
-
-returns-2 : tie.Need-returns-2 Inv-loop μ-loop
-returns-2 c = todo-end (c .before .before .loop .inv) (c .if1 .left)
 
 pub has-row-spec : {M : Type 1} → statement M
 has-row-spec =
@@ -45,10 +30,10 @@ has-row-spec =
     (tie.spec
     Inv-loop
     μ-loop
-    loop-holds
-    take-row-requires
-    same-row-requires
+    (λ c. todo-start (c .before .pre .1))
+    (λ c κs. (c .before .before .loop .inv .stands, c .if1 .taken))
+    (λ c κs. (c .before .before .before .before .before .before .pre .0, c .before .take-row .ensures .other))
     returns
-    loop-less
+    (λ c. omega (arith, c .before .before .before .before .take-row .ensures .split .fewer))
     loop-again
-    returns-2)
+    (λ c. todo-end (c .before .before .loop .inv) (c .if1 .left)))

@@ -15,27 +15,15 @@ Inv-loop rec t todo₀ todo = Left tokens rec (exists (eqTok (tokOf t))) todo₀
 abbrev μ-loop : tie.MeasureT-loop
 μ-loop rec t todo₀ todo = todo .count
 
-loop-holds : tie.Need-loop-holds Inv-loop μ-loop
-loop-holds c = todo-start (c .before .pre)
-
-take-tokens-requires : tie.Need-take-tokens-requires Inv-loop μ-loop
-take-tokens-requires c κs = (c .before .before .loop .inv .stands, c .if1 .taken)
-
 returns : tie.Need-returns Inv-loop μ-loop
 returns c =
     let d = c .before .before .before in
     exists-stop _ (d .take-tokens .ensures) (c .before .same-tokens .ensures) (d .before .before .before .loop .inv) (c .if2 .taken)
 
-loop-less : tie.Need-loop-less Inv-loop μ-loop
-loop-less c = omega (arith, c .before .before .before .before .take-tokens .ensures .fewer)
-
 loop-again : tie.Need-loop-again Inv-loop μ-loop
 loop-again c =
     let d = c .before .before .before .before in
     exists-next _ (d .take-tokens .ensures) (c .before .before .same-tokens .ensures) (d .before .before .before .loop .inv) (c .before .if2 .left)
-
-returns-2 : tie.Need-returns-2 Inv-loop μ-loop
-returns-2 c = todo-end (c .before .before .loop .inv) (c .if1 .left)
 
 pub has-tokens-spec : {M : Type 1} → statement M
 has-tokens-spec =
@@ -43,10 +31,10 @@ has-tokens-spec =
     (tie.spec
     Inv-loop
     μ-loop
-    loop-holds
-    take-tokens-requires
+    (λ c. todo-start (c .before .pre))
+    (λ c κs. (c .before .before .loop .inv .stands, c .if1 .taken))
     (λ c κs. search needs)
     returns
-    loop-less
+    (λ c. omega (arith, c .before .before .before .before .take-tokens .ensures .fewer))
     loop-again
-    returns-2)
+    (λ c. todo-end (c .before .before .loop .inv) (c .if1 .left)))

@@ -4,8 +4,5 @@ use Rattle.record.proofs.Improper.{row-proper}
 use Rattle.record.proofs.proper.other_proper.Statement.{statement}
 use Rattle.record.proofs.proper.other_proper.Tie as tie
 
-returns : tie.Need-returns
-returns c = row-proper _ _ (c .same-bytes .ensures)
-
 pub other-proper-spec : {M : Type 1} → statement M
-other-proper-spec = tie.close (tie.spec (λ c κs. search needs) returns)
+other-proper-spec = tie.close (tie.spec (λ c κs. search needs) (λ c. row-proper _ _ (c .same-bytes .ensures)))

@@ -13,15 +13,6 @@ Inv-loop rec own todo₀ todo = Left aRow rec (others (ownRow own) eqRow) todo�
 abbrev μ-loop : tie.MeasureT-loop
 μ-loop rec own todo₀ todo = todo .count
 
-loop-holds : tie.Need-loop-holds Inv-loop μ-loop
-loop-holds c = todo-start (c .before .before .pre)
-
-take-row-requires : tie.Need-take-row-requires Inv-loop μ-loop
-take-row-requires c κs = (c .before .before .loop .inv .stands, c .if1 .taken)
-
-aid-is-requires : tie.Need-aid-is-requires Inv-loop μ-loop
-aid-is-requires c κs = c .before .before .before .take-row .ensures .other
-
 returns : tie.Need-returns Inv-loop μ-loop
 returns c =
     let first = c .before .before .before .before .before in
@@ -37,9 +28,6 @@ returns-2 c =
     twice-stop (ownRow _) eqRow (first .take-row .ensures .split) (first .before .before .before .loop .inv) (other .before .aid-is .ensures) (other .if2 .left)
     (c .before .has-row .ensures) (c .if3 .taken)
 
-loop-less : tie.Need-loop-less Inv-loop μ-loop
-loop-less c = omega (arith, c .before .before .before .before .before .before .before .take-row .ensures .split .fewer)
-
 loop-again : tie.Need-loop-again Inv-loop μ-loop
 loop-again c =
     let other = c .before .before in
@@ -47,21 +35,18 @@ loop-again c =
     once-next (ownRow _) eqRow (first .take-row .ensures .split) (first .before .before .before .loop .inv) (other .before .aid-is .ensures) (other .if2 .left)
     (c .before .has-row .ensures) (c .if3 .left)
 
-returns-3 : tie.Need-returns-3 Inv-loop μ-loop
-returns-3 c = todo-end (c .before .before .loop .inv) (c .if1 .left)
-
 pub rows-proper-spec : {M : Type 1} → statement M
 rows-proper-spec =
     tie.close
     (tie.spec
     Inv-loop
     μ-loop
-    loop-holds
-    take-row-requires
-    aid-is-requires
+    (λ c. todo-start (c .before .before .pre))
+    (λ c κs. (c .before .before .loop .inv .stands, c .if1 .taken))
+    (λ c κs. c .before .before .before .take-row .ensures .other)
     returns
     has-row-requires
     returns-2
-    loop-less
+    (λ c. omega (arith, c .before .before .before .before .before .before .before .take-row .ensures .split .fewer))
     loop-again
-    returns-3)
+    (λ c. todo-end (c .before .before .loop .inv) (c .if1 .left)))

@@ -14,30 +14,15 @@ Inv-loop rec todo₀ todo = Left tokens rec (distinct eqTok) todo₀ todo
 abbrev μ-loop : tie.MeasureT-loop
 μ-loop rec todo₀ todo = todo .count
 
-loop-holds : tie.Need-loop-holds Inv-loop μ-loop
-loop-holds c = todo-start (c .before .pre)
-
-take-tokens-requires : tie.Need-take-tokens-requires Inv-loop μ-loop
-take-tokens-requires c κs = (c .before .before .loop .inv .stands, c .if1 .taken)
-
-has-tokens-requires : tie.Need-has-tokens-requires Inv-loop μ-loop
-has-tokens-requires c κs = c .before .before .take-tokens .ensures .stands
-
 returns : tie.Need-returns Inv-loop μ-loop
 returns c =
     let d = c .before .before .before .before in
     distinct-stop _ (d .take-tokens .ensures) (c .before .has-tokens .ensures) (d .before .before .before .loop .inv) (c .if2 .taken)
 
-loop-less : tie.Need-loop-less Inv-loop μ-loop
-loop-less c = omega (arith, c .before .before .before .before .take-tokens .ensures .fewer)
-
 loop-again : tie.Need-loop-again Inv-loop μ-loop
 loop-again c =
     let d = c .before .before .before .before in
     distinct-next _ (d .take-tokens .ensures) (c .before .has-tokens .ensures) (d .before .before .before .loop .inv) (c .if2 .left)
-
-returns-2 : tie.Need-returns-2 Inv-loop μ-loop
-returns-2 c = todo-end (c .before .before .loop .inv) (c .if1 .left)
 
 pub tokens-proper-spec : {M : Type 1} → statement M
 tokens-proper-spec =
@@ -45,10 +30,10 @@ tokens-proper-spec =
     (tie.spec
     Inv-loop
     μ-loop
-    loop-holds
-    take-tokens-requires
-    has-tokens-requires
+    (λ c. todo-start (c .before .pre))
+    (λ c κs. (c .before .before .loop .inv .stands, c .if1 .taken))
+    (λ c κs. c .before .before .take-tokens .ensures .stands)
     returns
-    loop-less
+    (λ c. omega (arith, c .before .before .before .before .take-tokens .ensures .fewer))
     loop-again
-    returns-2)
+    (λ c. todo-end (c .before .before .loop .inv) (c .if1 .left)))

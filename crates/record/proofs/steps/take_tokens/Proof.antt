@@ -4,11 +4,11 @@ use borrow.Author.Needs.{needs}
 use Rattle.record.proofs.steps.take_tokens.Statement.{statement}
 use Rattle.record.proofs.steps.take_tokens.Tie as tie
 
-tokens-at-requires : tie.Need-tokens-at-requires
-tokens-at-requires c κs = tokens-inside (c .before .pre .0) (c .before .pre .1)
-
-returns : tie.Need-returns
-returns c = uncons-tokens (c .before .before .before .pre .0) (c .before .before .before .pre .1) (c .before .tokens-at .ensures)
-
 pub take-tokens-spec : {M : Type 1} → statement M
-take-tokens-spec = tie.close (tie.spec tokens-at-requires (λ c. search needs) (λ c. search needs) returns)
+take-tokens-spec =
+    tie.close
+    (tie.spec
+    (λ c κs. tokens-inside (c .before .pre .0) (c .before .pre .1))
+    (λ c. search needs)
+    (λ c. search needs)
+    (λ c. uncons-tokens (c .before .before .before .pre .0) (c .before .before .before .pre .1) (c .before .tokens-at .ensures)))
