@@ -523,6 +523,5 @@ pub fn aid_part(rec: &[u8], c: Card) -> &[u8]
     let Read::Whole(r) = read_record(rec, c) else {
         return &rec[..0];
     };
-    let a = r.aid;
-    aid_bytes(rec, a)
+    aid_bytes(rec, r.aid)
 }

@@ -22,8 +22,7 @@ pub fn has_tokens(rec: &[u8], t: Tokens, of: Items) -> bool
     let mut todo = of;
     while 0 < todo.count {
         let r = crate::steps::take_tokens(rec, todo);
-        let u = r.tokens;
-        if crate::same::same_tokens(t, u) {
+        if crate::same::same_tokens(t, r.tokens) {
             return true;
         }
         todo = r.rest;
@@ -39,8 +38,7 @@ pub fn has_aid(rec: &[u8], a: Aid, of: Items) -> bool
     let mut todo = of;
     while 0 < todo.count {
         let r = crate::steps::take_aid(rec, todo);
-        let b = r.aid;
-        if crate::same::same_aid(rec, a, b) {
+        if crate::same::same_aid(rec, a, r.aid) {
             return true;
         }
         todo = r.rest;
@@ -56,8 +54,7 @@ pub fn has_row(rec: &[u8], r: Row, of: Items) -> bool
     let mut todo = of;
     while 0 < todo.count {
         let next = crate::steps::take_row(rec, todo);
-        let s = next.row;
-        if crate::same::same_row(rec, r, s) {
+        if crate::same::same_row(rec, r, next.row) {
             return true;
         }
         todo = next.rest;
@@ -73,12 +70,10 @@ fn tokens_proper(rec: &[u8], of: Items) -> bool
     let mut todo = of;
     while 0 < todo.count {
         let r = crate::steps::take_tokens(rec, todo);
-        let t = r.tokens;
-        let rest = r.rest;
-        if has_tokens(rec, t, rest) {
+        if has_tokens(rec, r.tokens, r.rest) {
             return false;
         }
-        todo = rest;
+        todo = r.rest;
     }
     true
 }
@@ -92,15 +87,13 @@ pub fn callers_proper(rec: &[u8], own: &[u8], of: Items) -> bool
     let mut todo = of;
     while 0 < todo.count {
         let r = crate::steps::take_aid(rec, todo);
-        let a = r.aid;
-        let rest = r.rest;
-        if crate::same::aid_is(rec, a, own) {
+        if crate::same::aid_is(rec, r.aid, own) {
             return false;
         }
-        if has_aid(rec, a, rest) {
+        if has_aid(rec, r.aid, r.rest) {
             return false;
         }
-        todo = rest;
+        todo = r.rest;
     }
     true
 }
@@ -114,16 +107,13 @@ fn rows_proper(rec: &[u8], own: &[u8], of: Items) -> bool
     let mut todo = of;
     while 0 < todo.count {
         let r = crate::steps::take_row(rec, todo);
-        let row = r.row;
-        let rest = r.rest;
-        let a = row.other;
-        if crate::same::aid_is(rec, a, own) {
+        if crate::same::aid_is(rec, r.row.other, own) {
             return false;
         }
-        if has_row(rec, row, rest) {
+        if has_row(rec, r.row, r.rest) {
             return false;
         }
-        todo = rest;
+        todo = r.rest;
     }
     true
 }
@@ -136,8 +126,7 @@ fn all_called(rec: &[u8], needs: Items, calls: Items) -> bool
     let mut todo = needs;
     while 0 < todo.count {
         let r = crate::steps::take_row(rec, todo);
-        let row = r.row;
-        if has_row(rec, row, calls) {
+        if has_row(rec, r.row, calls) {
             todo = r.rest;
         } else {
             return false;
@@ -151,16 +140,11 @@ pub fn load_proper(rec: &[u8], own: &[u8], l: Lists) -> bool
     requires { ⌜ ListsStand (now rec) l ⌝ }
     ensures { λ r. ⌜ ((c : Card) → r ≡ proper (layoutOf c) (now (own .entry)) (loadIn (now (rec .entry)) l)) ⌝ }
 {
-    let provides = l.provides;
-    let calls = l.calls;
-    let grants = l.grants;
-    let needs = l.needs;
-    let p = tokens_proper(rec, provides);
-    let q = rows_proper(rec, own, calls);
-    let g = rows_proper(rec, own, grants);
-    let n = rows_proper(rec, own, needs);
-    let called = all_called(rec, needs, calls);
-    p & q & g & n & called
+    let provides = tokens_proper(rec, l.provides);
+    let calls = rows_proper(rec, own, l.calls);
+    let grants = rows_proper(rec, own, l.grants);
+    let needs = rows_proper(rec, own, l.needs);
+    provides & calls & grants & needs & all_called(rec, l.needs, l.calls)
 }
 
 // Kinds 5 to 10: whether the other end of a row is not the own AID.

@@ -46,12 +46,8 @@ pub fn same_row(rec: &[u8], r: Row, s: Row) -> bool
     requires { ⌜ AidFits (now rec) (r .other) × AidFits (now rec) (s .other) ⌝ }
     ensures { λ b. ⌜ b ≡ eqRow (rowIn (now (rec .entry)) r) (rowIn (now (rec .entry)) s) ⌝ }
 {
-    let t = r.tokens;
-    let u = s.tokens;
-    if same_tokens(t, u) {
-        let a = r.other;
-        let b = s.other;
-        return same_aid(rec, a, b);
+    if same_tokens(r.tokens, s.tokens) {
+        return same_aid(rec, r.other, s.other);
     }
     false
 }

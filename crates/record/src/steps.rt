@@ -34,9 +34,8 @@ pub fn take_row(rec: &[u8], items: Items) -> RowStep
     let left = items.count - 1;
     let r = crate::row_at(rec, at);
     let row = r.row;
-    let next = r.next;
     let rest = Items {
-        at: next,
+        at: r.next,
         count: left,
     };
     RowStep { row, rest }

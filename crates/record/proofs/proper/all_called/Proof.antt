@@ -16,12 +16,12 @@ abbrev μ-loop : tie.MeasureT-loop
 
 loop-again : tie.Need-loop-again Inv-loop μ-loop
 loop-again c =
-    let d = c .before .before .before .before in
+    let d = c .before .before .before in
     every-next _ (d .take-row .ensures .split) (c .before .before .has-row .ensures) (d .before .before .before .loop .inv) (c .before .if2 .taken)
 
 returns : tie.Need-returns Inv-loop μ-loop
 returns c =
-    let d = c .before .before .before in
+    let d = c .before .before in
     every-stop _ (d .take-row .ensures .split) (c .before .has-row .ensures) (d .before .before .before .loop .inv) (c .if2 .left)
 
 pub all-called-spec : {M : Type 1} → statement M
@@ -32,8 +32,8 @@ all-called-spec =
     μ-loop
     (λ c. todo-start (c .before .pre .0))
     (λ c κs. (c .before .before .loop .inv .stands, c .if1 .taken))
-    (λ c κs. (c .before .take-row .ensures .other, c .before .before .before .before .before .before .pre .1))
-    (λ c. omega (arith, c .before .before .before .before .take-row .ensures .split .fewer))
+    (λ c κs. (c .take-row .ensures .other, c .before .before .before .before .before .pre .1))
+    (λ c. omega (arith, c .before .before .before .take-row .ensures .split .fewer))
     loop-again
     returns
     (λ c. todo-end (c .before .before .loop .inv) (c .if1 .left)))

@@ -16,26 +16,23 @@ abbrev μ-loop : tie.MeasureT-loop
 returns : tie.Need-returns Inv-loop μ-loop
 unfolding proper
 returns c k s =
-    let first = c .before .before .before .before in
+    let first = c .before .before in
     own-stop (ownAid _) eqAid (first .take-aid .ensures .split) (first .before .before .before .loop .inv) (c .before .aid-is .ensures) (c .if2 .taken)
-
-has-aid-requires : tie.Need-has-aid-requires Inv-loop μ-loop
-has-aid-requires c κs = let first = c .before .before .before .before in (first .take-aid .ensures .fits, first .take-aid .ensures .split .stands)
 
 returns-2 : tie.Need-returns-2 Inv-loop μ-loop
 unfolding proper
 returns-2 c k s =
     let other = c .before .before in
-    let first = other .before .before .before .before in
+    let first = other .before .before in
     twice-stop (ownAid _) eqAid (first .take-aid .ensures .split) (first .before .before .before .loop .inv) (other .before .aid-is .ensures) (other .if2 .left)
     (c .before .has-aid .ensures) (c .if3 .taken)
 
 loop-again : tie.Need-loop-again Inv-loop μ-loop
 loop-again c =
-    let other = c .before .before in
-    let first = other .before .before .before .before in
+    let other = c .before .before .before in
+    let first = other .before .before in
     once-next (ownAid _) eqAid (first .take-aid .ensures .split) (first .before .before .before .loop .inv) (other .before .aid-is .ensures) (other .if2 .left)
-    (c .before .has-aid .ensures) (c .if3 .left)
+    (c .before .before .has-aid .ensures) (c .before .if3 .left)
 
 returns-3 : tie.Need-returns-3 Inv-loop μ-loop
 unfolding proper
@@ -49,10 +46,10 @@ callers-proper-spec =
     μ-loop
     (λ c. todo-start (c .before .before .pre))
     (λ c κs. (c .before .before .loop .inv .stands, c .if1 .taken))
-    (λ c κs. c .before .before .take-aid .ensures .fits)
+    (λ c κs. c .take-aid .ensures .fits)
     returns
-    has-aid-requires
+    (λ c κs. (c .before .before .take-aid .ensures .fits, c .before .before .take-aid .ensures .split .stands))
     returns-2
-    (λ c. omega (arith, c .before .before .before .before .before .before .take-aid .ensures .split .fewer))
+    (λ c. omega (arith, c .before .before .before .before .before .take-aid .ensures .split .fewer))
     loop-again
     returns-3)

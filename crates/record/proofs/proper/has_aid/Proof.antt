@@ -16,12 +16,12 @@ abbrev μ-loop : tie.MeasureT-loop
 
 returns : tie.Need-returns Inv-loop μ-loop
 returns c =
-    let d = c .before .before .before in
+    let d = c .before .before in
     exists-stop _ (d .take-aid .ensures .split) (c .before .same-aid .ensures) (d .before .before .before .loop .inv) (c .if2 .taken)
 
 loop-again : tie.Need-loop-again Inv-loop μ-loop
 loop-again c =
-    let d = c .before .before .before .before in
+    let d = c .before .before .before in
     exists-next _ (d .take-aid .ensures .split) (c .before .before .same-aid .ensures) (d .before .before .before .loop .inv) (c .before .if2 .left)
 
 pub has-aid-spec : {M : Type 1} → statement M
@@ -32,8 +32,8 @@ has-aid-spec =
     μ-loop
     (λ c. todo-start (c .before .pre .1))
     (λ c κs. (c .before .before .loop .inv .stands, c .if1 .taken))
-    (λ c κs. (c .before .before .before .before .before .before .pre .0, c .before .take-aid .ensures .fits))
+    (λ c κs. (c .before .before .before .before .before .pre .0, c .take-aid .ensures .fits))
     returns
-    (λ c. omega (arith, c .before .before .before .before .take-aid .ensures .split .fewer))
+    (λ c. omega (arith, c .before .before .before .take-aid .ensures .split .fewer))
     loop-again
     (λ c. todo-end (c .before .before .loop .inv) (c .if1 .left)))

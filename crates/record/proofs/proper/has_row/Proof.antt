@@ -16,12 +16,12 @@ abbrev μ-loop : tie.MeasureT-loop
 
 returns : tie.Need-returns Inv-loop μ-loop
 returns c =
-    let d = c .before .before .before in
+    let d = c .before .before in
     exists-stop _ (d .take-row .ensures .split) (c .before .same-row .ensures) (d .before .before .before .loop .inv) (c .if2 .taken)
 
 loop-again : tie.Need-loop-again Inv-loop μ-loop
 loop-again c =
-    let d = c .before .before .before .before in
+    let d = c .before .before .before in
     exists-next _ (d .take-row .ensures .split) (c .before .before .same-row .ensures) (d .before .before .before .loop .inv) (c .before .if2 .left)
 
 pub has-row-spec : {M : Type 1} → statement M
@@ -32,8 +32,8 @@ has-row-spec =
     μ-loop
     (λ c. todo-start (c .before .pre .1))
     (λ c κs. (c .before .before .loop .inv .stands, c .if1 .taken))
-    (λ c κs. (c .before .before .before .before .before .before .pre .0, c .before .take-row .ensures .other))
+    (λ c κs. (c .before .before .before .before .before .pre .0, c .take-row .ensures .other))
     returns
-    (λ c. omega (arith, c .before .before .before .before .take-row .ensures .split .fewer))
+    (λ c. omega (arith, c .before .before .before .take-row .ensures .split .fewer))
     loop-again
     (λ c. todo-end (c .before .before .loop .inv) (c .if1 .left)))

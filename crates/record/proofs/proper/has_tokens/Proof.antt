@@ -17,12 +17,12 @@ abbrev μ-loop : tie.MeasureT-loop
 
 returns : tie.Need-returns Inv-loop μ-loop
 returns c =
-    let d = c .before .before .before in
+    let d = c .before .before in
     exists-stop _ (d .take-tokens .ensures) (c .before .same-tokens .ensures) (d .before .before .before .loop .inv) (c .if2 .taken)
 
 loop-again : tie.Need-loop-again Inv-loop μ-loop
 loop-again c =
-    let d = c .before .before .before .before in
+    let d = c .before .before .before in
     exists-next _ (d .take-tokens .ensures) (c .before .before .same-tokens .ensures) (d .before .before .before .loop .inv) (c .before .if2 .left)
 
 pub has-tokens-spec : {M : Type 1} → statement M
@@ -35,6 +35,6 @@ has-tokens-spec =
     (λ c κs. (c .before .before .loop .inv .stands, c .if1 .taken))
     (λ c κs. search needs)
     returns
-    (λ c. omega (arith, c .before .before .before .before .take-tokens .ensures .fewer))
+    (λ c. omega (arith, c .before .before .before .take-tokens .ensures .fewer))
     loop-again
     (λ c. todo-end (c .before .before .loop .inv) (c .if1 .left)))

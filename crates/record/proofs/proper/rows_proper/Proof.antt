@@ -15,25 +15,22 @@ abbrev μ-loop : tie.MeasureT-loop
 
 returns : tie.Need-returns Inv-loop μ-loop
 returns c =
-    let first = c .before .before .before .before .before in
+    let first = c .before .before in
     own-stop (ownRow _) eqRow (first .take-row .ensures .split) (first .before .before .before .loop .inv) (c .before .aid-is .ensures) (c .if2 .taken)
-
-has-row-requires : tie.Need-has-row-requires Inv-loop μ-loop
-has-row-requires c κs = let first = c .before .before .before .before .before in (first .take-row .ensures .other, first .take-row .ensures .split .stands)
 
 returns-2 : tie.Need-returns-2 Inv-loop μ-loop
 returns-2 c =
     let other = c .before .before in
-    let first = other .before .before .before .before .before in
+    let first = other .before .before in
     twice-stop (ownRow _) eqRow (first .take-row .ensures .split) (first .before .before .before .loop .inv) (other .before .aid-is .ensures) (other .if2 .left)
     (c .before .has-row .ensures) (c .if3 .taken)
 
 loop-again : tie.Need-loop-again Inv-loop μ-loop
 loop-again c =
-    let other = c .before .before in
-    let first = other .before .before .before .before .before in
+    let other = c .before .before .before in
+    let first = other .before .before in
     once-next (ownRow _) eqRow (first .take-row .ensures .split) (first .before .before .before .loop .inv) (other .before .aid-is .ensures) (other .if2 .left)
-    (c .before .has-row .ensures) (c .if3 .left)
+    (c .before .before .has-row .ensures) (c .before .if3 .left)
 
 pub rows-proper-spec : {M : Type 1} → statement M
 rows-proper-spec =
@@ -43,10 +40,10 @@ rows-proper-spec =
     μ-loop
     (λ c. todo-start (c .before .before .pre))
     (λ c κs. (c .before .before .loop .inv .stands, c .if1 .taken))
-    (λ c κs. c .before .before .before .take-row .ensures .other)
+    (λ c κs. c .take-row .ensures .other)
     returns
-    has-row-requires
+    (λ c κs. (c .before .before .take-row .ensures .other, c .before .before .take-row .ensures .split .stands))
     returns-2
-    (λ c. omega (arith, c .before .before .before .before .before .before .before .take-row .ensures .split .fewer))
+    (λ c. omega (arith, c .before .before .before .before .before .take-row .ensures .split .fewer))
     loop-again
     (λ c. todo-end (c .before .before .loop .inv) (c .if1 .left)))

@@ -16,13 +16,13 @@ abbrev μ-loop : tie.MeasureT-loop
 
 returns : tie.Need-returns Inv-loop μ-loop
 returns c =
-    let d = c .before .before .before .before in
+    let d = c .before .before in
     distinct-stop _ (d .take-tokens .ensures) (c .before .has-tokens .ensures) (d .before .before .before .loop .inv) (c .if2 .taken)
 
 loop-again : tie.Need-loop-again Inv-loop μ-loop
 loop-again c =
-    let d = c .before .before .before .before in
-    distinct-next _ (d .take-tokens .ensures) (c .before .has-tokens .ensures) (d .before .before .before .loop .inv) (c .if2 .left)
+    let d = c .before .before .before in
+    distinct-next _ (d .take-tokens .ensures) (c .before .before .has-tokens .ensures) (d .before .before .before .loop .inv) (c .before .if2 .left)
 
 pub tokens-proper-spec : {M : Type 1} → statement M
 tokens-proper-spec =
@@ -32,8 +32,8 @@ tokens-proper-spec =
     μ-loop
     (λ c. todo-start (c .before .pre))
     (λ c κs. (c .before .before .loop .inv .stands, c .if1 .taken))
-    (λ c κs. c .before .before .take-tokens .ensures .stands)
+    (λ c κs. c .take-tokens .ensures .stands)
     returns
-    (λ c. omega (arith, c .before .before .before .before .take-tokens .ensures .fewer))
+    (λ c. omega (arith, c .before .before .before .take-tokens .ensures .fewer))
     loop-again
     (λ c. todo-end (c .before .before .loop .inv) (c .if1 .left)))

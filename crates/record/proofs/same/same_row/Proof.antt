@@ -7,13 +7,12 @@ use Rattle.record.proofs.same.same_row.Tie as tie
 
 returns : tie.Need-returns
 returns c =
-    let met = c .before .before .before in
-    let a = met .before .before .before .before .before .args in
-    row-by-aids (now (a .rec)) (a .r) (a .s) (met .before .same-tokens .ensures) (met .if1 .taken) (c .same-aid .ensures)
+    let a = c .before .before .before .before .args in
+    row-by-aids (now (a .rec)) (a .r) (a .s) (c .before .before .same-tokens .ensures) (c .before .if1 .taken) (c .same-aid .ensures)
 
 returns-2 : tie.Need-returns-2
 returns-2 c =
-    let a = c .before .before .before .before .before .args in
+    let a = c .before .before .before .args in
     row-differs (now (a .rec)) (a .r) (a .s) (c .before .same-tokens .ensures) (c .if1 .left)
 
 pub same-row-spec : {M : Type 1} → statement M
