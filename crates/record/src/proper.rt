@@ -1,4 +1,4 @@
-// Cause 3: whether a record that was read is proper, by what it changes. A record without lists and rows is.
+// Cause 3, by kind: whether a record that was read is proper. Those of kinds 2 and 4 always are.
 ghost use mathlib.Core.Path.{_≡_};
 ghost use mathlib.Core.Bool.{_&&_};
 ghost use Rattle.policy.specs.Lists.{every, exists, distinct};
