@@ -74,14 +74,9 @@ module _ (c : Card) (l : Kept) (img : List ℕ) (h : Laid (layoutOf c) img) (a :
   pub left-none : not b ≡ true → Wrote L img (behind l (leftOne l t a j i (bit row) k) t)
   left-none q = record { laid = h; tables = sym (ap (λ (z : Bool). behind l (rows z (t .tok j k)) t) (sym e ∙ not-true b q) ∙ behind-none l t) }
 
-  -- the tokens stand at `at`
-  pub left-some : not b ≡ false → j < L .packages → k < L .services → (at : ℕ) → at ≡ tokAt L j k
-      → {img′ : List ℕ} → Wrote L img′ (behind l (item l a (tokensIn img at) i ∷ []) t) → Wrote L img′ (behind l (leftOne l t a j i (bit row) k) t)
-  left-some q p r at z w =
-      let same : tokensIn img at ≡ t .tok j k =
-      ap (tokensIn img) z ∙ (λ v. record { itf = tok-itf L (layout-ok c) (early c) h j k p r v; mth = tok-mth L (layout-ok c) (early c) h j k p r v }) in
-      let on : true ≡ bit row k = sym (not-false b q) ∙ e in
-      wrote-as L (λ v. behind l (rows (on v) (same v)) t) w
+  pub left-some : not b ≡ false → (s : Tok) → s ≡ decode L img .tok j k
+      → {img′ : List ℕ} → Wrote L img′ (behind l (item l a s i ∷ []) (decode L img)) → Wrote L img′ (behind l (leftOne l (decode L img) a j i (bit row) k) (decode L img))
+  left-some q s z w = let on : true ≡ bit row k = sym (not-false b q) ∙ e in wrote-as L (λ v. behind l (rows (on v) (z v)) t) w
 
 -- ---- rows read from an image whose lists alone were changed
 pub table-apart : (tb : Table) (t : Tables) (u : List Unmet) (w : List Waiting) → tableOf tb (withUnmet u (withWaiting w t)) ≡ tableOf tb t

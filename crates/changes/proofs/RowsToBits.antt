@@ -17,7 +17,7 @@ use Rattle.policy.specs.Draft.{put3}
 use Rattle.policy.proofs.Sets.{in-row}
 use Rattle.image.specs.Laid.{Laid}
 use Rattle.image.specs.Wrote.{Wrote}
-use Rattle.image.specs.Read.{numberOr, tokens, unmetRow, waitingRow}
+use Rattle.image.specs.Read.{numberOr, unmetRow, waitingRow}
 use Rattle.image.proofs.Numbers.{Below, package-below, service-below}
 use Rattle.changes.specs.Joins.{holder, serviceNumber, CallersIn, metRows, metOne, GivenIn, settledRows, settledOne, DueAt, CallOn, metAll, settledAll, withoutRows, takenIn, TakesIn}
 use Rattle.image.proofs.Clears.{wrote-then}
@@ -35,8 +35,8 @@ module _ (L : Layout) (f : (ℕ → ℕ → ℕ → Bool) → Tables) (b : ℕ �
       same = λ z. put3 (p z) (o z) (s z) true b
 
 -- the number of the service with the tokens that were read, of the package that was
-pub number-read : (L : Layout) (t : Tables) (n : ℕ) (s : Tok) (k j x y : ℕ) → k ≡ numberOr (L .services) (serviceOf L t j (tokens x y)) → j ≡ n → x ≡ s .itf → y ≡ s .mth → k ≡ serviceNumber L t n s
-number-read L t n s k j x y e o p q = e ∙ (λ z. numberOr (L .services) (serviceOf L t (o z) (tokens (p z) (q z))))
+pub number-read : (L : Layout) (t : Tables) (n : ℕ) (s : Tok) (k j : ℕ) (u : Tok) → k ≡ numberOr (L .services) (serviceOf L t j u) → j ≡ n → u ≡ s → k ≡ serviceNumber L t n s
+number-read L t n s k j u e o p = e ∙ (λ z. numberOr (L .services) (serviceOf L t (o z) (p z)))
 
 -- a grant that is a bit has its numbers
 pub spot-in : (L : Layout) (t : Tables) (j : ℕ) (r : Row) → T (isSome (spotOf L t j r)) → (holder L t (r .aid) < L .packages) × (serviceNumber L t j (r .tok) < L .services)

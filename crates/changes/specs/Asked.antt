@@ -2,7 +2,7 @@
 use Prim.Native.Nat.{ℕ}
 use mathlib.Core.List.{List}
 use lib.Dec.{T}
-use Rattle.policy.specs.Contract.{Aid, Row, validAid}
+use Rattle.policy.specs.Contract.{Aid, validAid}
 use Rattle.policy.specs.Layout.{Layout}
 use Rattle.policy.specs.Record.{Change, proper}
 use Rattle.policy.specs.Sound.{sound}
@@ -13,7 +13,3 @@ pub record Asked (L : Layout) (img : List ℕ) (a : Aid) (c : Change) : Type 0 w
   pub first-valid : T (validAid a)
   pub within : WithinChange L c
   pub is-proper : T (proper L a c)
-
--- a row of AID a with the tokens x and y
-abbrev pub rowWith : Aid → ℕ → ℕ → Row
-rowWith a x y = record { aid = a; tok = record { itf = x; mth = y } }

@@ -10,7 +10,7 @@ ghost use Rattle.record.specs.Meaning.{AidFits, aidIn, rowIn};
 use geometry::Card;
 use image::read::Place;
 use record::Aid;
-use record::Tokens;
+use record::Row;
 
 // The number of the package with an AID of the record; the number of packages where there is none.
 pub fn find_caller(img: &[u8], c: Card, rec: &[u8], a: Aid) -> usize
@@ -31,11 +31,11 @@ pub fn has_row(mask: u32, r: usize) -> bool
 }
 
 // Where the service of a row of the record stands; the numbers past the last where it stands nowhere.
-pub fn server(img: &[u8], c: Card, rec: &[u8], a: Aid, t: Tokens) -> Place
+pub fn server(img: &[u8], c: Card, rec: &[u8], r: Row) -> Place
     requires laid { ⌜ Laid (layoutOf c) (now img) ⌝ }
-    requires fits { ⌜ AidFits (now rec) a ⌝ }
-    ensures { λ r. ⌜ r ≡ placeOr (layoutOf c) (serverOf (layoutOf c) (decode (layoutOf c) (now (img .entry))) (rowIn (now (rec .entry)) a t)) ⌝ }
+    requires fits { ⌜ AidFits (now rec) (r .other) ⌝ }
+    ensures { λ p. ⌜ p ≡ placeOr (layoutOf c) (serverOf (layoutOf c) (decode (layoutOf c) (now (img .entry))) (rowIn (now (rec .entry)) r)) ⌝ }
 {
-    let other = record::aid_bytes(rec, a);
-    image::read::find_server(img, c, other, t.interface, t.method)
+    let other = record::aid_bytes(rec, r.other);
+    image::read::find_server(img, c, other, r.tokens)
 }

@@ -61,10 +61,8 @@ pub fn leave_one(
     if !bits::has_bit(row, k) {
         return;
     }
-    let at = geometry::tok_at(c, j, k);
-    let interface = img[at];
-    let method = img[at + 1];
-    image::write::append_row(img, c, l, aid, interface, method, i);
+    let t = image::read::tokens_at(img, c, j, k);
+    image::write::append_row(img, c, l, aid, t, i);
 }
 
 // The rows of package i for the services of package j that `row` has, with this AID.

@@ -8,7 +8,7 @@ ghost use Rattle.policy.specs.ShortCheck.{count};
 ghost use Rattle.geometry.specs.Geometry.{layoutOf};
 ghost use Rattle.image.specs.Laid.{Laid};
 ghost use Rattle.image.specs.Wrote.{Wrote};
-ghost use Rattle.image.specs.Read.{tokens, unmetRow, waitingRow};
+ghost use Rattle.image.specs.Read.{unmetRow, waitingRow};
 ghost use Rattle.changes.specs.Joins.{metOne, CallersIn, GivenIn, serviceNumber, settledOne, settledAll, DueAt, withoutRows, CallOn, metAll, TakesIn, takenIn, roomAfter};
 use geometry::Card;
 use geometry::Kept;
@@ -28,7 +28,7 @@ pub fn room_after(img: &[u8], c: Card, l: Kept, mask: u32) -> usize
 }
 
 // The number of the service that waiting grant r is of; the number of services where its package does not provide it.
-fn granted_service(img: &[u8], c: Card, r: usize) -> usize
+pub fn granted_service(img: &[u8], c: Card, r: usize) -> usize
     requires laid { ⌜ Laid (layoutOf c) (now img) ⌝ }
     requires inside { ⌜ r < length (decode (layoutOf c) (now img) .waiting) ⌝ }
     requires given { ⌜ waitingRow (decode (layoutOf c) (now img)) r .callee < layoutOf c .packages ⌝ }
@@ -36,9 +36,8 @@ fn granted_service(img: &[u8], c: Card, r: usize) -> usize
         (waitingRow (decode (layoutOf c) (now (img .entry))) r .tok) ⌝ }
 {
     let j = image::lists::number(img, c, Kept::WaitingGrants, r);
-    let interface = image::lists::interface(img, c, Kept::WaitingGrants, r);
-    let method = image::lists::method(img, c, Kept::WaitingGrants, r);
-    image::read::find_service(img, c, j, interface, method)
+    let t = image::lists::tokens(img, c, Kept::WaitingGrants, r);
+    image::read::find_service(img, c, j, t)
 }
 
 // Waiting grant r, if the mask names it, becomes a bit.
@@ -80,9 +79,8 @@ fn meet_row(img: &mut [u8], c: Card, n: usize, met: u32, r: usize)
 {
     if crate::find::has_row(met, r) {
         let i = image::lists::number(img, c, Kept::UnmetCalls, r);
-        let interface = image::lists::interface(img, c, Kept::UnmetCalls, r);
-        let method = image::lists::method(img, c, Kept::UnmetCalls, r);
-        let k = image::read::find_service(img, c, n, interface, method);
+        let t = image::lists::tokens(img, c, Kept::UnmetCalls, r);
+        let k = image::read::find_service(img, c, n, t);
         image::write::set_bit(img, c, Table::Calls, i, n, k);
     }
 }

@@ -6,7 +6,7 @@ ghost use Prim.Native.Nat.{_+_, _≤_, _<_};
 ghost use lib.Dec.{T};
 ghost use lib.ListN.{length};
 ghost use Rattle.policy.specs.Lists.{every, isSome};
-ghost use Rattle.policy.specs.Record.{tokens, aRow};
+ghost use Rattle.policy.specs.Record.{aRow};
 ghost use Rattle.policy.specs.Tables.{decode};
 ghost use Rattle.policy.specs.Lookup.{serverOf, spotOf};
 ghost use Rattle.policy.specs.Draft.{addCallAt, addGrantAt, addNeedAt};
@@ -14,33 +14,33 @@ ghost use Rattle.policy.specs.ShortCheck.{count};
 ghost use Rattle.geometry.specs.Geometry.{layoutOf};
 ghost use Rattle.image.specs.Laid.{Laid};
 ghost use Rattle.image.specs.Wrote.{Wrote};
-ghost use Rattle.record.specs.Meaning.{AidFits, Stands, rowIn, itemsIn};
+ghost use Rattle.record.specs.Meaning.{AidFits, Stands, ListsStand, rowIn, itemsIn};
 ghost use Rattle.changes.specs.Own.{served, calledAll, grantedAll, neededAll, ownRows, OwnFits};
 use geometry::Card;
 use geometry::Kept;
 use geometry::Table;
-use record::Aid;
 use record::Items;
-use record::Tokens;
+use record::Lists;
+use record::Row;
 
 // A call of package n: a bit where its service is on the card, else an unmet call.
-fn call(img: &mut [u8], c: Card, n: usize, rec: &[u8], a: Aid, t: Tokens)
+fn call(img: &mut [u8], c: Card, n: usize, rec: &[u8], r: Row)
     requires laid { ⌜ Laid (layoutOf c) (now img) ⌝ }
-    requires fits { ⌜ AidFits (now rec) a ⌝ }
+    requires fits { ⌜ AidFits (now rec) (r .other) ⌝ }
     requires inside { ⌜ n < layoutOf c .packages ⌝ }
-    requires room { ⌜ (serverOf (layoutOf c) (decode (layoutOf c) (now img)) (rowIn (now rec) a t) ≡ none
+    requires room { ⌜ (serverOf (layoutOf c) (decode (layoutOf c) (now img)) (rowIn (now rec) r) ≡ none
         → length (decode (layoutOf c) (now img) .unmet) < layoutOf c .capacity) ⌝ }
-    ensures { λ _. ⌜ Wrote (layoutOf c) (now (img .exit)) (addCallAt (layoutOf c) (decode (layoutOf c) (now (img .entry))) n (rowIn (now (rec .entry)) a t)
-        (serverOf (layoutOf c) (decode (layoutOf c) (now (img .entry))) (rowIn (now (rec .entry)) a t)) .tables) ⌝ }
+    ensures { λ _. ⌜ Wrote (layoutOf c) (now (img .exit)) (addCallAt (layoutOf c) (decode (layoutOf c) (now (img .entry))) n (rowIn (now (rec .entry)) r)
+        (serverOf (layoutOf c) (decode (layoutOf c) (now (img .entry))) (rowIn (now (rec .entry)) r)) .tables) ⌝ }
 {
     let size = geometry::packages(c);
-    let p = crate::find::server(img, c, rec, a, t);
+    let p = crate::find::server(img, c, rec, r);
     if p.callee < size {
         image::write::set_bit(img, c, Table::Calls, n, p.callee, p.service);
         return;
     }
-    let other = record::aid_bytes(rec, a);
-    image::write::append_row(img, c, Kept::UnmetCalls, other, t.interface, t.method, n);
+    let other = record::aid_bytes(rec, r.other);
+    image::write::append_row(img, c, Kept::UnmetCalls, other, r.tokens, n);
 }
 
 // The calls of the record are those of package n.
@@ -55,31 +55,29 @@ fn call_all(img: &mut [u8], c: Card, n: usize, rec: &[u8], calls: Items)
     let mut todo = calls;
     while 0 < todo.count {
         let r = record::steps::take_row(rec, todo);
-        let a = r.other;
-        let t = r.tokens;
-        call(img, c, n, rec, a, t);
+        call(img, c, n, rec, r.row);
         todo = r.rest;
     }
 }
 
 // A grant of package n: a bit where caller and service are on the card, else it waits.
-fn grant(img: &mut [u8], c: Card, n: usize, rec: &[u8], a: Aid, t: Tokens)
+fn grant(img: &mut [u8], c: Card, n: usize, rec: &[u8], r: Row)
     requires laid { ⌜ Laid (layoutOf c) (now img) ⌝ }
-    requires fits { ⌜ AidFits (now rec) a ⌝ }
+    requires fits { ⌜ AidFits (now rec) (r .other) ⌝ }
     requires inside { ⌜ n < layoutOf c .packages ⌝ }
-    requires room { ⌜ (spotOf (layoutOf c) (decode (layoutOf c) (now img)) n (rowIn (now rec) a t) ≡ none
+    requires room { ⌜ (spotOf (layoutOf c) (decode (layoutOf c) (now img)) n (rowIn (now rec) r) ≡ none
         → length (decode (layoutOf c) (now img) .waiting) < layoutOf c .capacity) ⌝ }
-    ensures { λ _. ⌜ Wrote (layoutOf c) (now (img .exit)) (addGrantAt (layoutOf c) (decode (layoutOf c) (now (img .entry))) n (rowIn (now (rec .entry)) a t)
-        (spotOf (layoutOf c) (decode (layoutOf c) (now (img .entry))) n (rowIn (now (rec .entry)) a t)) .tables) ⌝ }
+    ensures { λ _. ⌜ Wrote (layoutOf c) (now (img .exit)) (addGrantAt (layoutOf c) (decode (layoutOf c) (now (img .entry))) n (rowIn (now (rec .entry)) r)
+        (spotOf (layoutOf c) (decode (layoutOf c) (now (img .entry))) n (rowIn (now (rec .entry)) r)) .tables) ⌝ }
 {
     let size = geometry::packages(c);
-    let other = record::aid_bytes(rec, a);
-    let p = image::read::find_spot(img, c, n, other, t.interface, t.method);
+    let other = record::aid_bytes(rec, r.other);
+    let p = image::read::find_spot(img, c, n, other, r.tokens);
     if p.caller < size {
         image::write::set_bit(img, c, Table::Grants, n, p.caller, p.service);
         return;
     }
-    image::write::append_row(img, c, Kept::WaitingGrants, other, t.interface, t.method, n);
+    image::write::append_row(img, c, Kept::WaitingGrants, other, r.tokens, n);
 }
 
 // The grants of the record are those of package n.
@@ -94,23 +92,21 @@ fn grant_all(img: &mut [u8], c: Card, n: usize, rec: &[u8], grants: Items)
     let mut todo = grants;
     while 0 < todo.count {
         let r = record::steps::take_row(rec, todo);
-        let a = r.other;
-        let t = r.tokens;
-        grant(img, c, n, rec, a, t);
+        grant(img, c, n, rec, r.row);
         todo = r.rest;
     }
 }
 
 // A need of package n: its service is on the card.
-fn need(img: &mut [u8], c: Card, n: usize, rec: &[u8], a: Aid, t: Tokens)
+fn need(img: &mut [u8], c: Card, n: usize, rec: &[u8], r: Row)
     requires laid { ⌜ Laid (layoutOf c) (now img) ⌝ }
-    requires fits { ⌜ AidFits (now rec) a ⌝ }
+    requires fits { ⌜ AidFits (now rec) (r .other) ⌝ }
     requires inside { ⌜ n < layoutOf c .packages ⌝ }
-    requires there { ⌜ T (served (layoutOf c) (decode (layoutOf c) (now img)) (rowIn (now rec) a t)) ⌝ }
-    ensures { λ _. ⌜ Wrote (layoutOf c) (now (img .exit)) (addNeedAt (layoutOf c) (decode (layoutOf c) (now (img .entry))) n (rowIn (now (rec .entry)) a t)
-        (serverOf (layoutOf c) (decode (layoutOf c) (now (img .entry))) (rowIn (now (rec .entry)) a t)) .tables) ⌝ }
+    requires there { ⌜ T (served (layoutOf c) (decode (layoutOf c) (now img)) (rowIn (now rec) r)) ⌝ }
+    ensures { λ _. ⌜ Wrote (layoutOf c) (now (img .exit)) (addNeedAt (layoutOf c) (decode (layoutOf c) (now (img .entry))) n (rowIn (now (rec .entry)) r)
+        (serverOf (layoutOf c) (decode (layoutOf c) (now (img .entry))) (rowIn (now (rec .entry)) r)) .tables) ⌝ }
 {
-    let p = crate::find::server(img, c, rec, a, t);
+    let p = crate::find::server(img, c, rec, r);
     image::write::set_bit(img, c, Table::Needs, n, p.callee, p.service);
 }
 
@@ -125,30 +121,21 @@ fn need_all(img: &mut [u8], c: Card, n: usize, rec: &[u8], needs: Items)
     let mut todo = needs;
     while 0 < todo.count {
         let r = record::steps::take_row(rec, todo);
-        let a = r.other;
-        let t = r.tokens;
-        need(img, c, n, rec, a, t);
+        need(img, c, n, rec, r.row);
         todo = r.rest;
     }
 }
 
 // The rows of the record are those of package n: its calls, grants and needs.
-pub fn put_rows(
-    img: &mut [u8],
-    c: Card,
-    n: usize,
-    rec: &[u8],
-    calls: Items,
-    grants: Items,
-    needs: Items,
-)
+pub fn put_rows(img: &mut [u8], c: Card, n: usize, rec: &[u8], l: Lists)
     requires laid { ⌜ Laid (layoutOf c) (now img) ⌝ }
-    requires stands { ⌜ Stands aRow (now rec) calls × Stands aRow (now rec) grants × Stands aRow (now rec) needs ⌝ }
-    requires fit { ⌜ OwnFits (layoutOf c) n (itemsIn aRow (now rec) calls) (itemsIn aRow (now rec) grants) (itemsIn aRow (now rec) needs) (decode (layoutOf c) (now img)) ⌝ }
-    ensures { λ _. ⌜ Wrote (layoutOf c) (now (img .exit)) (ownRows (layoutOf c) n (itemsIn aRow (now (rec .entry)) calls) (itemsIn aRow (now (rec .entry)) grants)
-        (itemsIn aRow (now (rec .entry)) needs) (decode (layoutOf c) (now (img .entry)))) ⌝ }
+    requires stands { ⌜ ListsStand (now rec) l ⌝ }
+    requires fit { ⌜ OwnFits (layoutOf c) n (itemsIn aRow (now rec) (l .calls)) (itemsIn aRow (now rec) (l .grants))
+        (itemsIn aRow (now rec) (l .needs)) (decode (layoutOf c) (now img)) ⌝ }
+    ensures { λ _. ⌜ Wrote (layoutOf c) (now (img .exit)) (ownRows (layoutOf c) n (itemsIn aRow (now (rec .entry)) (l .calls))
+        (itemsIn aRow (now (rec .entry)) (l .grants)) (itemsIn aRow (now (rec .entry)) (l .needs)) (decode (layoutOf c) (now (img .entry)))) ⌝ }
 {
-    call_all(img, c, n, rec, calls);
-    grant_all(img, c, n, rec, grants);
-    need_all(img, c, n, rec, needs);
+    call_all(img, c, n, rec, l.calls);
+    grant_all(img, c, n, rec, l.grants);
+    need_all(img, c, n, rec, l.needs);
 }

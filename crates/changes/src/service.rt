@@ -2,21 +2,21 @@
 ghost use Prim.Native.Nat.{_<_};
 ghost use Rattle.policy.specs.Tables.{decode};
 ghost use Rattle.policy.specs.Lookup.{numbers};
-ghost use Rattle.geometry.specs.Geometry.{layoutOf};
+ghost use Rattle.geometry.specs.Geometry.{layoutOf, tokOf};
 ghost use Rattle.image.specs.Laid.{Laid};
 ghost use Rattle.image.specs.Wrote.{Wrote};
-ghost use Rattle.image.specs.Read.{tokens};
 ghost use Rattle.changes.specs.Places.{opened, tablesWithoutService};
 use geometry::Card;
 use geometry::Table;
+use geometry::Tokens;
 
 // Package j provides service k with these tokens.
-pub fn open_service(img: &mut [u8], c: Card, j: usize, k: usize, interface: u8, method: u8)
+pub fn open_service(img: &mut [u8], c: Card, j: usize, k: usize, t: Tokens)
     requires laid { ⌜ Laid (layoutOf c) (now img) ⌝ }
     requires numbers { ⌜ (j < layoutOf c .packages) × (k < layoutOf c .services) ⌝ }
-    ensures { λ _. ⌜ Wrote (layoutOf c) (now (img .exit)) (opened j k (tokens interface method) (decode (layoutOf c) (now (img .entry)))) ⌝ }
+    ensures { λ _. ⌜ Wrote (layoutOf c) (now (img .exit)) (opened j k (tokOf t) (decode (layoutOf c) (now (img .entry)))) ⌝ }
 {
-    image::write::put_tok(img, c, j, k, interface, method);
+    image::write::put_tok(img, c, j, k, t);
     let row = image::read::provided_row(img, c, j);
     let with = bits::with_bit(row, k);
     image::write::set_provided(img, c, j, with);
@@ -31,7 +31,11 @@ pub fn clear_service(img: &mut [u8], c: Card, j: usize, k: usize)
     image::write::clear_column_bit(img, c, Table::Calls, j, k);
     image::write::clear_column_bit(img, c, Table::Grants, j, k);
     image::write::clear_column_bit(img, c, Table::Needs, j, k);
-    image::write::put_tok(img, c, j, k, 0, 0);
+    let none = Tokens {
+        interface: 0,
+        method: 0,
+    };
+    image::write::put_tok(img, c, j, k, none);
     let row = image::read::provided_row(img, c, j);
     let rest = bits::without_bit(row, k);
     image::write::set_provided(img, c, j, rest);

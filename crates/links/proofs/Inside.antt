@@ -19,12 +19,12 @@ use Rattle.geometry.specs.declared.Kept.{Kept}
 use Rattle.geometry.specs.declared.Kept.the-variants.{UnmetCalls, WaitingGrants}
 use Rattle.image.specs.Read.{itemsOf}
 use Rattle.links.specs.Plans.{Inside, CallIn, GrantIn, rowMask, callAt, callSpot, grantIs, grantSpot, callPlan, grantPlan, addRow, dropRow, addCallPlan, removeCallPlan, addNeedPlan, removeNeedPlan, addGrantPlan, removeGrantPlan}
-use Rattle.links.specs.declared.plan.CallSpot.{CallSpot}
-use Rattle.links.specs.declared.plan.CallSpot.the-variants.{Unserved, Served}
-use Rattle.links.specs.declared.plan.CallSpot.the-variants as call
-use Rattle.links.specs.declared.plan.GrantSpot.{GrantSpot}
-use Rattle.links.specs.declared.plan.GrantSpot.the-variants.{Waits, Granted}
-use Rattle.links.specs.declared.plan.GrantSpot.the-variants as grant
+use Rattle.links.specs.declared.spots.CallSpot.{CallSpot}
+use Rattle.links.specs.declared.spots.CallSpot.the-variants.{Unserved, Served}
+use Rattle.links.specs.declared.spots.CallSpot.the-variants as call
+use Rattle.links.specs.declared.spots.GrantSpot.{GrantSpot}
+use Rattle.links.specs.declared.spots.GrantSpot.the-variants.{Waits, Granted}
+use Rattle.links.specs.declared.spots.GrantSpot.the-variants as grant
 use Rattle.links.specs.declared.plan.Plan.{Plan}
 use Rattle.links.specs.declared.plan.Plan.the-variants.{Refuse, Accept}
 use Rattle.links.specs.declared.plan.Edit.the-variants.{Set, Clear, Uncall, Add, Drop}

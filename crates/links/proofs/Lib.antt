@@ -1,4 +1,4 @@
-pub mod Spots
+pub mod Found
 pub mod Planned
 pub mod Inside
 pub mod Outcome

@@ -5,16 +5,20 @@ use mathlib.Core.List.{List}
 use borrow.Author.Needs.{needs}
 use Rattle.policy.specs.Contract.{Aid, Row}
 use Rattle.policy.specs.Layout.{Layout}
-use Rattle.policy.specs.Record.{addCall, removeCall, addGrant, removeGrant, addNeed, removeNeed}
+use Rattle.policy.specs.Record.{Change}
 use Rattle.policy.specs.Tables.{Tables, decode}
 use Rattle.policy.specs.Judge.{Out}
 use Rattle.policy.specs.Settled.{settled, Gives}
+use Rattle.policy.proofs.Formed.{Formed}
 use Rattle.policy.proofs.SoundFacts.{sound-formed}
+use Rattle.record.specs.Meaning.{changeOf}
+use Rattle.record.specs.declared.RowKind.{RowKind}
+use Rattle.record.specs.declared.RowKind.the-variants.{AddCall, RemoveCall, AddGrant, RemoveGrant, AddNeed, RemoveNeed}
 use Rattle.geometry.specs.Geometry.{layoutOf}
 use Rattle.geometry.specs.declared.Card.{Card}
 use Rattle.geometry.proofs.Bounds.{early}
 use Rattle.changes.specs.Asked.{Asked}
-use Rattle.links.specs.Plans.{done, Inside, callPlan, grantPlan, addCallPlan, removeCallPlan, addNeedPlan, removeNeedPlan, addGrantPlan, removeGrantPlan}
+use Rattle.links.specs.Plans.{done, Inside, planOf}
 use Rattle.links.specs.declared.plan.Plan.{Plan}
 use Rattle.changes.proofs.Verdicts.{asked-laid}
 use Rattle.links.proofs.Planned.{add-call-planned, remove-call-planned, add-grant-planned, remove-grant-planned, add-need-planned, remove-need-planned}
@@ -32,23 +36,17 @@ module _ (c : Card) (img : List ℕ) (a : Aid) (r : Row) where
   abbrev t : Tables
   t = decode L img
 
-  pub add-call-comes : Asked L img a (addCall r) → Comes L img r (settled L img a (addCall r)) (callPlan L t (addCallPlan L t r) a r)
-  add-call-comes ask = record { outcome = add-call-planned L img a r ask; inside = add-call-inside L t (sound-formed L img (ask .is-sound)) a r (ask .within .0) }
+  -- what is asked of any of the six is that its row's AID is valid
+  formed : {d : Change} → Asked L img a d → Formed L t
+  formed ask = sound-formed L img (ask .is-sound)
 
-  pub remove-call-comes : Asked L img a (removeCall r) → Comes L img r (settled L img a (removeCall r)) (callPlan L t (removeCallPlan L t r) a r)
-  remove-call-comes ask = record { outcome = remove-call-planned L img a r ask; inside = remove-call-inside L t (sound-formed L img (ask .is-sound)) a r (ask .within .0) }
-
-  pub add-grant-comes : Asked L img a (addGrant r) → Comes L img r (settled L img a (addGrant r)) (grantPlan L t (addGrantPlan L t r) a r)
-  add-grant-comes ask = record { outcome = add-grant-planned L img a r (early c) ask; inside = add-grant-inside L t (sound-formed L img (ask .is-sound)) a r (ask .within .0) }
-
-  pub remove-grant-comes : Asked L img a (removeGrant r) → Comes L img r (settled L img a (removeGrant r)) (grantPlan L t (removeGrantPlan L t r) a r)
-  remove-grant-comes ask = record { outcome = remove-grant-planned L img a r ask; inside = remove-grant-inside L t (sound-formed L img (ask .is-sound)) a r (ask .within .0) }
-
-  pub add-need-comes : Asked L img a (addNeed r) → Comes L img r (settled L img a (addNeed r)) (callPlan L t (addNeedPlan L t r) a r)
-  add-need-comes ask = record { outcome = add-need-planned L img a r ask; inside = add-need-inside L t (sound-formed L img (ask .is-sound)) a r (ask .within .0) }
-
-  pub remove-need-comes : Asked L img a (removeNeed r) → Comes L img r (settled L img a (removeNeed r)) (callPlan L t (removeNeedPlan L t r) a r)
-  remove-need-comes ask = record { outcome = remove-need-planned L img a r ask; inside = remove-need-inside L t (sound-formed L img (ask .is-sound)) a r (ask .within .0) }
+  pub comes : (k : RowKind) → Asked L img a (changeOf k r) → Comes L img r (settled L img a (changeOf k r)) (planOf L (decode L img) a r k)
+  comes AddCall ask = record { outcome = add-call-planned L img a r ask; inside = add-call-inside L t (formed ask) a r (ask .within .0) }
+  comes RemoveCall ask = record { outcome = remove-call-planned L img a r ask; inside = remove-call-inside L t (formed ask) a r (ask .within .0) }
+  comes AddGrant ask = record { outcome = add-grant-planned L img a r (early c) ask; inside = add-grant-inside L t (formed ask) a r (ask .within .0) }
+  comes RemoveGrant ask = record { outcome = remove-grant-planned L img a r ask; inside = remove-grant-inside L t (formed ask) a r (ask .within .0) }
+  comes AddNeed ask = record { outcome = add-need-planned L img a r ask; inside = add-need-inside L t (formed ask) a r (ask .within .0) }
+  comes RemoveNeed ask = record { outcome = remove-need-planned L img a r ask; inside = remove-need-inside L t (formed ask) a r (ask .within .0) }
 
 module _ (L : Layout) (img : List ℕ) (r : Row) (p q : Plan) where
   pub comes-inside : (o : Out) → p ≡ q → Comes L img r o q → Inside L (decode L img) r p
@@ -57,4 +55,4 @@ module _ (L : Layout) (img : List ℕ) (r : Row) (p q : Plan) where
   pub comes-gives : (o : Out) (x y : ℕ) (b : List ℕ) → Comes L img r o q → p ≡ q → Gives (done L img r p) x y b → Gives o x y b
   comes-gives o x y b h e g = subst (λ (z : Out). Gives z x y b) (ap (done L img r) e ∙ sym (h .outcome)) g
 
-pub ruleset kinds = (asked-laid, comes-inside, comes-gives, add-call-comes, remove-call-comes, add-grant-comes, remove-grant-comes, add-need-comes, remove-need-comes, needs)
+pub ruleset kinds = (asked-laid, comes-inside, comes-gives, comes, needs)

@@ -32,8 +32,8 @@ use Rattle.geometry.specs.declared.Kept.{Kept}
 use Rattle.geometry.specs.declared.Kept.the-variants.{UnmetCalls, WaitingGrants}
 use Rattle.changes.specs.Asked.{Asked}
 use Rattle.links.specs.Plans.{rowMask, edited, done, callAt, callPlan, grantIs, grantPlan, addRow, dropRow, addCallPlan, removeCallPlan, addNeedPlan, removeNeedPlan, addGrantPlan, removeGrantPlan}
-use Rattle.links.specs.declared.plan.CallSpot.the-variants as call
-use Rattle.links.specs.declared.plan.GrantSpot.the-variants as grant
+use Rattle.links.specs.declared.spots.CallSpot.the-variants as call
+use Rattle.links.specs.declared.spots.GrantSpot.the-variants as grant
 use Rattle.links.specs.declared.plan.Plan.{Plan}
 use Rattle.links.specs.declared.plan.Plan.the-variants.{Refuse, Accept}
 use Rattle.links.specs.declared.plan.Edit.the-variants.{Set, Clear, Uncall, Add, Drop}

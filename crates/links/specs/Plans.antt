@@ -20,12 +20,14 @@ use Rattle.geometry.specs.declared.Kept.{Kept}
 use Rattle.geometry.specs.declared.Kept.the-variants.{UnmetCalls, WaitingGrants}
 use Rattle.image.specs.Laid.{tableOf, withTable, withItems}
 use Rattle.image.specs.Read.{itemsOf, item, itemAid, itemTok, itemNumber, maskOf}
-use Rattle.links.specs.declared.plan.CallSpot.{CallSpot}
-use Rattle.links.specs.declared.plan.CallSpot.the-variants.{Unserved, Served}
-use Rattle.links.specs.declared.plan.CallSpot.the-variants as call
-use Rattle.links.specs.declared.plan.GrantSpot.{GrantSpot}
-use Rattle.links.specs.declared.plan.GrantSpot.the-variants.{Waits, Granted}
-use Rattle.links.specs.declared.plan.GrantSpot.the-variants as grant
+use Rattle.record.specs.declared.RowKind.{RowKind}
+use Rattle.record.specs.declared.RowKind.the-variants.{AddCall, RemoveCall, AddGrant, RemoveGrant, AddNeed, RemoveNeed}
+use Rattle.links.specs.declared.spots.CallSpot.{CallSpot}
+use Rattle.links.specs.declared.spots.CallSpot.the-variants.{Unserved, Served}
+use Rattle.links.specs.declared.spots.CallSpot.the-variants as call
+use Rattle.links.specs.declared.spots.GrantSpot.{GrantSpot}
+use Rattle.links.specs.declared.spots.GrantSpot.the-variants.{Waits, Granted}
+use Rattle.links.specs.declared.spots.GrantSpot.the-variants as grant
 use Rattle.links.specs.declared.plan.Plan.{Plan}
 use Rattle.links.specs.declared.plan.Plan.the-variants.{Refuse, Accept}
 use Rattle.links.specs.declared.plan.Edit.{Edit}
@@ -126,6 +128,15 @@ callPlan L t f a r = f (callSpot L t a r)
 
 abbrev pub grantPlan : Layout → Tables → (GrantSpot → Plan) → Aid → Row → Plan
 grantPlan L t f a r = f (grantSpot L t a r)
+
+-- what a record of each kind comes to
+abbrev pub planOf : Layout → Tables → Aid → Row → RowKind → Plan
+planOf L t a r AddCall = callPlan L t (addCallPlan L t r) a r
+planOf L t a r RemoveCall = callPlan L t (removeCallPlan L t r) a r
+planOf L t a r AddGrant = grantPlan L t (addGrantPlan L t r) a r
+planOf L t a r RemoveGrant = grantPlan L t (removeGrantPlan L t r) a r
+planOf L t a r AddNeed = callPlan L t (addNeedPlan L t r) a r
+planOf L t a r RemoveNeed = callPlan L t (removeNeedPlan L t r) a r
 
 -- ---- the row r of package n: the tables after a change, and the outcome of a plan
 abbrev pub edited : Tables → Row → ℕ → Edit → Tables

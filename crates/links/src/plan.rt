@@ -1,30 +1,18 @@
-// What a record of kinds 5 to 10 comes to: found on the image, then carried out.
+// What a record of kinds 5 to 10 comes to: found on the image, and not written yet.
 ghost use mathlib.Core.Path.{_≡_};
 ghost use Rattle.policy.specs.Tables.{decode};
-ghost use Rattle.policy.specs.Settled.{Gives};
 ghost use Rattle.geometry.specs.Geometry.{layoutOf};
-ghost use Rattle.image.specs.Laid.{Laid, tableOf};
-ghost use Rattle.image.specs.Wrote.{Wrote};
-ghost use Rattle.changes.specs.Asked.{rowWith};
-ghost use Rattle.links.specs.Plans.{CallFound, GrantFound, rowMask, addRow, dropRow, BitAt, edited, Fits, Inside, done};
-use changes::Verdict;
+ghost use Rattle.image.specs.Laid.{Laid};
+ghost use Rattle.image.specs.Read.{asked};
+ghost use Rattle.links.specs.Plans.{rowMask, addRow, dropRow, callPlan, grantPlan, planOf};
+ghost use Rattle.links.specs.Plans.{addCallPlan, removeCallPlan, addGrantPlan, removeGrantPlan, addNeedPlan, removeNeedPlan};
+use crate::spots::CallSpot;
+use crate::spots::GrantSpot;
 use geometry::Card;
 use geometry::Kept;
 use geometry::Table;
-
-// Where a call or need stands: package number `caller`; then callee and service number where its service is on the card.
-pub enum CallSpot {
-    Absent,
-    Unserved(usize),
-    Served(usize, usize, usize),
-}
-
-// Where a grant stands: package number; then the caller's and the service number where both are on the card.
-pub enum GrantSpot {
-    Absent,
-    Waits(usize),
-    Granted(usize, usize, usize),
-}
+use geometry::Tokens;
+use record::RowKind;
 
 // One change of the tables, for the package of the record: a bit of its row in a table, by column and service; or a row of a list.
 pub enum Edit {
@@ -43,101 +31,22 @@ pub enum Plan {
     Accept(usize, Edit),
 }
 
-// Bit k of a table's entry in row i, column j.
-pub fn has(img: &[u8], c: Card, tb: Table, i: usize, j: usize, k: usize) -> bool
-    requires laid { ⌜ Laid (layoutOf c) (now img) ⌝ }
-    requires inside { ⌜ BitAt (layoutOf c) i j k ⌝ }
-    ensures { λ r. ⌜ r ≡ tableOf tb (decode (layoutOf c) (now (img .entry))) i j k ⌝ }
-{
-    let row = image::read::entry(img, c, tb, i, j);
-    bits::has_bit(row, k)
-}
-
-// Where the call or need of the package `aid` on the service of `other` with these tokens stands.
-pub fn seek_call(
-    img: &[u8],
-    c: Card,
-    aid: &[u8],
-    other: &[u8],
-    interface: u8,
-    method: u8,
-) -> CallSpot
-    requires { ⌜ Laid (layoutOf c) (now img) ⌝ }
-    ensures { λ s. ⌜ CallFound (layoutOf c) (decode (layoutOf c) (now (img .entry))) (now (aid .entry)) (rowWith (now (other .entry)) interface method) s ⌝ }
-{
-    let n = geometry::packages(c);
-    let i = image::read::find_package(img, c, aid);
-    if i >= n {
-        return CallSpot::Absent;
-    }
-    let p = image::read::find_server(img, c, other, interface, method);
-    let j = p.callee;
-    let k = p.service;
-    if j < n {
-        return CallSpot::Served(i, j, k);
-    }
-    CallSpot::Unserved(i)
-}
-
-// Where the grant of the package `aid` of its service with these tokens to `other` stands.
-pub fn seek_grant(
-    img: &[u8],
-    c: Card,
-    aid: &[u8],
-    other: &[u8],
-    interface: u8,
-    method: u8,
-) -> GrantSpot
-    requires { ⌜ Laid (layoutOf c) (now img) ⌝ }
-    ensures { λ s. ⌜ GrantFound (layoutOf c) (decode (layoutOf c) (now (img .entry))) (now (aid .entry)) (rowWith (now (other .entry)) interface method) s ⌝ }
-{
-    let n = geometry::packages(c);
-    let j = image::read::find_package(img, c, aid);
-    if j >= n {
-        return GrantSpot::Absent;
-    }
-    let p = image::read::find_spot(img, c, j, other, interface, method);
-    let i = p.caller;
-    let k = p.service;
-    if i < n {
-        return GrantSpot::Granted(j, i, k);
-    }
-    GrantSpot::Waits(j)
-}
-
 // Which rows of a list are that of package number n with the AID `other` and these tokens.
-pub fn row_mask(
-    img: &[u8],
-    c: Card,
-    l: Kept,
-    n: usize,
-    other: &[u8],
-    interface: u8,
-    method: u8,
-) -> u32
+fn row_mask(img: &[u8], c: Card, l: Kept, n: usize, other: &[u8], t: Tokens) -> u32
     requires { ⌜ Laid (layoutOf c) (now img) ⌝ }
-    ensures { λ m. ⌜ m ≡ rowMask l (decode (layoutOf c) (now (img .entry))) n (rowWith (now (other .entry)) interface method) ⌝ }
+    ensures { λ m. ⌜ m ≡ rowMask l (decode (layoutOf c) (now (img .entry))) n (asked (now (other .entry)) t) ⌝ }
 {
-    let alike = image::lists::with_row(img, c, l, other, interface, method);
+    let alike = image::lists::with_row(img, c, l, other, t);
     let own = image::lists::with_number(img, c, l, n);
     alike & own
 }
 
 // A row of package number n more in a list, where it is not there yet; `full` is the cause where the list has no room.
-pub fn add_row(
-    img: &[u8],
-    c: Card,
-    l: Kept,
-    n: usize,
-    other: &[u8],
-    interface: u8,
-    method: u8,
-    full: u8,
-) -> Plan
+fn add_row(img: &[u8], c: Card, l: Kept, n: usize, other: &[u8], t: Tokens, full: u8) -> Plan
     requires { ⌜ Laid (layoutOf c) (now img) ⌝ }
-    ensures { λ r. ⌜ r ≡ addRow (layoutOf c) (decode (layoutOf c) (now (img .entry))) (rowWith (now (other .entry)) interface method) l n full ⌝ }
+    ensures { λ r. ⌜ r ≡ addRow (layoutOf c) (decode (layoutOf c) (now (img .entry))) (asked (now (other .entry)) t) l n full ⌝ }
 {
-    if row_mask(img, c, l, n, other, interface, method) != 0 {
+    if row_mask(img, c, l, n, other, t) != 0 {
         return Plan::Refuse(6);
     }
     if image::lists::count(img, c, l) < geometry::capacity(c) {
@@ -147,75 +56,156 @@ pub fn add_row(
 }
 
 // A row of package number n less, where it is there.
-pub fn drop_row(
-    img: &[u8],
-    c: Card,
-    l: Kept,
-    n: usize,
-    other: &[u8],
-    interface: u8,
-    method: u8,
-) -> Plan
+fn drop_row(img: &[u8], c: Card, l: Kept, n: usize, other: &[u8], t: Tokens) -> Plan
     requires { ⌜ Laid (layoutOf c) (now img) ⌝ }
-    ensures { λ r. ⌜ r ≡ dropRow (layoutOf c) (decode (layoutOf c) (now (img .entry))) (rowWith (now (other .entry)) interface method) l n ⌝ }
+    ensures { λ r. ⌜ r ≡ dropRow (layoutOf c) (decode (layoutOf c) (now (img .entry))) (asked (now (other .entry)) t) l n ⌝ }
 {
-    let mask = row_mask(img, c, l, n, other, interface, method);
+    let mask = row_mask(img, c, l, n, other, t);
     if mask == 0 {
         return Plan::Refuse(6);
     }
     Plan::Accept(n, Edit::Drop(l, mask))
 }
 
-// Makes the change; a row that is added to a list has the AID `other`, and these tokens.
-fn apply(img: &mut [u8], c: Card, owner: usize, other: &[u8], interface: u8, method: u8, edit: Edit)
-    requires laid { ⌜ Laid (layoutOf c) (now img) ⌝ }
-    requires inside { ⌜ Fits (layoutOf c) (decode (layoutOf c) (now img)) (rowWith (now other) interface method) owner edit ⌝ }
-    ensures { λ _. ⌜ Wrote (layoutOf c) (now (img .exit)) (edited (decode (layoutOf c) (now (img .entry))) (rowWith (now (other .entry)) interface method) owner edit) ⌝ }
+// What kind 5 comes to.
+fn plan_add_call(img: &[u8], c: Card, aid: &[u8], other: &[u8], t: Tokens) -> Plan
+    requires { ⌜ Laid (layoutOf c) (now img) ⌝ }
+    ensures { λ r. ⌜ r ≡ callPlan (layoutOf c) (decode (layoutOf c) (now (img .entry)))
+        (addCallPlan (layoutOf c) (decode (layoutOf c) (now (img .entry))) (asked (now (other .entry)) t))
+        (now (aid .entry)) (asked (now (other .entry)) t) ⌝ }
 {
-    match edit {
-        Edit::Set(table, column, service) => image::write::set_bit(
-            img,
-            c,
-            table,
-            owner,
-            column,
-            service,
-        ),
-        Edit::Clear(table, column, service) => image::write::clear_bit(
-            img,
-            c,
-            table,
-            owner,
-            column,
-            service,
-        ),
-        Edit::Uncall(callee, service) => {
-            image::write::clear_bit(img, c, Table::Needs, owner, callee, service);
-            image::write::clear_bit(img, c, Table::Calls, owner, callee, service);
+    match crate::spots::seek_call(img, c, aid, other, t) {
+        CallSpot::Absent => Plan::Refuse(5),
+        CallSpot::Unserved(i) => add_row(img, c, Kept::UnmetCalls, i, other, t, 10),
+        CallSpot::Served(i, j, k) => {
+            if crate::spots::has(img, c, Table::Calls, i, j, k) {
+                return Plan::Refuse(6);
+            }
+            if crate::spots::has(img, c, Table::Grants, j, i, k) {
+                return Plan::Accept(i, Edit::Set(Table::Calls, j, k));
+            }
+            Plan::Refuse(8)
         }
-        Edit::Add(l) => image::write::append_row(img, c, l, other, interface, method, owner),
-        Edit::Drop(l, mask) => image::write::drop_rows(img, c, l, mask),
     }
 }
 
-// Carries the plan out; `other` and the tokens are the record's row.
-pub fn perform(
-    img: &mut [u8],
-    c: Card,
-    other: &[u8],
-    interface: u8,
-    method: u8,
-    plan: Plan,
-) -> Verdict
-    requires laid { ⌜ Laid (layoutOf c) (now img) ⌝ }
-    requires inside { ⌜ Inside (layoutOf c) (decode (layoutOf c) (now img)) (rowWith (now other) interface method) plan ⌝ }
-    ensures { λ r. ⌜ Gives (done (layoutOf c) (now (img .entry)) (rowWith (now (other .entry)) interface method) plan) (r .number) (r .second) (now (img .exit)) ⌝ }
+// What kind 6 comes to.
+fn plan_remove_call(img: &[u8], c: Card, aid: &[u8], other: &[u8], t: Tokens) -> Plan
+    requires { ⌜ Laid (layoutOf c) (now img) ⌝ }
+    ensures { λ r. ⌜ r ≡ callPlan (layoutOf c) (decode (layoutOf c) (now (img .entry)))
+        (removeCallPlan (layoutOf c) (decode (layoutOf c) (now (img .entry))) (asked (now (other .entry)) t))
+        (now (aid .entry)) (asked (now (other .entry)) t) ⌝ }
 {
-    match plan {
-        Plan::Refuse(cause) => changes::refused(cause),
-        Plan::Accept(owner, edit) => {
-            apply(img, c, owner, other, interface, method, edit);
-            changes::accepted(owner)
+    match crate::spots::seek_call(img, c, aid, other, t) {
+        CallSpot::Absent => Plan::Refuse(5),
+        CallSpot::Unserved(i) => drop_row(img, c, Kept::UnmetCalls, i, other, t),
+        CallSpot::Served(i, j, k) => {
+            if crate::spots::has(img, c, Table::Calls, i, j, k) {
+                return Plan::Accept(i, Edit::Uncall(j, k));
+            }
+            Plan::Refuse(6)
         }
+    }
+}
+
+// What kind 7 comes to.
+fn plan_add_grant(img: &[u8], c: Card, aid: &[u8], other: &[u8], t: Tokens) -> Plan
+    requires { ⌜ Laid (layoutOf c) (now img) ⌝ }
+    ensures { λ r. ⌜ r ≡ grantPlan (layoutOf c) (decode (layoutOf c) (now (img .entry)))
+        (addGrantPlan (layoutOf c) (decode (layoutOf c) (now (img .entry))) (asked (now (other .entry)) t))
+        (now (aid .entry)) (asked (now (other .entry)) t) ⌝ }
+{
+    match crate::spots::seek_grant(img, c, aid, other, t) {
+        GrantSpot::Absent => Plan::Refuse(5),
+        GrantSpot::Waits(j) => add_row(img, c, Kept::WaitingGrants, j, other, t, 11),
+        GrantSpot::Granted(j, i, k) => {
+            if crate::spots::has(img, c, Table::Grants, j, i, k) {
+                return Plan::Refuse(6);
+            }
+            Plan::Accept(j, Edit::Set(Table::Grants, i, k))
+        }
+    }
+}
+
+// What kind 8 comes to.
+fn plan_remove_grant(img: &[u8], c: Card, aid: &[u8], other: &[u8], t: Tokens) -> Plan
+    requires { ⌜ Laid (layoutOf c) (now img) ⌝ }
+    ensures { λ r. ⌜ r ≡ grantPlan (layoutOf c) (decode (layoutOf c) (now (img .entry)))
+        (removeGrantPlan (layoutOf c) (decode (layoutOf c) (now (img .entry))) (asked (now (other .entry)) t))
+        (now (aid .entry)) (asked (now (other .entry)) t) ⌝ }
+{
+    match crate::spots::seek_grant(img, c, aid, other, t) {
+        GrantSpot::Absent => Plan::Refuse(5),
+        GrantSpot::Waits(j) => drop_row(img, c, Kept::WaitingGrants, j, other, t),
+        GrantSpot::Granted(j, i, k) => {
+            if !crate::spots::has(img, c, Table::Grants, j, i, k) {
+                return Plan::Refuse(6);
+            }
+            if crate::spots::has(img, c, Table::Calls, i, j, k) {
+                return Plan::Refuse(8);
+            }
+            Plan::Accept(j, Edit::Clear(Table::Grants, i, k))
+        }
+    }
+}
+
+// What kind 9 comes to.
+fn plan_add_need(img: &[u8], c: Card, aid: &[u8], other: &[u8], t: Tokens) -> Plan
+    requires { ⌜ Laid (layoutOf c) (now img) ⌝ }
+    ensures { λ r. ⌜ r ≡ callPlan (layoutOf c) (decode (layoutOf c) (now (img .entry)))
+        (addNeedPlan (layoutOf c) (decode (layoutOf c) (now (img .entry))) (asked (now (other .entry)) t))
+        (now (aid .entry)) (asked (now (other .entry)) t) ⌝ }
+{
+    match crate::spots::seek_call(img, c, aid, other, t) {
+        CallSpot::Absent => Plan::Refuse(5),
+        CallSpot::Unserved(i) => {
+            if row_mask(img, c, Kept::UnmetCalls, i, other, t) == 0 {
+                return Plan::Refuse(6);
+            }
+            Plan::Refuse(9)
+        }
+        CallSpot::Served(i, j, k) => {
+            if !crate::spots::has(img, c, Table::Calls, i, j, k) {
+                return Plan::Refuse(6);
+            }
+            if crate::spots::has(img, c, Table::Needs, i, j, k) {
+                return Plan::Refuse(6);
+            }
+            Plan::Accept(i, Edit::Set(Table::Needs, j, k))
+        }
+    }
+}
+
+// What kind 10 comes to.
+fn plan_remove_need(img: &[u8], c: Card, aid: &[u8], other: &[u8], t: Tokens) -> Plan
+    requires { ⌜ Laid (layoutOf c) (now img) ⌝ }
+    ensures { λ r. ⌜ r ≡ callPlan (layoutOf c) (decode (layoutOf c) (now (img .entry)))
+        (removeNeedPlan (layoutOf c) (decode (layoutOf c) (now (img .entry))) (asked (now (other .entry)) t))
+        (now (aid .entry)) (asked (now (other .entry)) t) ⌝ }
+{
+    match crate::spots::seek_call(img, c, aid, other, t) {
+        CallSpot::Absent => Plan::Refuse(5),
+        CallSpot::Unserved(_) => Plan::Refuse(6),
+        CallSpot::Served(i, j, k) => {
+            if crate::spots::has(img, c, Table::Needs, i, j, k) {
+                return Plan::Accept(i, Edit::Clear(Table::Needs, j, k));
+            }
+            Plan::Refuse(6)
+        }
+    }
+}
+
+// What a record of kinds 5 to 10 comes to: the row of the package `own` with the AID `other` and these tokens.
+pub fn plan_row(img: &[u8], c: Card, own: &[u8], other: &[u8], t: Tokens, k: RowKind) -> Plan
+    requires { ⌜ Laid (layoutOf c) (now img) ⌝ }
+    ensures { λ r. ⌜ r ≡ planOf (layoutOf c) (decode (layoutOf c) (now (img .entry))) (now (own .entry)) (asked (now (other .entry)) t) k ⌝ }
+{
+    match k {
+        RowKind::AddCall => plan_add_call(img, c, own, other, t),
+        RowKind::RemoveCall => plan_remove_call(img, c, own, other, t),
+        RowKind::AddGrant => plan_add_grant(img, c, own, other, t),
+        RowKind::RemoveGrant => plan_remove_grant(img, c, own, other, t),
+        RowKind::AddNeed => plan_add_need(img, c, own, other, t),
+        RowKind::RemoveNeed => plan_remove_need(img, c, own, other, t),
     }
 }

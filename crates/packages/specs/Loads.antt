@@ -8,9 +8,9 @@ use lib.Dec.{eqb, leb}
 use lib.Bits.{bitAnd}
 use lib.ListN.{length}
 use Rattle.policy.specs.Lists.{implies, every, exists, isSome, orElse, upto}
-use Rattle.policy.specs.Contract.{Aid, eqAid, Tok, eqTok, Row, hasTok}
+use Rattle.policy.specs.Contract.{Aid, eqAid, Tok, eqTok, Row, Contract, hasTok}
 use Rattle.policy.specs.Layout.{Layout}
-use Rattle.policy.specs.Record.{load}
+use Rattle.policy.specs.Record.{Change, load}
 use Rattle.policy.specs.Causes.{answer}
 use Rattle.policy.specs.Tables.{Tables, Unmet, Waiting, bit, decode, encode}
 use Rattle.policy.specs.Lookup.{Place, numberOf, serviceOf, serverOf, freeNumber}
@@ -55,13 +55,13 @@ module _ (L : Layout) (t : Tables) where
   CallsCome due calls (Granted unserved) = (every (callGranted due) calls ≡ true) × (unserved ≡ count (λ r. not (served L t r)) calls)
   CallsCome due calls Refused = every (callGranted due) calls ≡ false
 
-  -- the grant g of the package a is that of the service that u asks for to the caller of u
-  abbrev pub grantFits : Aid → Unmet → Row → Bool
-  grantFits a u g = (eqAid (u .callee) a && eqTok (u .tok) (g .tok)) && (t .used (u .caller) && eqAid (t .aid (u .caller)) (g .aid))
+  -- the grant g is of the tokens that u asks for, and to the caller of u
+  abbrev pub grantFits : Unmet → Row → Bool
+  grantFits u g = eqTok (u .tok) (g .tok) && (t .used (u .caller) && eqAid (t .aid (u .caller)) (g .aid))
 
   -- each unmet call of the mask has such a grant
-  abbrev pub othersGranted : Aid → List Row → ℕ → Bool
-  othersGranted a grants met = every (λ r. implies (bit met r) (exists (grantFits a (unmetRow t r)) grants)) (upto (length (t .unmet)))
+  abbrev pub othersGranted : List Row → ℕ → Bool
+  othersGranted grants met = every (λ r. implies (bit met r) (exists (grantFits (unmetRow t r)) grants)) (upto (length (t .unmet)))
 
   -- the lists with room for the rows that go on them after those of the mask go: so many unmet calls, and the grants that wait
   abbrev pub unmetFit : ℕ → ℕ → Bool
@@ -74,29 +74,39 @@ module _ (L : Layout) (t : Tables) where
   abbrev pub limitCause : ℕ → ℕ → ℕ → List Tok → List Row → ℕ
   limitCause met due unserved p grants = cond (not (unmetFit met unserved)) 10 (cond (not (waitingFit due p grants)) 11 0)
 
-  -- causes 8 to 11 of a load by the package a with the services p, by the masks of the unmet calls that it meets and of the grants that wait for it alone
-  module _ (a : Aid) (p : List Tok) (calls grants needs : List Row) (met due : ℕ) where
+  -- causes 8 to 11 of a load of the contract k, by the masks of the unmet calls that it meets and of the grants that wait for it alone
+  module _ (k : Contract) (met due : ℕ) where
     abbrev pub loadLook : Look
     loadLook = record {
-      granted = every (callGranted due) calls && othersGranted a grants met;
-      needed = every (served L t) needs;
-      unmetFits = unmetFit met (count (λ r. not (served L t r)) calls);
-      waitingFits = waitingFit due p grants;
+      granted = every (callGranted due) (k .calls) && othersGranted (k .grants) met;
+      needed = every (served L t) (k .needs);
+      unmetFits = unmetFit met (count (λ r. not (served L t r)) (k .calls));
+      waitingFits = waitingFit due (k .provides) (k .grants);
     }
 
     abbrev pub loadCause : ℕ
     loadCause = answer (lookCauses loadLook)
 
 -- ---- what is decided of a load
--- it is accepted: the number that the package takes, and the masks of the unmet calls that it meets and of the grants that wait for it alone
-pub record Accepts (L : Layout) (img : List ℕ) (a : Aid) (p : List Tok) (c g n : List Row) (r : Decided) : Type 0 where
-  pub outcome : settled L img a (load p c g n)
-      ≡ record { answered = 0; second = r .at; bytes = encode L (loadAt L (decode L img) (r .at) (record { aid = a; provides = p; calls = c; grants = g; needs = n }) .tables) }
-  pub away : numberOf L (decode L img) a ≡ none
-  pub free : freeNumber L (decode L img) ≡ some (r .at)
-  pub met-is : r .met ≡ maskOf (meets a p) (decode L img .unmet)
-  pub due-is : r .due ≡ maskOf (comesDue L (decode L img) a) (decode L img .waiting)
+-- the cause at number m, and the masks that it is by
+pub record Found (L : Layout) (t : Tables) (k : Contract) (m : ℕ) (r : Decided) : Type 0 where
+  pub at-is : r .at ≡ m
+  pub met-is : r .met ≡ maskOf (meets (k .aid) (k .provides)) (t .unmet)
+  pub due-is : r .due ≡ maskOf (comesDue L t (k .aid)) (t .waiting)
+  pub cause-is : r .number ≡ loadCause L t k (r .met) (r .due)
 
-pub record Decides (L : Layout) (img : List ℕ) (a : Aid) (p : List Tok) (c g n : List Row) (r : Decided) : Type 0 where
-  pub refused : (r .number ≡ 0 → ⊥) → settled L img a (load p c g n) ≡ refusal (r .number) 255 img
-  pub accepted : r .number ≡ 0 → Accepts L img a p c g n r
+-- the change that brings the contract k
+abbrev pub loadOf : Contract → Change
+loadOf k = load (k .provides) (k .calls) (k .grants) (k .needs)
+
+-- it is accepted: the number that the package takes, and the masks of the unmet calls that it meets and of the grants that wait for it alone
+pub record Accepts (L : Layout) (img : List ℕ) (k : Contract) (r : Decided) : Type 0 where
+  pub outcome : settled L img (k .aid) (loadOf k) ≡ record { answered = 0; second = r .at; bytes = encode L (loadAt L (decode L img) (r .at) k .tables) }
+  pub away : numberOf L (decode L img) (k .aid) ≡ none
+  pub free : freeNumber L (decode L img) ≡ some (r .at)
+  pub met-is : r .met ≡ maskOf (meets (k .aid) (k .provides)) (decode L img .unmet)
+  pub due-is : r .due ≡ maskOf (comesDue L (decode L img) (k .aid)) (decode L img .waiting)
+
+pub record Decides (L : Layout) (img : List ℕ) (k : Contract) (r : Decided) : Type 0 where
+  pub refused : (r .number ≡ 0 → ⊥) → settled L img (k .aid) (loadOf k) ≡ refusal (r .number) 255 img
+  pub accepted : r .number ≡ 0 → Accepts L img k r

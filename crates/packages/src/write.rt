@@ -1,20 +1,20 @@
 // Kind 1: the writes of a load that was accepted.
 ghost use Prim.Native.Nat.{_≤_, _<_};
 ghost use lib.ListN.{length};
-ghost use Rattle.policy.specs.Record.{tokens, aRow, load};
+ghost use Rattle.policy.specs.Record.{tokens};
 ghost use Rattle.policy.specs.Tables.{decode};
 ghost use Rattle.policy.specs.Draft.{loadAt};
-ghost use Rattle.policy.specs.ShortCheck.{count};
 ghost use Rattle.geometry.specs.Geometry.{layoutOf};
 ghost use Rattle.image.specs.Laid.{Laid};
 ghost use Rattle.image.specs.Wrote.{Wrote};
-ghost use Rattle.record.specs.Meaning.{Stands, itemsIn};
+ghost use Rattle.record.specs.Meaning.{Stands, ListsStand, itemsIn, loadIn, contractIn};
 ghost use Rattle.changes.specs.Asked.{Asked};
 ghost use Rattle.packages.specs.Loads.{Accepts};
 ghost use Rattle.packages.specs.Writes.{named, openedAll};
 use crate::decide::Decided;
 use geometry::Card;
 use record::Items;
+use record::Lists;
 
 // Package n is used, with this AID.
 fn name(img: &mut [u8], c: Card, n: usize, aid: &[u8])
@@ -40,43 +40,23 @@ fn open_all(img: &mut [u8], c: Card, n: usize, rec: &[u8], provides: Items)
     let mut k = 0;
     while 0 < todo.count {
         let s = record::steps::take_tokens(rec, todo);
-        let t = s.tokens;
-        changes::service::open_service(img, c, n, k, t.interface, t.method);
+        changes::service::open_service(img, c, n, k, s.tokens);
         todo = s.rest;
         k += 1;
     }
 }
 
 // All writes of an accepted load: the package and its services first, so that the other packages' rows and its own find them.
-pub fn put(
-    img: &mut [u8],
-    c: Card,
-    d: Decided,
-    aid: &[u8],
-    rec: &[u8],
-    provides: Items,
-    calls: Items,
-    grants: Items,
-    needs: Items,
-)
-    requires asked { ⌜ Asked (layoutOf c) (now img) (now aid)
-        (load (itemsIn tokens (now rec) provides) (itemsIn aRow (now rec) calls) (itemsIn aRow (now rec) grants) (itemsIn aRow (now rec) needs)) ⌝ }
-    requires listed { ⌜ Stands tokens (now rec) provides ⌝ }
-    requires stands { ⌜ Stands aRow (now rec) calls × Stands aRow (now rec) grants × Stands aRow (now rec) needs ⌝ }
-    requires accepts { ⌜ Accepts (layoutOf c) (now img) (now aid) (itemsIn tokens (now rec) provides)
-        (itemsIn aRow (now rec) calls) (itemsIn aRow (now rec) grants) (itemsIn aRow (now rec) needs) d ⌝ }
+pub fn put(img: &mut [u8], c: Card, d: Decided, aid: &[u8], rec: &[u8], l: Lists)
+    requires asked { ⌜ Asked (layoutOf c) (now img) (now aid) (loadIn (now rec) l) ⌝ }
+    requires stands { ⌜ ListsStand (now rec) l ⌝ }
+    requires accepts { ⌜ Accepts (layoutOf c) (now img) (contractIn (now rec) (now aid) l) d ⌝ }
     ensures { λ _. ⌜ Wrote (layoutOf c) (now (img .exit)) (loadAt (layoutOf c) (decode (layoutOf c) (now (img .entry))) (d .at)
-        (record {
-          aid = now (aid .entry);
-          provides = itemsIn tokens (now (rec .entry)) provides;
-          calls = itemsIn aRow (now (rec .entry)) calls;
-          grants = itemsIn aRow (now (rec .entry)) grants;
-          needs = itemsIn aRow (now (rec .entry)) needs;
-        }) .tables) ⌝ }
+        (contractIn (now (rec .entry)) (now (aid .entry)) l) .tables) ⌝ }
 {
     let n = d.at;
     name(img, c, n, aid);
-    open_all(img, c, n, rec, provides);
+    open_all(img, c, n, rec, l.provides);
     changes::lists::take_in(img, c, n, d.met, d.due);
-    changes::own::put_rows(img, c, n, rec, calls, grants, needs);
+    changes::own::put_rows(img, c, n, rec, l);
 }

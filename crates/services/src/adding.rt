@@ -13,10 +13,10 @@ ghost use Rattle.policy.specs.Sound.{sound};
 ghost use Rattle.policy.specs.Draft.{installedAid};
 ghost use Rattle.policy.specs.ShortCheck.{count};
 ghost use Rattle.policy.specs.Settled.{settled, Gives};
-ghost use Rattle.geometry.specs.Geometry.{layoutOf};
+ghost use Rattle.geometry.specs.Geometry.{layoutOf, tokOf};
 ghost use Rattle.image.specs.Laid.{Laid};
 ghost use Rattle.image.specs.Wrote.{Wrote};
-ghost use Rattle.image.specs.Read.{maskOf, tokens, unmetRow, waitingRow};
+ghost use Rattle.image.specs.Read.{maskOf, unmetRow, waitingRow};
 ghost use Rattle.record.specs.Meaning.{AidFits, Stands, aidIn, itemsIn};
 ghost use Rattle.changes.specs.Asked.{Asked};
 ghost use Rattle.services.specs.Adding.{waitsIn, waitedAt, isLone, grantedAt, grantedAll, RoomFor, added, AddFits, dueTo, byCallers, addingAt, addingPlan};
@@ -26,6 +26,7 @@ use changes::Verdict;
 use geometry::Card;
 use geometry::Kept;
 use geometry::Table;
+use geometry::Tokens;
 use record::Aid;
 use record::Items;
 
@@ -63,8 +64,7 @@ fn is_among(img: &[u8], c: Card, n: usize, rec: &[u8], callers: Items) -> bool
     let mut todo = callers;
     while 0 < todo.count {
         let r = record::steps::take_aid(rec, todo);
-        let a = r.aid;
-        if is_caller(img, c, n, rec, a) {
+        if is_caller(img, c, n, rec, r.aid) {
             return true;
         }
         todo = r.rest;
@@ -223,8 +223,7 @@ fn callers_fit(img: &[u8], c: Card, granting: u32, room: usize, rec: &[u8], call
     let mut todo = callers;
     while 0 < todo.count {
         let r = record::steps::take_aid(rec, todo);
-        let a = r.aid;
-        let new = is_lone(img, c, granting, rec, a) as usize;
+        let new = is_lone(img, c, granting, rec, r.aid) as usize;
         if left < new {
             return false;
         }
@@ -241,18 +240,17 @@ fn plan_lists(
     own: &[u8],
     j: usize,
     k: usize,
-    interface: u8,
-    method: u8,
+    t: Tokens,
     rec: &[u8],
     callers: Items,
 ) -> Adding
     requires is_sound { ⌜ T (sound (layoutOf c) (now img)) ⌝ }
     requires stands { ⌜ Stands aid (now rec) callers ⌝ }
     requires is_own { ⌜ decode (layoutOf c) (now img) .aid j ≡ now own ⌝ }
-    ensures { λ r. ⌜ r ≡ addingAt (layoutOf c) (decode (layoutOf c) (now (img .entry))) (tokens interface method) (itemsIn aid (now (rec .entry)) callers) j k ⌝ }
+    ensures { λ r. ⌜ r ≡ addingAt (layoutOf c) (decode (layoutOf c) (now (img .entry))) (tokOf t) (itemsIn aid (now (rec .entry)) callers) j k ⌝ }
 {
-    let met = image::lists::with_row(img, c, Kept::UnmetCalls, own, interface, method);
-    let granting = image::lists::with_service(img, c, Kept::WaitingGrants, j, interface, method);
+    let met = image::lists::with_row(img, c, Kept::UnmetCalls, own, t);
+    let granting = image::lists::with_service(img, c, Kept::WaitingGrants, j, t);
     let due = due_rows(img, c, granting);
     if !all_granted(img, c, met, due, rec, callers) {
         return Adding::Refuse { cause: 8 };
@@ -270,18 +268,10 @@ fn plan_lists(
 }
 
 // What kind 3 comes to.
-fn plan_adding(
-    img: &[u8],
-    c: Card,
-    own: &[u8],
-    interface: u8,
-    method: u8,
-    rec: &[u8],
-    callers: Items,
-) -> Adding
+fn plan_adding(img: &[u8], c: Card, own: &[u8], t: Tokens, rec: &[u8], callers: Items) -> Adding
     requires is_sound { ⌜ T (sound (layoutOf c) (now img)) ⌝ }
     requires stands { ⌜ Stands aid (now rec) callers ⌝ }
-    ensures { λ r. ⌜ r ≡ addingPlan (layoutOf c) (decode (layoutOf c) (now (img .entry))) (tokens interface method) (itemsIn aid (now (rec .entry)) callers)
+    ensures { λ r. ⌜ r ≡ addingPlan (layoutOf c) (decode (layoutOf c) (now (img .entry))) (tokOf t) (itemsIn aid (now (rec .entry)) callers)
         (now (own .entry)) ⌝ }
 {
     let n = geometry::packages(c);
@@ -290,7 +280,7 @@ fn plan_adding(
     if j >= n {
         return Adding::Refuse { cause: 5 };
     }
-    let had = image::read::find_service(img, c, j, interface, method);
+    let had = image::read::find_service(img, c, j, t);
     if had < m {
         return Adding::Refuse { cause: 6 };
     }
@@ -298,41 +288,31 @@ fn plan_adding(
     if k >= m {
         return Adding::Refuse { cause: 7 };
     }
-    plan_lists(img, c, own, j, k, interface, method, rec, callers)
+    plan_lists(img, c, own, j, k, t, rec, callers)
 }
 
 // A grant by package j of its service with these tokens to an AID of the record waits, if no waiting grant of the mask is to it.
-fn wait(img: &mut [u8], c: Card, mask: u32, rec: &[u8], a: Aid, j: usize, interface: u8, method: u8)
+fn wait(img: &mut [u8], c: Card, mask: u32, rec: &[u8], a: Aid, j: usize, t: Tokens)
     requires laid { ⌜ Laid (layoutOf c) (now img) ⌝ }
     requires fits { ⌜ AidFits (now rec) a ⌝ }
     requires inside { ⌜ j < layoutOf c .packages ⌝ }
     requires room { ⌜ (waitsIn mask (decode (layoutOf c) (now img)) (aidIn (now rec) a) ≡ false → length (decode (layoutOf c) (now img) .waiting) < layoutOf c .capacity) ⌝ }
-    ensures { λ _. ⌜ Wrote (layoutOf c) (now (img .exit)) (waitedAt mask j (tokens interface method) (aidIn (now (rec .entry)) a) (decode (layoutOf c) (now (img .entry)))) ⌝ }
+    ensures { λ _. ⌜ Wrote (layoutOf c) (now (img .exit)) (waitedAt mask j (tokOf t) (aidIn (now (rec .entry)) a) (decode (layoutOf c) (now (img .entry)))) ⌝ }
 {
     if waits(img, c, mask, rec, a) {
         return;
     }
     let other = record::aid_bytes(rec, a);
-    image::write::append_row(img, c, Kept::WaitingGrants, other, interface, method, j);
+    image::write::append_row(img, c, Kept::WaitingGrants, other, t, j);
 }
 
 // Service k of package j, with these tokens, is granted to an AID of the record: a bit where it is installed, else the grant waits.
-fn grant(
-    img: &mut [u8],
-    c: Card,
-    mask: u32,
-    rec: &[u8],
-    a: Aid,
-    j: usize,
-    k: usize,
-    interface: u8,
-    method: u8,
-)
+fn grant(img: &mut [u8], c: Card, mask: u32, rec: &[u8], a: Aid, j: usize, k: usize, t: Tokens)
     requires laid { ⌜ Laid (layoutOf c) (now img) ⌝ }
     requires fits { ⌜ AidFits (now rec) a ⌝ }
     requires numbers { ⌜ (j < layoutOf c .packages) × (k < layoutOf c .services) ⌝ }
     requires room { ⌜ (isLone (layoutOf c) mask (decode (layoutOf c) (now img)) (aidIn (now rec) a) ≡ true → length (decode (layoutOf c) (now img) .waiting) < layoutOf c .capacity) ⌝ }
-    ensures { λ _. ⌜ Wrote (layoutOf c) (now (img .exit)) (grantedAt (layoutOf c) mask j k (tokens interface method) (aidIn (now (rec .entry)) a) (decode (layoutOf c) (now (img .entry)))
+    ensures { λ _. ⌜ Wrote (layoutOf c) (now (img .exit)) (grantedAt (layoutOf c) mask j k (tokOf t) (aidIn (now (rec .entry)) a) (decode (layoutOf c) (now (img .entry)))
         (numberOf (layoutOf c) (decode (layoutOf c) (now (img .entry))) (aidIn (now (rec .entry)) a))) ⌝ }
 {
     let n = geometry::packages(c);
@@ -341,32 +321,22 @@ fn grant(
         image::write::set_bit(img, c, Table::Grants, j, i, k);
         return;
     }
-    wait(img, c, mask, rec, a, j, interface, method);
+    wait(img, c, mask, rec, a, j, t);
 }
 
 // Service k of package j, with these tokens, is granted to the callers; none of them waits for it twice.
-fn grant_all(
-    img: &mut [u8],
-    c: Card,
-    rec: &[u8],
-    callers: Items,
-    j: usize,
-    k: usize,
-    interface: u8,
-    method: u8,
-)
+fn grant_all(img: &mut [u8], c: Card, rec: &[u8], callers: Items, j: usize, k: usize, t: Tokens)
     requires laid { ⌜ Laid (layoutOf c) (now img) ⌝ }
     requires stands { ⌜ Stands aid (now rec) callers ⌝ }
     requires numbers { ⌜ (j < layoutOf c .packages) × (k < layoutOf c .services) ⌝ }
-    requires room { ⌜ RoomFor (layoutOf c) j (tokens interface method) (itemsIn aid (now rec) callers) (decode (layoutOf c) (now img)) ⌝ }
-    ensures { λ _. ⌜ Wrote (layoutOf c) (now (img .exit)) (grantedAll (layoutOf c) j k (tokens interface method) (itemsIn aid (now (rec .entry)) callers) (decode (layoutOf c) (now (img .entry)))) ⌝ }
+    requires room { ⌜ RoomFor (layoutOf c) j (tokOf t) (itemsIn aid (now rec) callers) (decode (layoutOf c) (now img)) ⌝ }
+    ensures { λ _. ⌜ Wrote (layoutOf c) (now (img .exit)) (grantedAll (layoutOf c) j k (tokOf t) (itemsIn aid (now (rec .entry)) callers) (decode (layoutOf c) (now (img .entry)))) ⌝ }
 {
-    let still = image::lists::with_service(img, c, Kept::WaitingGrants, j, interface, method);
+    let still = image::lists::with_service(img, c, Kept::WaitingGrants, j, t);
     let mut todo = callers;
     while 0 < todo.count {
         let r = record::steps::take_aid(rec, todo);
-        let a = r.aid;
-        grant(img, c, still, rec, a, j, k, interface, method);
+        grant(img, c, still, rec, r.aid, j, k, t);
         todo = r.rest;
     }
 }
@@ -377,8 +347,7 @@ fn serve(
     c: Card,
     met: u32,
     due: u32,
-    interface: u8,
-    method: u8,
+    t: Tokens,
     rec: &[u8],
     callers: Items,
     j: usize,
@@ -386,13 +355,13 @@ fn serve(
 )
     requires laid { ⌜ Laid (layoutOf c) (now img) ⌝ }
     requires stands { ⌜ Stands aid (now rec) callers ⌝ }
-    requires fit { ⌜ AddFits (layoutOf c) met due j k (tokens interface method) (itemsIn aid (now rec) callers) (decode (layoutOf c) (now img)) ⌝ }
-    ensures { λ _. ⌜ Wrote (layoutOf c) (now (img .exit)) (added (layoutOf c) met due j k (tokens interface method) (itemsIn aid (now (rec .entry)) callers)
+    requires fit { ⌜ AddFits (layoutOf c) met due j k (tokOf t) (itemsIn aid (now rec) callers) (decode (layoutOf c) (now img)) ⌝ }
+    ensures { λ _. ⌜ Wrote (layoutOf c) (now (img .exit)) (added (layoutOf c) met due j k (tokOf t) (itemsIn aid (now (rec .entry)) callers)
         (decode (layoutOf c) (now (img .entry)))) ⌝ }
 {
-    changes::service::open_service(img, c, j, k, interface, method);
+    changes::service::open_service(img, c, j, k, t);
     changes::lists::take_in(img, c, j, met, due);
-    grant_all(img, c, rec, callers, j, k, interface, method);
+    grant_all(img, c, rec, callers, j, k, t);
 }
 
 // Kind 3: a service of the package with AID own, with the callers that it is granted to.
@@ -400,17 +369,16 @@ pub fn add_service(
     img: &mut [u8],
     c: Card,
     own: &[u8],
-    interface: u8,
-    method: u8,
+    t: Tokens,
     rec: &[u8],
     callers: Items,
 ) -> Verdict
-    requires asked { ⌜ Asked (layoutOf c) (now img) (now own) (addService (tokens interface method) (itemsIn aid (now rec) callers)) ⌝ }
+    requires asked { ⌜ Asked (layoutOf c) (now img) (now own) (addService (tokOf t) (itemsIn aid (now rec) callers)) ⌝ }
     requires stands { ⌜ Stands aid (now rec) callers ⌝ }
-    ensures { λ r. ⌜ Gives (settled (layoutOf c) (now (img .entry)) (now (own .entry)) (addService (tokens interface method) (itemsIn aid (now (rec .entry)) callers)))
+    ensures { λ r. ⌜ Gives (settled (layoutOf c) (now (img .entry)) (now (own .entry)) (addService (tokOf t) (itemsIn aid (now (rec .entry)) callers)))
         (r .number) (r .second) (now (img .exit)) ⌝ }
 {
-    match plan_adding(img, c, own, interface, method, rec, callers) {
+    match plan_adding(img, c, own, t, rec, callers) {
         Adding::Refuse { cause } => changes::refused(cause),
         Adding::Add {
             package,
@@ -418,18 +386,7 @@ pub fn add_service(
             met,
             due,
         } => {
-            serve(
-                img,
-                c,
-                met,
-                due,
-                interface,
-                method,
-                rec,
-                callers,
-                package,
-                service,
-            );
+            serve(img, c, met, due, t, rec, callers, package, service);
             changes::accepted(package)
         }
     }

@@ -8,10 +8,9 @@ ghost use Rattle.policy.specs.Lookup.{numbers};
 ghost use Rattle.policy.specs.ShortCheck.{count, shortRemoveService};
 ghost use Rattle.policy.specs.Judge.{lookCauses};
 ghost use Rattle.policy.specs.Settled.{settled, Gives};
-ghost use Rattle.geometry.specs.Geometry.{layoutOf};
+ghost use Rattle.geometry.specs.Geometry.{layoutOf, tokOf};
 ghost use Rattle.image.specs.Laid.{Laid};
 ghost use Rattle.image.specs.Wrote.{Wrote};
-ghost use Rattle.image.specs.Read.{tokens};
 ghost use Rattle.changes.specs.Asked.{Asked};
 ghost use Rattle.changes.specs.Left.{behind, RoomBehind, leftOne};
 ghost use Rattle.services.specs.Removal.{between as bitsBetween, leftBit, leftBits, rowsWithBits, RoomWithoutService, listsWithoutService};
@@ -19,6 +18,7 @@ use changes::Verdict;
 use geometry::Card;
 use geometry::Kept;
 use geometry::Table;
+use geometry::Tokens;
 
 // ---- kind 4
 // The bits of a table for the services of package j and package i, which calls or needs them, or has them granted.
@@ -126,9 +126,9 @@ fn leave_service(img: &mut [u8], c: Card, j: usize, k: usize)
 }
 
 // Kind 4: the service with these tokens of the package with this AID goes.
-pub fn remove_service(img: &mut [u8], c: Card, aid: &[u8], interface: u8, method: u8) -> Verdict
-    requires { ⌜ Asked (layoutOf c) (now img) (now aid) (removeService (tokens interface method)) ⌝ }
-    ensures { λ r. ⌜ Gives (settled (layoutOf c) (now (img .entry)) (now (aid .entry)) (removeService (tokens interface method)))
+pub fn remove_service(img: &mut [u8], c: Card, aid: &[u8], t: Tokens) -> Verdict
+    requires { ⌜ Asked (layoutOf c) (now img) (now aid) (removeService (tokOf t)) ⌝ }
+    ensures { λ r. ⌜ Gives (settled (layoutOf c) (now (img .entry)) (now (aid .entry)) (removeService (tokOf t)))
         (r .number) (r .second) (now (img .exit)) ⌝ }
 {
     let j = image::read::find_package(img, c, aid);
@@ -136,7 +136,7 @@ pub fn remove_service(img: &mut [u8], c: Card, aid: &[u8], interface: u8, method
     if j >= most {
         return changes::refused(5);
     }
-    let k = image::read::find_service(img, c, j, interface, method);
+    let k = image::read::find_service(img, c, j, t);
     let size = geometry::services(c);
     if k >= size {
         return changes::refused(6);

@@ -14,7 +14,7 @@ use mir.Val.{Fits}
 use borrow.Author.Tests.{not-true, not-false, eq-eqb, ne-eqb, lt-leb, le-leb, leb-true, leb-false}
 use borrow.Author.Needs.{needs}
 use Rattle.policy.specs.Lists.{every, keep, isSome, orElse, upto}
-use Rattle.policy.specs.Contract.{Aid, eqAid, Tok, eqTok, Row, hasTok}
+use Rattle.policy.specs.Contract.{Aid, eqAid, Tok, eqTok, Row, Contract, hasTok}
 use Rattle.policy.specs.Layout.{Layout}
 use Rattle.policy.specs.Record.{Reader, aRow}
 use Rattle.policy.specs.Tables.{Tables, Unmet, Waiting, bit}
@@ -35,7 +35,7 @@ use Rattle.packages.specs.Loads.{meets, present, comesDue, waitsAt, call
 use Rattle.changes.specs.Own.{served}
 use Rattle.packages.specs.declared.decide.Called.{Called}
 use Rattle.packages.specs.declared.decide.Called.the-variants.{Granted, Refused}
-use Rattle.changes.specs.Joins.{roomAfter}
+use Rattle.changes.specs.Joins.{roomAfter, serviceNumber}
 use Rattle.geometry.specs.declared.Kept.the-variants.{UnmetCalls, WaitingGrants}
 
 -- ---- an unmet call u on a service of the package a with the services p, its callee compared first
@@ -43,43 +43,33 @@ module _ (a : Aid) (p : List Tok) (u : Unmet) (b : Bool) (e : b ≡ eqAid (u .ca
   pub met-other : not b ≡ true → false ≡ meets a p u
   met-other h = unnamed b (eqAid (u .callee) a) (hasTok (u .tok) p) e h
 
-  pub met-has : (r : Bool) (i m : ℕ) → not b ≡ false → i ≡ u .tok .itf → m ≡ u .tok .mth → r ≡ hasTok (record { itf = i; mth = m }) p → r ≡ meets a p u
-  met-has r i m h x y q = named-so b (eqAid (u .callee) a) (hasTok (u .tok) p) r e h (q ∙ (λ k. hasTok (record { itf = x k; mth = y k }) p))
+  pub met-has : (r : Bool) (s : Tok) → not b ≡ false → s ≡ u .tok → r ≡ hasTok s p → r ≡ meets a p u
+  met-has r s h x q = named-so b (eqAid (u .callee) a) (hasTok (u .tok) p) r e h (q ∙ ap (λ (z : Tok). hasTok z p) x)
 
 -- ---- a waiting grant to the package a, of a service that is provided, its caller compared first
 module _ (L : Layout) (t : Tables) (a : Aid) (w : Waiting) (b : Bool) (e : b ≡ eqAid (w .caller) a) where
   pub due-other : not b ≡ true → false ≡ comesDue L t a w
   due-other h = unnamed b (eqAid (w .caller) a) (isSome (serviceOf L t (w .callee) (w .tok))) e h
 
-  pub due-offered : (r : Bool) → not b ≡ false → r ≡ isSome (serviceOf L t (w .callee) (w .tok)) → r ≡ comesDue L t a w
-  due-offered r h q = named-so b (eqAid (w .caller) a) (isSome (serviceOf L t (w .callee) (w .tok))) r e h q
+  pub due-offered : (n k : ℕ) → not b ≡ false → n ≡ L .services → k ≡ serviceNumber L t (w .callee) (w .tok) → ltb k n ≡ comesDue L t a w
+  due-offered n k h d q = named-so b (eqAid (w .caller) a) (isSome (serviceOf L t (w .callee) (w .tok))) (ltb k n) e h
+      (found-below (L .services) n k (serviceOf L t (w .callee) (w .tok)) (service-below L t (w .callee) (w .tok)) d q)
 
 module _ (L : Layout) (t : Tables) where
-  -- ---- a package with the AID a, and a service of package j with the tokens s
-  pub present-is : (a b : Aid) (n i : ℕ) → n ≡ L .packages → i ≡ numberOr (L .packages) (numberOf L t b) → b ≡ a → ltb i n ≡ present L t a
-  present-is a b n i e q z = found-below (L .packages) n i (numberOf L t b) (package-below L t b) e q ∙ ap (present L t) z
+  -- ---- a package with the AID a
+  pub present-is : (a : Aid) (n i : ℕ) → n ≡ L .packages → i ≡ numberOr (L .packages) (numberOf L t a) → ltb i n ≡ present L t a
+  present-is a n i e q = found-below (L .packages) n i (numberOf L t a) (package-below L t a) e q
 
-  pub offered-is : (j : ℕ) (s : Tok) (j′ x y n k : ℕ) → n ≡ L .services → k ≡ numberOr (L .services) (serviceOf L t j′ (record { itf = x; mth = y })) → j′ ≡ j → x ≡ s .itf → y ≡ s .mth
-      → ltb k n ≡ isSome (serviceOf L t j s)
-  offered-is j s j′ x y n k e q u v w =
-      found-below (L .services) n k (serviceOf L t j′ (record { itf = x; mth = y })) (service-below L t j′ (record { itf = x; mth = y })) e q ∙ (λ i. isSome (serviceOf L t (u i) (record { itf = v i; mth = w i })))
-
-  -- ---- a grant of the package a for the unmet call u, its caller compared first: i is the caller of u, and o the AID of the grant
-  module _ (a : Aid) (u : Unmet) (g : Row) (b : Bool) (i : ℕ) (o : Aid) (x : i ≡ u .caller) (y : o ≡ g .aid) (e : b ≡ t .used i && eqAid (t .aid i) o) where
-    abbrev asks : Bool
-    asks = eqAid (u .callee) a && eqTok (u .tok) (g .tok)
-
+  -- ---- a grant g for the unmet call u, its tokens compared first: i is the caller of u, and o the AID of the grant
+  module _ (u : Unmet) (g : Row) (b : Bool) (e : b ≡ eqTok (u .tok) (g .tok)) where
     abbrev calls : Bool
     calls = t .used (u .caller) && eqAid (t .aid (u .caller)) (g .aid)
 
-    calls-is : b ≡ calls
-    calls-is = e ∙ ap₂ (λ (k : ℕ) (z : Aid). t .used k && eqAid (t .aid k) z) x y
+    pub grant-other : not b ≡ true → false ≡ grantFits L t u g
+    grant-other h = unnamed b (eqTok (u .tok) (g .tok)) calls e h
 
-    pub grant-other : not b ≡ true → false ≡ grantFits L t a u g
-    grant-other h = other b asks calls calls-is h
-
-    pub grant-seen : (r : Bool) → not b ≡ false → r ≡ asks → r ≡ grantFits L t a u g
-    grant-seen r h q = alike b r asks calls calls-is h q
+    pub grant-seen : (r : Bool) (i : ℕ) (o : Aid) → not b ≡ false → i ≡ u .caller → o ≡ g .aid → r ≡ t .used i && eqAid (t .aid i) o → r ≡ grantFits L t u g
+    grant-seen r i o h x y q = named-so b (eqTok (u .tok) (g .tok)) calls r e h (q ∙ ap₂ (λ (k : ℕ) (z : Aid). t .used k && eqAid (t .aid k) z) x y)
 
   -- ---- the server of a row
   module _ (r : Row) (n : ℕ) (p : Place) (e : n ≡ L .packages) (q : p ≡ placeOr L (serverOf L t r)) where
@@ -136,23 +126,12 @@ module _ (L : Layout) (t : Tables) where
       pub tally-on : true ≡ callGranted L t w x → unserved x ≡ false → Tally rest u
       tally-on e z = record { granted = still-granted e; counted = count-no unserved u q (h .counted) z; fits = omega (arith, h .fits, q .fewer) }
 
--- ---- a loop that counts those that pass down from the room there is
-one-more : (k m : ℕ) → 0 < m → leb (suc k) m ≡ leb k (m - 1)
-one-more k m h = go (leb k (m - 1)) refl
-  where
-    go : (b : Bool) → leb k (m - 1) ≡ b → leb (suc k) m ≡ b
-    go true e = let z = leb-true k (m - 1) e in le-leb (suc k) m (omega arith)
-    go false e = let z = leb-false k (m - 1) e in lt-leb (suc k) m (omega arith)
+-- ---- a grant that waits, its tokens looked for first
+pub waits-untold : (b x y : Bool) → b ≡ y → not b ≡ true → true ≡ not (x && y)
+waits-untold b x y e h = ap not (other b x y e h)
 
-module _ {A : Type 0} {p : Reader A} {s : List ℕ} {todo rest : Items} (f : A → Bool) {b r : Bool} (n : ℕ) {x : A} (u : Uncons p s todo x rest) (q : r ≡ f x) where
-  pub fit-none : Todo p s todo (λ l. leb (length (keep (λ y. not (f y)) l)) n) b → r ≡ false → n ≡ 0 → false ≡ b
-  fit-none h e z = sym (lt-leb (suc (length (keep (λ y. not (f y)) (itemsIn p s rest)))) n (omega arith)) ∙ rw (sym q ∙ e) at (todo-cons h u)
-
-  pub fit-less : Todo p s todo (λ l. leb (length (keep (λ y. not (f y)) l)) n) b → r ≡ false → (n ≡ 0 → ⊥) → Todo p s rest (λ l. leb (length (keep (λ y. not (f y)) l)) (n - 1)) b
-  fit-less h e z = todo-next h u (λ l. leb (length (keep (λ y. not (f y)) l)) (n - 1)) (rw (sym q ∙ e) (one-more (length (keep (λ y. not (f y)) (itemsIn p s rest))) n (omega arith)))
-
-  pub fit-same : Todo p s todo (λ l. leb (length (keep (λ y. not (f y)) l)) n) b → r ≡ true → Todo p s rest (λ l. leb (length (keep (λ y. not (f y)) l)) n) b
-  fit-same h e = todo-next h u (λ l. leb (length (keep (λ y. not (f y)) l)) n) (rw (sym q ∙ e))
+pub waits-by : (b x y r : Bool) → b ≡ y → not b ≡ false → r ≡ x → not r ≡ not (x && y)
+waits-by b x y r e h q = ap not (alike b r x y e h q)
 
 -- ---- causes 10 and 11
 module _ (L : Layout) (t : Tables) (met due k : ℕ) (p : List Tok) (grants : List Row) (n : ℕ) (e : n ≡ roomAfter L UnmetCalls met t) where
@@ -176,49 +155,49 @@ module _ (L : Layout) (t : Tables) (met due k : ℕ) (p : List Tok) (grants : Li
 abbrev causeOf : Bool → Bool → Bool → Bool → Bool → ℕ
 causeOf g h n u w = cond (not (g && h)) 8 (cond (not n) 9 (cond (not u) 10 (cond (not w) 11 0)))
 
-module _ (L : Layout) (t : Tables) (a : Aid) (p : List Tok) (calls grants needs : List Row) (met due : ℕ) where
+module _ (L : Layout) (t : Tables) (k : Contract) (met due : ℕ) where
   abbrev others : Bool
-  others = othersGranted L t a grants met
+  others = othersGranted L t (k .grants) met
 
   abbrev needed : Bool
-  needed = every (served L t) needs
+  needed = every (served L t) (k .needs)
 
   abbrev room : Bool
-  room = unmetFit L t met (count (λ x. not (served L t x)) calls)
+  room = unmetFit L t met (count (λ x. not (served L t x)) (k .calls))
 
   abbrev wait-room : Bool
-  wait-room = waitingFit L t due p grants
+  wait-room = waitingFit L t due (k .provides) (k .grants)
 
   -- by what its calls come to
-  module _ (r : Called) (come : CallsCome L t due calls r) where
-    pub cause-1 : r ≡ Refused → 8 ≡ loadCause L t a p calls grants needs met due
-    cause-1 q = λ i. causeOf (sym (subst (CallsCome L t due calls) q come) i) others needed room wait-room
+  module _ (r : Called) (come : CallsCome L t due (k .calls) r) where
+    pub cause-1 : r ≡ Refused → 8 ≡ loadCause L t k met due
+    cause-1 q = λ i. causeOf (sym (subst (CallsCome L t due (k .calls)) q come) i) others needed room wait-room
 
-    module _ (k : ℕ) (q1 : r ≡ Granted k) where
-      all-come : CallsCome L t due calls (Granted k)
-      all-come = subst (CallsCome L t due calls) q1 come
+    module _ (n : ℕ) (q1 : r ≡ Granted n) where
+      all-come : CallsCome L t due (k .calls) (Granted n)
+      all-come = subst (CallsCome L t due (k .calls)) q1 come
 
-      on-1 : true ≡ every (callGranted L t due) calls
+      on-1 : true ≡ every (callGranted L t due) (k .calls)
       on-1 = sym (all-come .0)
 
-      pub cause-2 : (b : Bool) → b ≡ others → not b ≡ true → 8 ≡ loadCause L t a p calls grants needs met due
+      pub cause-2 : (b : Bool) → b ≡ others → not b ≡ true → 8 ≡ loadCause L t k met due
       cause-2 b e q = λ i. causeOf (on-1 i) ((sym (not-true b q) ∙ e) i) needed room wait-room
 
       module _ (b : Bool) (e2 : b ≡ others) (q2 : not b ≡ false) where
         on-2 : true ≡ others
         on-2 = sym (not-false b q2) ∙ e2
 
-        pub cause-3 : (d : Bool) → d ≡ needed → not d ≡ true → 9 ≡ loadCause L t a p calls grants needs met due
+        pub cause-3 : (d : Bool) → d ≡ needed → not d ≡ true → 9 ≡ loadCause L t k met due
         cause-3 d e q = λ i. causeOf (on-1 i) (on-2 i) ((sym (not-true d q) ∙ e) i) room wait-room
 
         module _ (d : Bool) (e3 : d ≡ needed) (q3 : not d ≡ false) where
           on-3 : true ≡ needed
           on-3 = sym (not-false d q3) ∙ e3
 
-          pub cause-rest : (x : ℕ) → x ≡ limitCause L t met due k p grants → x ≡ loadCause L t a p calls grants needs met due
+          pub cause-rest : (x : ℕ) → x ≡ limitCause L t met due n (k .provides) (k .grants) → x ≡ loadCause L t k met due
           cause-rest x e = e ∙ (λ i. causeOf (on-1 i) (on-2 i) (on-3 i) (unmetFit L t met (all-come .1 i)) wait-room)
 
-pub ruleset checks = (present-is, offered-is, served-is, other, alike, met-other, met-has, due-other, due-offered, grant-other, grant-seen, not-asking, asking-by, needs)
+pub ruleset checks = (present-is, served-is, waits-untold, waits-by, met-other, met-has, due-other, due-offered, grant-other, grant-seen, not-asking, asking-by, needs)
 
 pub ruleset tallies = (served-off, served-on, granted-off, granted-no, granted-on, tally-stop, tally-off, tally-on, tally-end, needs)
 

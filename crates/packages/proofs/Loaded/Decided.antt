@@ -1,14 +1,13 @@
 -- Kind 1: what the code has found decides the load. Assumes nothing.
-use Prim.Native.Nat.{ℕ, zero, suc, _≤_}
+use Prim.Native.Nat.{ℕ, zero, suc, _≤_, _<_}
 use native.Mathlib.Omega.{arith}
 use mathlib.Core.Path.{_≡_, refl, sym, ap, ap₂, _∙_}
 use mathlib.Core.Bool.{not, cond}
 use mathlib.Core.List.{List}
 use mathlib.Core.Option.{Option, none, some}
 use Rattle.policy.specs.Lists.{isSome, orElse}
-use Rattle.policy.specs.Contract.{Aid, Tok, Row, Contract}
+use Rattle.policy.specs.Contract.{Contract}
 use Rattle.policy.specs.Layout.{Layout}
-use Rattle.policy.specs.Record.{Change, load}
 use Rattle.policy.specs.Causes.{answer}
 use Rattle.policy.specs.Tables.{Tables, decode, encode}
 use Rattle.policy.specs.Lookup.{numberOf, freeNumber}
@@ -17,53 +16,61 @@ use Rattle.policy.specs.ShortCheck.{shortLook}
 use Rattle.policy.specs.Judge.{refusal, tableCauses, lookCauses}
 use Rattle.policy.specs.Settled.{settled}
 use Rattle.policy.proofs.Settled.{settled-refused, settled-short, settled-accepted}
-use Rattle.image.specs.Read.{maskOf}
+use Rattle.image.specs.Read.{numberOr}
+use Rattle.image.proofs.Numbers.{package-none, package-some, free-package-none, free-package-some}
+use borrow.Author.Needs.{needs}
 use Rattle.changes.specs.Asked.{Asked}
-use Rattle.packages.specs.Loads.{meets, comesDue, loadCause, Decides}
+use Rattle.changes.proofs.Verdicts.{asked-laid}
+use Rattle.packages.specs.Loads.{loadCause, loadOf, Found, Decides}
 use Rattle.packages.specs.declared.decide.Decided.{Decided}
 use Rattle.packages.proofs.Loaded.ShortCheck.{cause-same}
 
-module _ (L : Layout) (img : List ℕ) (a : Aid) (p : List Tok) (c g n : List Row) (ask : Asked L img a (load p c g n)) where
+module _ (L : Layout) (img : List ℕ) (k : Contract) (ask : Asked L img (k .aid) (loadOf k)) where
   abbrev t : Tables
   t = decode L img
 
-  abbrev ch : Change
-  ch = load p c g n
-
-  abbrev contract : Contract
-  contract = record { aid = a; provides = p; calls = c; grants = g; needs = n }
-
   -- causes 4 and 7, by what the searches found
-  pub early : (o f : Option ℕ) → numberOf L t a ≡ o → freeNumber L t ≡ f → answer (tableCauses L t a ch) ≡ cond (isSome o) 4 (cond (not (isSome f)) 7 0)
+  pub early : (o f : Option ℕ) → numberOf L (decode L img) (k .aid) ≡ o → freeNumber L (decode L img) ≡ f
+      → answer (tableCauses L (decode L img) (k .aid) (loadOf k)) ≡ cond (isSome o) 4 (cond (not (isSome f)) 7 0)
   early o f e q = λ i. cond (isSome (e i)) 4 (cond (not (isSome (q i))) 7 0)
 
-  refuses : (r : Decided) (k : ℕ) → r .number ≡ suc k → settled L img a ch ≡ refusal (suc k) 255 img → Decides L img a p c g n r
-  refuses r k e h = record { refused = λ z. h ∙ ap (λ (m : ℕ). refusal m 255 img) (sym e); accepted = λ z. absurd (omega arith) }
-
-  pub decides-4 : (r : Decided) (k : ℕ) → r .number ≡ 4 → numberOf L t a ≡ some k → Decides L img a p c g n r
-  decides-4 r k e o = refuses r 3 e (settled-refused L img a ch 3 (early (some k) (freeNumber L t) o refl))
-
-  pub decides-7 : (r : Decided) → r .number ≡ 7 → numberOf L t a ≡ none → freeNumber L t ≡ none → Decides L img a p c g n r
-  decides-7 r e o f = refuses r 6 e (settled-refused L img a ch 6 (early none none o f))
+  refuses : (r : Decided) (m : ℕ) → r .number ≡ suc m → settled L img (k .aid) (loadOf k) ≡ refusal (suc m) 255 img → Decides L img k r
+  refuses r m e h = record { refused = λ z. h ∙ ap (λ (x : ℕ). refusal x 255 img) (sym e); accepted = λ z. absurd (omega arith) }
 
   -- no cause applies
-  accepted-at : (m : ℕ) → numberOf L t a ≡ none → freeNumber L t ≡ some m → answer (lookCauses (shortLook L t a ch)) ≡ 0
-      → settled L img a ch ≡ record { answered = 0; second = m; bytes = encode L (loadAt L t m contract .tables) }
+  accepted-at : (m : ℕ) → numberOf L t (k .aid) ≡ none → freeNumber L t ≡ some m → answer (lookCauses (shortLook L t (k .aid) (loadOf k))) ≡ 0
+      → settled L img (k .aid) (loadOf k) ≡ record { answered = 0; second = m; bytes = encode L (loadAt L t m k .tables) }
   unfolding draft numberFor
   accepted-at m o f e =
-      settled-accepted L img a ch (ask .is-sound) (ask .within) (ask .is-proper) (early none (some m) o f) e
-      ∙ ap₂ (λ (x y : Option ℕ). record { answered = 0; second = orElse x (orElse y 255 (λ k. k)) (λ k. k); bytes = encode L (orElse y (kept t) (λ k. loadAt L t k contract) .tables) }) o f
+      settled-accepted L img (k .aid) (loadOf k) (ask .is-sound) (ask .within) (ask .is-proper) (early none (some m) o f) e
+      ∙ ap₂ (λ (x y : Option ℕ). record { answered = 0; second = orElse x (orElse y 255 (λ z. z)) (λ z. z); bytes = encode L (orElse y (kept t) (λ z. loadAt L t z k) .tables) }) o f
 
-  pub decides-late : L .capacity ≤ 32 → (r : Decided) → numberOf L t a ≡ none → freeNumber L t ≡ some (r .at) → r .met ≡ maskOf (meets a p) (t .unmet) → r .due ≡ maskOf (comesDue L t a) (t .waiting)
-      → r .number ≡ loadCause L t a p c g n (r .met) (r .due) → Decides L img a p c g n r
-  decides-late low r o f e w h = go (r .number) refl
-    where
-      late : r .number ≡ answer (lookCauses (shortLook L t a ch))
-      late = h ∙ ap₂ (λ (x y : ℕ). loadCause L t a p c g n x y) e w ∙ cause-same L img (ask .is-sound) low a p c g n
+  -- old is what the search for the package gave, of n packages, and m the lowest unused number
+  module _ (n old : ℕ) (en : n ≡ L .packages) (eo : old ≡ numberOr (L .packages) (numberOf L (decode L img) (k .aid))) (r : Decided) where
+    pub decides-4 : old < n → r .number ≡ 4 → Decides L img k r
+    decides-4 h e = refuses r 3 e (settled-refused L img (k .aid) (loadOf k) 3 (early (some old) (freeNumber L t) (package-some L t (k .aid) old eo (omega arith)) refl))
 
-      go : (k : ℕ) → r .number ≡ k → Decides L img a p c g n r
-      go zero z = record {
-        refused = λ q. absurd (q z);
-        accepted = λ q. record { outcome = accepted-at (r .at) o f (sym late ∙ z); away = o; free = f; met-is = e; due-is = w };
-      }
-      go (suc k) z = refuses r k z (settled-short L img a ch (ask .is-sound) (ask .within) (ask .is-proper) (early none (some (r .at)) o f) k (sym late ∙ z))
+    module _ (h : n ≤ old) (m : ℕ) (em : m ≡ numberOr (L .packages) (freeNumber L (decode L img))) where
+      away : numberOf L t (k .aid) ≡ none
+      away = package-none L t (k .aid) old eo (omega arith)
+
+      pub decides-7 : n ≤ m → r .number ≡ 7 → Decides L img k r
+      decides-7 g e = refuses r 6 e (settled-refused L img (k .aid) (loadOf k) 6 (early none none away (free-package-none L t m em (omega arith))))
+
+      pub decides-late : L .capacity ≤ 32 → m < n → Found L (decode L img) k m r → Decides L img k r
+      decides-late low g fd = go (r .number) refl
+        where
+          late : r .number ≡ answer (lookCauses (shortLook L t (k .aid) (loadOf k)))
+          late = fd .cause-is ∙ ap₂ (λ (x y : ℕ). loadCause L t k x y) (fd .met-is) (fd .due-is) ∙ cause-same L img (ask .is-sound) low k
+
+          free : freeNumber L t ≡ some (r .at)
+          free = free-package-some L t m em (omega arith) ∙ ap some (sym (fd .at-is))
+
+          go : (x : ℕ) → r .number ≡ x → Decides L img k r
+          go zero z = record {
+            refused = λ q. absurd (q z);
+            accepted = λ q. record { outcome = accepted-at (r .at) away free (sym late ∙ z); away = away; free = free; met-is = fd .met-is; due-is = fd .due-is };
+          }
+          go (suc x) z = refuses r x z (settled-short L img (k .aid) (loadOf k) (ask .is-sound) (ask .within) (ask .is-proper) (early none (some (r .at)) away free) x (sym late ∙ z))
+
+pub ruleset decided = (asked-laid, decides-4, decides-7, decides-late, needs)

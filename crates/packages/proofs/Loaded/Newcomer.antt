@@ -7,9 +7,8 @@ use mathlib.Core.List.{List, []}
 use mathlib.Core.Option.{Option, none, some}
 use lib.Dec.{T}
 use Rattle.policy.specs.Lists.{orElse}
-use Rattle.policy.specs.Contract.{Aid, Tok, Row, Contract}
+use Rattle.policy.specs.Contract.{Contract}
 use Rattle.policy.specs.Layout.{Layout}
-use Rattle.policy.specs.Record.{Change, load}
 use Rattle.policy.specs.Causes.{answer}
 use Rattle.policy.specs.Tables.{Tables, decode}
 use Rattle.policy.specs.Draft.{Draft, Look, put, kept, loadAt, draft}
@@ -25,55 +24,49 @@ use Rattle.policy.proofs.AllKinds.{kinds}
 use Rattle.policy.proofs.Step.{accepted}
 use Rattle.policy.proofs.Settled.{settled-short, accepted-formed}
 use Rattle.changes.specs.Asked.{Asked}
-use Rattle.packages.specs.Loads.{Accepts}
+use Rattle.packages.specs.Loads.{loadOf, Accepts}
 use Rattle.packages.specs.declared.decide.Decided.{Decided}
 use Rattle.packages.proofs.Loaded.Decided.{early}
 
-module _ (L : Layout) (img : List ℕ) (a : Aid) (p : List Tok) (c g n : List Row) (ask : Asked L img a (load p c g n)) (r : Decided) (ok : Accepts L img a p c g n r) where
+module _ (L : Layout) (img : List ℕ) (k : Contract) (ask : Asked L img (k .aid) (loadOf k)) (r : Decided) (ok : Accepts L img k r) where
   abbrev t : Tables
   t = decode L img
-
-  abbrev ch : Change
-  ch = load p c g n
-
-  abbrev contract : Contract
-  contract = record { aid = a; provides = p; calls = c; grants = g; needs = n }
 
   formed : Formed L (decode L img)
   formed = sound-formed L img (ask .is-sound)
 
   -- no cause applies
-  none-early : answer (tableCauses L t a ch) ≡ 0
-  none-early = early L img a p c g n ask none (some (r .at)) (ok .away) (ok .free)
+  none-early : answer (tableCauses L t (k .aid) (loadOf k)) ≡ 0
+  none-early = early L img k ask none (some (r .at)) (ok .away) (ok .free)
 
-  none-late : answer (lookCauses (shortLook L t a ch)) ≡ 0
-  none-late = go (answer (lookCauses (shortLook L t a ch))) refl
+  none-late : answer (lookCauses (shortLook L t (k .aid) (loadOf k))) ≡ 0
+  none-late = go (answer (lookCauses (shortLook L t (k .aid) (loadOf k)))) refl
     where
-      go : (k : ℕ) → answer (lookCauses (shortLook L t a ch)) ≡ k → answer (lookCauses (shortLook L t a ch)) ≡ 0
+      go : (x : ℕ) → answer (lookCauses (shortLook L t (k .aid) (loadOf k))) ≡ x → answer (lookCauses (shortLook L t (k .aid) (loadOf k))) ≡ 0
       go zero e = e
-      go (suc k) e =
-          let q : suc k ≡ 0 = ap (λ (o : Out). o .answered) (sym (settled-short L img a ch (ask .is-sound) (ask .within) (ask .is-proper) none-early k e) ∙ ok .outcome) in
+      go (suc x) e =
+          let q : suc x ≡ 0 = ap (λ (o : Out). o .answered) (sym (settled-short L img (k .aid) (loadOf k) (ask .is-sound) (ask .within) (ask .is-proper) none-early x e) ∙ ok .outcome) in
           absurd (omega (arith, q))
 
-  draft-is : draft L t a ch ≡ loadAt L t (r .at) contract
+  draft-is : draft L t (k .aid) (loadOf k) ≡ loadAt L t (r .at) k
   unfolding draft
-  draft-is = ap (λ (o : Option ℕ). orElse o (kept t) (λ m. loadAt L t m contract)) (ok .free)
+  draft-is = ap (λ (o : Option ℕ). orElse o (kept t) (λ m. loadAt L t m k)) (ok .free)
 
-  pub newcomer-at : Newcomer L (decode L img) (r .at) contract
+  pub newcomer-at : Newcomer L (decode L img) (r .at) k
   newcomer-at =
-      let q = load-reached L t a p c g n (λ (d : Draft) (k : Look). (m : ℕ) × Newcomer L t m contract × (d .tables .used ≡ put m true (t .used)))
+      let q = load-reached L t (k .aid) (k .provides) (k .calls) (k .grants) (k .needs) (λ (d : Draft) (l : Look). (m : ℕ) × Newcomer L t m k × (d .tables .used ≡ put m true (t .used)))
       formed (ask .within .0 .0) (ask .is-proper) (λ m new. (m, new, refl)) none-early in
       let free : FreeIs (L .packages) (t .used) (some (r .at)) = subst (FreeIs (L .packages) (t .used)) (ok .free) (free-number-is L t) in
-      by-number (q .0) (λ (x : ℕ). T (put (q .0) true (t .used) x) → (T (t .used x) → ⊥) → Newcomer L t x contract) (r .at)
+      by-number (q .0) (λ (x : ℕ). T (put (q .0) true (t .used) x) → (T (t .used x) → ⊥) → Newcomer L t x k) (r .at)
       (λ u f. q .1) (λ ne u f. absurd (f (subst T (at-old (q .0) true (t .used (r .at)) (r .at) ne) u)))
       (true-T (ap (λ (f : ℕ → Bool). f (r .at)) (sym (q .2) ∙ ap (λ (d : Draft). d .tables .used) draft-is) ∙ at-new (r .at) true (t .used (r .at)))) (free .1)
 
-  pub load-fits : Fitting L (loadAt L (decode L img) (r .at) contract .tables)
+  pub load-fits : Fitting L (loadAt L (decode L img) (r .at) k .tables)
   load-fits = subst (λ (d : Draft). Fitting L (d .tables)) draft-is
-      (accepted-formed L img a ch (ask .is-sound) (ask .first-valid) (ask .within) (ask .is-proper) none-early none-late .2)
+      (accepted-formed L img (k .aid) (loadOf k) (ask .is-sound) (ask .first-valid) (ask .within) (ask .is-proper) none-early none-late .2)
 
-  pub load-kept : loadAt L (decode L img) (r .at) contract .lost ≡ []
+  pub load-kept : loadAt L (decode L img) (r .at) k .lost ≡ []
   load-kept = subst (λ (d : Draft). d .lost ≡ []) draft-is
-      (accepted L (draft L t a ch) (accepted-formed L img a ch (ask .is-sound) (ask .first-valid) (ask .within) (ask .is-proper) none-early none-late .0)
-      (ap (λ (k : Look). answer (lookCauses k))
-      (kinds ch .1 L t a formed (sound-lawful L img (ask .is-sound)) (sound-fitting L img (ask .is-sound)) (ask .within) (ask .is-proper) none-early) ∙ none-late) .2)
+      (accepted L (draft L t (k .aid) (loadOf k)) (accepted-formed L img (k .aid) (loadOf k) (ask .is-sound) (ask .first-valid) (ask .within) (ask .is-proper) none-early none-late .0)
+      (ap (λ (l : Look). answer (lookCauses l))
+      (kinds (loadOf k) .1 L t (k .aid) formed (sound-lawful L img (ask .is-sound)) (sound-fitting L img (ask .is-sound)) (ask .within) (ask .is-proper) none-early) ∙ none-late) .2)

@@ -13,7 +13,6 @@ use borrow.Author.Tests.{eq-eqb, ne-eqb, leb-true, leb-false, le-leb, lt-leb}
 use Rattle.policy.specs.Lists.{implies, every, exists, keep, from, upto, isSome, orElse}
 use Rattle.policy.specs.Contract.{Aid, eqAid, Tok, eqTok, Row, Contract, hasTok, hasRow}
 use Rattle.policy.specs.Layout.{Layout}
-use Rattle.policy.specs.Record.{load}
 use Rattle.policy.specs.Causes.{answer}
 use Rattle.policy.specs.Tables.{Tables, Waiting, noTok, bit, decode}
 use Rattle.policy.specs.Lookup.{Place, serviceOf, serverOf}
@@ -29,8 +28,9 @@ use Rattle.policy.proofs.SoundFacts.{sound-formed, sound-fitting}
 use Rattle.geometry.specs.declared.Kept.the-variants.{UnmetCalls}
 use Rattle.image.specs.Read.{maskOf, item, unmetRow}
 use Rattle.image.proofs.Masks.{mask-bit, mask-zero, zero-mask, mask-and, mask-count}
-use Rattle.packages.specs.Loads.{meets, bothThere, comesDue, waitsAt, callGranted, grantFits, othersGranted, loadLook, loadCause}
+use Rattle.packages.specs.Loads.{meets, bothThere, comesDue, waitsAt, callGranted, grantFits, othersGranted, loadLook, loadCause, loadOf}
 use Rattle.changes.specs.Own.{served}
+use Rattle.changes.proofs.Gathered.{count-others}
 
 -- ---- a list by the numbers of its elements
 every-rows : {A : Type 0} (d : A) (F : A → Bool) (G : ℕ → Bool) (i : ℕ) (l : List A) → ((r : ℕ) → r < length l → G (i + r) ≡ F (getD l r d)) → every G (from i (length l)) ≡ every F l
@@ -39,18 +39,8 @@ every-rows d F G i (x ∷ l) h =
     ap₂ _&&_ (ap G (sym (add-zero i)) ∙ h 0 (omega arith))
     (every-rows d F G (suc i) l (λ r p. ap G (suc-add i r ∙ sym (add-suc i r)) ∙ h (suc r) (suc-le-suc p)))
 
--- those that pass and those that do not
-keep-parts : {A : Type 0} (f : A → Bool) (l : List A) → length (keep f l) + length (keep (λ x. not (f x)) l) ≡ length l
-keep-parts f [] = refl
-keep-parts f (x ∷ l) = go (f x) (keep-parts f l)
-  where
-    go : (b : Bool) → length (keep f l) + length (keep (λ y. not (f y)) l) ≡ length l
-        → length (cond b (x ∷ keep f l) (keep f l)) + length (cond (not b) (x ∷ keep (λ y. not (f y)) l) (keep (λ y. not (f y)) l)) ≡ suc (length l)
-    go true e = omega arith
-    go false e = omega arith
-
 -- ---- the room of a list after some of its rows go
-room-left : (k cap gone stay len : ℕ) → gone + stay ≡ len → len ≤ cap → leb k (cap + gone - len) ≡ leb (stay + k) cap
+room-left : (k cap gone stay len : ℕ) → stay + gone ≡ len → len ≤ cap → leb k (cap + gone - len) ≡ leb (stay + k) cap
 room-left k cap gone stay len e h = go (leb (stay + k) cap) refl
   where
     go : (b : Bool) → leb (stay + k) cap ≡ b → leb k (cap + gone - len) ≡ b
@@ -61,7 +51,7 @@ list-room : {A : Type 0} (f : A → Bool) (l : List A) (k cap : ℕ) → length 
     → leb k (cap + length (keep (bit (maskOf f l)) (upto 32)) - length l) ≡ leb (length (keep (λ x. not (f x)) l) + k) cap
 list-room f l k cap h low =
     ap (λ (g : ℕ). leb k (cap + g - length l)) (mask-count f l low)
-    ∙ room-left k cap (length (keep f l)) (length (keep (λ x. not (f x)) l)) (length l) (keep-parts f l) h
+    ∙ room-left k cap (length (keep f l)) (length (keep (λ x. not (f x)) l)) (length l) (count-others f l) h
 
 -- ---- the grants that wait
 both-pass : {A : Type 0} (f g : A → Bool) (l : List A) → not (eqb (bitAnd (maskOf f l) (maskOf g l)) 0) ≡ exists (λ x. f x && g x) l
@@ -72,10 +62,8 @@ both-pass f g l = ap (λ (m : ℕ). not (eqb m 0)) (mask-and f g l) ∙ go (exis
     go true e = ap not (ne-eqb (maskOf (λ x. f x && g x) l) 0 (λ z. false-T (zero-mask (λ x. f x && g x) l z) (true-T e)))
 
 -- ---- the grants of the record
-granted-same : (x p u : Bool) (tk ad : Row → Bool) (gs : List Row) → u ≡ true
-    → implies (x && p) (exists (λ g. (x && tk g) && (u && ad g)) gs) ≡ implies (x && p) (exists (λ g. ad g && tk g) gs)
-granted-same false p u tk ad gs e = refl
-granted-same true p u tk ad gs e = ap (λ (f : Row → Bool). implies p (exists f gs)) (λ i g. (ap (λ (z : Bool). tk g && (z && ad g)) e ∙ and-comm (tk g) (ad g)) i)
+granted-same : (x u : Bool) (tk ad : Row → Bool) (gs : List Row) → u ≡ true → implies x (exists (λ g. tk g && (u && ad g)) gs) ≡ implies x (exists (λ g. ad g && tk g) gs)
+granted-same x u tk ad gs e = ap (λ (f : Row → Bool). implies x (exists f gs)) (λ i g. (ap (λ (z : Bool). tk g && (z && ad g)) e ∙ and-comm (tk g) (ad g)) i)
 
 module _ (L : Layout) (t : Tables) (f : Formed L t) (fit : Fitting L t) (low : L .capacity ≤ 32) (c : Contract) where
   abbrev met : ℕ
@@ -132,22 +120,22 @@ module _ (L : Layout) (t : Tables) (f : Formed L t) (fit : Fitting L t) (low : L
       one r none h = refl
       one r (some p) h = waits-same r p h
 
-  others-same : othersGranted L t (c .aid) (c .grants) met ≡ othersRights L t c
+  others-same : othersGranted L t (c .grants) met ≡ othersRights L t c
   others-same =
       every-rows (item UnmetCalls [] noTok 0) (λ u. implies (meets (c .aid) (c .provides) u) (hasRow (record { aid = t .aid (u .caller); tok = u .tok }) (c .grants)))
-      (λ r. implies (bit met r) (exists (grantFits L t (c .aid) (unmetRow t r)) (c .grants))) 0 (t .unmet) (λ r h. at r h)
+      (λ r. implies (bit met r) (exists (grantFits L t (unmetRow t r)) (c .grants))) 0 (t .unmet) (λ r h. at r h)
     where
       at : (r : ℕ) → r < length (t .unmet)
-          → implies (bit met (0 + r)) (exists (grantFits L t (c .aid) (unmetRow t (0 + r))) (c .grants))
+          → implies (bit met (0 + r)) (exists (grantFits L t (unmetRow t (0 + r))) (c .grants))
           ≡ implies (meets (c .aid) (c .provides) (unmetRow t r)) (hasRow (record { aid = t .aid (unmetRow t r .caller); tok = unmetRow t r .tok }) (c .grants))
       at r h =
           let u = unmetRow t r in
-          ap (λ (k : ℕ). implies (bit met k) (exists (grantFits L t (c .aid) (unmetRow t k)) (c .grants))) (zero-add r)
-          ∙ ap (λ (b : Bool). implies b (exists (grantFits L t (c .aid) u) (c .grants))) (mask-bit (meets (c .aid) (c .provides)) (t .unmet) r _ h)
-          ∙ granted-same (eqAid (u .callee) (c .aid)) (hasTok (u .tok) (c .provides)) (t .used (u .caller)) (λ g. eqTok (u .tok) (g .tok)) (λ g. eqAid (t .aid (u .caller)) (g .aid)) (c .grants)
+          ap (λ (k : ℕ). implies (bit met k) (exists (grantFits L t (unmetRow t k)) (c .grants))) (zero-add r)
+          ∙ ap (λ (b : Bool). implies b (exists (grantFits L t u) (c .grants))) (mask-bit (meets (c .aid) (c .provides)) (t .unmet) r _ h)
+          ∙ granted-same (meets (c .aid) (c .provides) u) (t .used (u .caller)) (λ g. eqTok (u .tok) (g .tok)) (λ g. eqAid (t .aid (u .caller)) (g .aid)) (c .grants)
           (T-true (t .used (u .caller)) (f .unmet .off .off-used u (in-row (t .unmet) r _ h)))
 
-  look-same : loadLook L t (c .aid) (c .provides) (c .calls) (c .grants) (c .needs) met due ≡ shortLoad L t c
+  look-same : loadLook L t c met due ≡ shortLoad L t c
   look-same =
       let u = fit .unmet-fits in
       let w = fit .waiting-fits in
@@ -156,9 +144,8 @@ module _ (L : Layout) (t : Tables) (f : Formed L t) (fit : Fitting L t) (low : L
       λ i. record { granted = rights-same i && others-same i; needed = every (served L t) (c .needs); unmetFits = e i; waitingFits = q i }
 
 -- causes 8 to 11 by masks are those of the short check
-pub cause-same : (L : Layout) (img : List ℕ) → T (sound L img) → L .capacity ≤ 32 → (a : Aid) (p : List Tok) (c g n : List Row)
-    → loadCause L (decode L img) a p c g n (maskOf (meets a p) (decode L img .unmet)) (maskOf (comesDue L (decode L img) a) (decode L img .waiting)) ≡ answer (lookCauses (shortLook L (decode L img) a (load p c g n)))
+pub cause-same : (L : Layout) (img : List ℕ) → T (sound L img) → L .capacity ≤ 32 → (k : Contract)
+    → loadCause L (decode L img) k (maskOf (meets (k .aid) (k .provides)) (decode L img .unmet)) (maskOf (comesDue L (decode L img) (k .aid)) (decode L img .waiting))
+    ≡ answer (lookCauses (shortLook L (decode L img) (k .aid) (loadOf k)))
 unfolding shortLook
-cause-same L img ok low a p c g n =
-    ap (λ (k : Look). answer (lookCauses k))
-    (look-same L (decode L img) (sound-formed L img ok) (sound-fitting L img ok) low (record { aid = a; provides = p; calls = c; grants = g; needs = n }))
+cause-same L img ok low k = ap (λ (l : Look). answer (lookCauses l)) (look-same L (decode L img) (sound-formed L img ok) (sound-fitting L img ok) low k)

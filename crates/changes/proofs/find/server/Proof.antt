@@ -19,7 +19,7 @@ find-server-requires c κs = search needs
 returns : tie.Need-returns
 returns c =
     let x = c .before .before .before .before .args in
-    c .find-server .ensures ∙ ap (λ (z : Aid). placeOr (layoutOf (x .c)) (serverOf (layoutOf (x .c)) (decode (layoutOf (x .c)) (now (x .img))) (asked z (x .t .interface) (x .t .method)))) (c .before .aid-bytes .ensures)
+    c .find-server .ensures ∙ ap (λ (z : Aid). placeOr (layoutOf (x .c)) (serverOf (layoutOf (x .c)) (decode (layoutOf (x .c)) (now (x .img))) (asked z (x .r .tokens)))) (c .before .aid-bytes .ensures)
 
 pub server-spec : {M : Type 1} → statement M
 server-spec =

@@ -24,11 +24,8 @@ has-row-requires c κs = let s = c .before in omega (arith, list-low (s .args .c
 number-requires : tie.Need-number-requires
 number-requires c κs = search needs
 
-interface-requires : tie.Need-interface-requires
-interface-requires c κs = search needs
-
-method-requires : tie.Need-method-requires
-method-requires c κs = search needs
+tokens-requires : tie.Need-tokens-requires
+tokens-requires c κs = search needs
 
 find-service-requires : tie.Need-find-service-requires
 find-service-requires c κs = search needs
@@ -37,8 +34,7 @@ set-bit-requires : tie.Need-set-bit-requires
 set-bit-requires c κs =
     let k = c .before in
     let m = k .before .before in
-    let f = m .before .before in
-    let i = f .before .before in
+    let i = m .before .before in
     let b = i .before .before in
     let s = b .before .before .before in
     let x = s .args in
@@ -49,7 +45,7 @@ set-bit-requires c κs =
       (
         omega (arith, i .number .ensures, s .pre .1 .1 .0 .0),
         s .pre .1 .1 .0 .1,
-        service-in L t (x .n) (r .tok) _ (number-read L t (x .n) (r .tok) _ _ _ _ (k .find-service .ensures) refl (f .interface .ensures) (m .method .ensures))
+        service-in L t (x .n) (r .tok) _ (number-read L t (x .n) (r .tok) _ _ _ (k .find-service .ensures) refl (m .tokens .ensures))
             (s .pre .1 .1 .1 (true-T (sym (b .before .has-row .ensures) ∙ b .if1 .taken))),
       ),
     )
@@ -61,15 +57,14 @@ returns : tie.Need-returns
 returns c =
     let k = c .before .before .before .before in
     let m = k .before .before in
-    let f = m .before .before in
-    let i = f .before .before in
+    let i = m .before .before in
     let b = i .before .before in
     let x = b .before .before .before .args in
     let L = layoutOf (x .c) in
     let t = decode L (now (x .img)) in
     let r = unmetRow t (x .r) in
     is-listed L (λ (g : ℕ → ℕ → ℕ → Bool). withCalls g (t .unmet) t) (t .calls) (r .caller) (x .n) (serviceNumber L t (x .n) (r .tok)) _ (b .before .has-row .ensures) _ _ _ (b .if1 .taken)
-    (i .number .ensures) refl (number-read L t (x .n) (r .tok) _ _ _ _ (k .find-service .ensures) refl (f .interface .ensures) (m .method .ensures)) (c .before .before .set-bit .ensures)
+    (i .number .ensures) refl (number-read L t (x .n) (r .tok) _ _ _ (k .find-service .ensures) refl (m .tokens .ensures)) (c .before .before .set-bit .ensures)
 
 returns-2 : tie.Need-returns-2
 returns-2 c =
@@ -87,8 +82,7 @@ meet-row-spec =
     (tie.spec
     has-row-requires
     number-requires
-    interface-requires
-    method-requires
+    tokens-requires
     find-service-requires
     set-bit-requires
     same-length

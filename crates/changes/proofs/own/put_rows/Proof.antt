@@ -9,7 +9,7 @@ grant-all-requires c κs =
     let d = c .before .before .before in
     let s = d .before .before .before .before in
     let fit = s .pre .1 .1 in
-    (d .call-all .ensures .laid, (s .pre .1 .0 .1, (fit .package-in, own-grants _ _ _ _ _ _ fit (d .call-all .ensures))))
+    (d .call-all .ensures .laid, (s .pre .1 .0 .2, (fit .package-in, own-grants _ _ _ _ _ _ fit (d .call-all .ensures))))
 
 need-all-requires : tie.Need-need-all-requires
 need-all-requires c κs =
@@ -17,7 +17,7 @@ need-all-requires c κs =
     let d = g .before .before .before .before in
     let s = d .before .before .before .before in
     let fit = s .pre .1 .1 in
-    (g .grant-all .ensures .laid, (s .pre .1 .0 .2, (fit .package-in, own-needs _ _ _ _ _ _ fit (d .call-all .ensures) (g .grant-all .ensures))))
+    (g .grant-all .ensures .laid, (s .pre .1 .0 .3, (fit .package-in, own-needs _ _ _ _ _ _ fit (d .call-all .ensures) (g .grant-all .ensures))))
 
 returns : tie.Need-returns
 returns c =

@@ -1,7 +1,7 @@
 -- `changes::service::open_service` meets its contract. Assumes nothing.
 use borrow.Author.Needs.{needs}
 use Rattle.geometry.proofs.Bounds.{service-lt}
-use Rattle.image.specs.Read.{tokens}
+use Rattle.geometry.specs.Geometry.{tokOf}
 use Rattle.changes.proofs.OpenedService.{open-fits, open-wrote}
 use Rattle.changes.proofs.service.open_service.Statement.{statement}
 use Rattle.changes.proofs.service.open_service.Tie as tie
@@ -21,7 +21,7 @@ set-provided-requires c κs =
     let w = r .before .before .before .before in
     let s = w .before .before .before in
     let a = s .args in
-    let fits = open-fits (a .c) (s .pre .0) (a .j) (a .k) (s .pre .1 .1) (tokens (a .interface) (a .method)) (w .put-tok .ensures) _ _ (r .provided-row .ensures) (c .before .with-bit .ensures) in
+    let fits = open-fits (a .c) (s .pre .0) (a .j) (a .k) (s .pre .1 .1) (tokOf (a .t)) (w .put-tok .ensures) _ _ (r .provided-row .ensures) (c .before .with-bit .ensures) in
     (w .put-tok .ensures .laid, (s .pre .1 .0, fits))
 
 same-length : tie.Need-same-length
@@ -34,7 +34,7 @@ returns c =
     let w = r .before .before .before .before in
     let s = w .before .before .before in
     let a = s .args in
-    open-wrote (a .c) (s .pre .0) (a .j) (a .k) (s .pre .1 .1) (tokens (a .interface) (a .method)) (w .put-tok .ensures) _ _ (r .provided-row .ensures) (v .with-bit .ensures)
+    open-wrote (a .c) (s .pre .0) (a .j) (a .k) (s .pre .1 .1) (tokOf (a .t)) (w .put-tok .ensures) _ _ (r .provided-row .ensures) (v .with-bit .ensures)
     (c .before .before .set-provided .ensures)
 
 pub open-service-spec : {M : Type 1} → statement M

@@ -1,5 +1,5 @@
 -- `links::plan::row_mask` meets its contract.
-use Rattle.links.proofs.Spots.{spots}
+use Rattle.links.proofs.Found.{spots}
 use Rattle.links.proofs.plan.row_mask.Statement.{statement}
 use Rattle.links.proofs.plan.row_mask.Tie as tie
 

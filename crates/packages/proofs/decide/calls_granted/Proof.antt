@@ -32,10 +32,10 @@ server-requires : tie.Need-server-requires Inv-loop μ-loop
 server-requires c κs = search tallies
 
 add-unserved : tie.Need-add-unserved Inv-loop μ-loop
-add-unserved c = omega (arith, c .before .before .before .before .before .before .before .before .before .loop .inv .fits, c .before .before .before .before .before .before .before .if1 .taken)
+add-unserved c = omega (arith, c .before .before .before .before .before .before .before .loop .inv .fits, c .before .before .before .before .before .if1 .taken)
 
 loop-less : tie.Need-loop-less Inv-loop μ-loop
-loop-less c = omega (arith, c .before .before .before .before .before .before .take-row .ensures .split .fewer)
+loop-less c = omega (arith, c .before .before .before .before .take-row .ensures .split .fewer)
 
 loop-again : tie.Need-loop-again Inv-loop μ-loop
 loop-again c = search tallies
@@ -47,7 +47,7 @@ returns : tie.Need-returns Inv-loop μ-loop
 returns c = search tallies
 
 loop-less-2 : tie.Need-loop-less-2 Inv-loop μ-loop
-loop-less-2 c = omega (arith, c .before .before .before .before .before .before .before .before .take-row .ensures .split .fewer)
+loop-less-2 c = omega (arith, c .before .before .before .before .before .before .take-row .ensures .split .fewer)
 
 loop-again-2 : tie.Need-loop-again-2 Inv-loop μ-loop
 loop-again-2 c = search tallies

@@ -1,25 +1,7 @@
--- `packages::decide::is_present` meets its contract.
+-- `packages::decide::is_present` meets its contract. Assumes nothing.
 use Rattle.packages.proofs.Loaded.Checks.{checks}
 use Rattle.packages.proofs.decide.is_present.Statement.{statement}
 use Rattle.packages.proofs.decide.is_present.Tie as tie
 
-packages-requires : tie.Need-packages-requires
-packages-requires c κs = search checks
-
-aid-bytes-requires : tie.Need-aid-bytes-requires
-aid-bytes-requires c κs = search checks
-
-find-package-requires : tie.Need-find-package-requires
-find-package-requires c κs = search checks
-
-returns : tie.Need-returns
-returns c = search checks
-
 pub is-present-spec : {M : Type 1} → statement M
-is-present-spec =
-    tie.close
-    (tie.spec
-    packages-requires
-    aid-bytes-requires
-    find-package-requires
-    returns)
+is-present-spec = tie.close (tie.spec (λ c κs. search checks) (λ c κs. search checks) (λ c. search checks))

@@ -9,8 +9,8 @@ use Rattle.packages.proofs.decide.named_granted.Tie as tie
 
 has-row-requires : tie.Need-has-row-requires
 has-row-requires c κs =
-    let x = c .before .before .before .args in
-    omega (arith, list-low (x .c) (now (x .img)) (c .before .before .before .pre .0) UnmetCalls, c .before .before .before .pre .1 .0)
+    let x = c .before .before .args in
+    omega (arith, list-low (x .c) (now (x .img)) (c .before .before .pre .0) UnmetCalls, c .before .before .pre .1 .0)
 
 returns : tie.Need-returns
 returns c = search checks

@@ -26,13 +26,13 @@ is-served-requires : tie.Need-is-served-requires Inv-loop μ-loop
 is-served-requires c κs = search needs
 
 loop-less : tie.Need-loop-less Inv-loop μ-loop
-loop-less c = omega (arith, c .before .before .before .before .before .take-row .ensures .split .fewer)
+loop-less c = omega (arith, c .before .before .before .take-row .ensures .split .fewer)
 
 loop-again : tie.Need-loop-again Inv-loop μ-loop
-loop-again c = every-next _ (c .before .before .before .before .before .take-row .ensures .split) (c .before .before .is-served .ensures) (c .before .before .before .before .before .before .before .before .loop .inv) (c .before .if2 .taken)
+loop-again c = every-next _ (c .before .before .before .take-row .ensures .split) (c .before .before .is-served .ensures) (c .before .before .before .before .before .before .loop .inv) (c .before .if2 .taken)
 
 returns : tie.Need-returns Inv-loop μ-loop
-returns c = every-stop _ (c .before .before .before .before .take-row .ensures .split) (c .before .is-served .ensures) (c .before .before .before .before .before .before .before .loop .inv) (c .if2 .left)
+returns c = every-stop _ (c .before .before .take-row .ensures .split) (c .before .is-served .ensures) (c .before .before .before .before .before .loop .inv) (c .if2 .left)
 
 returns-2 : tie.Need-returns-2 Inv-loop μ-loop
 returns-2 c = todo-end (c .before .before .loop .inv) (c .if1 .left)

@@ -19,23 +19,23 @@ use Rattle.packages.proofs.decide.others_granted.Statement.{statement}
 use Rattle.packages.proofs.decide.others_granted.Tie as tie
 
 abbrev Inv-loop : tie.InvT-loop
-Inv-loop img c aid rec grants met n r₀ r =
-    (r ≤ n) × (every (λ k. implies (bit met k) (exists (grantFits (layoutOf c) (decode (layoutOf c) img) aid (unmetRow (decode (layoutOf c) img) k)) (itemsIn aRow rec grants))) (upto r) ≡ true)
+Inv-loop img c rec grants met n r₀ r =
+    (r ≤ n) × (every (λ k. implies (bit met k) (exists (grantFits (layoutOf c) (decode (layoutOf c) img) (unmetRow (decode (layoutOf c) img) k)) (itemsIn aRow rec grants))) (upto r) ≡ true)
 
 abbrev μ-loop : tie.MeasureT-loop
-μ-loop img c aid rec grants met n r₀ r = n - r
+μ-loop img c rec grants met n r₀ r = n - r
 
 count-requires : tie.Need-count-requires Inv-loop μ-loop
-count-requires c κs = sound-laid _ (c .before .before .before .pre .0)
+count-requires c κs = sound-laid _ (c .before .before .pre .0)
 
 loop-holds : tie.Need-loop-holds Inv-loop μ-loop
 loop-holds c = search early
 
 named-granted-requires : tie.Need-named-granted-requires Inv-loop μ-loop
 named-granted-requires c κs =
-    let x = c .before .before .before .before .before .before .args in
+    let x = c .before .before .before .before .before .args in
     let q : c .before .loop .r < length (decode (layoutOf (x .c)) (now (x .img)) .unmet) = omega (arith, c .loop-test .taken, c .before .before .count .ensures) in
-    (sound-laid (layoutOf (x .c)) (c .before .before .before .before .before .before .pre .0), (q, (caller-in (layoutOf (x .c)) (now (x .img)) (c .before .loop .r) (c .before .before .before .before .before .before .pre .0) q, c .before .before .before .before .before .before .pre .1)))
+    (sound-laid (layoutOf (x .c)) (c .before .before .before .before .before .pre .0), (q, (caller-in (layoutOf (x .c)) (now (x .img)) (c .before .loop .r) (c .before .before .before .before .before .pre .0) q, c .before .before .before .before .before .pre .1)))
 
 returns : tie.Need-returns Inv-loop μ-loop
 returns c = search early

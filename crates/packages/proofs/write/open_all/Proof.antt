@@ -28,22 +28,22 @@ take-tokens-requires c κs = (c .before .before .loop .inv .0 .left .stands, c .
 
 open-service-requires : tie.Need-open-service-requires Inv-loop μ-loop
 open-service-requires c κs =
-    let l = c .before .before .before .before .before in
+    let l = c .before .before .before .before in
     let g = l .loop .inv .0 in
-    (g .laid, (l .before .before .before .pre .1 .1 .0, omega (arith, opening-fits _ _ _ _ g (c .before .before .take-tokens .ensures))))
+    (g .laid, (l .before .before .before .pre .1 .1 .0, omega (arith, opening-fits _ _ _ _ g (c .before .take-tokens .ensures))))
 
 add-k : tie.Need-add-k Inv-loop μ-loop
 add-k c =
-    let s = c .before .before .before .before .before .before in
+    let s = c .before .before .before .before .before in
     let l = s .before .before .before in
     omega (arith, opening-fits _ _ _ _ (l .loop .inv .0) (s .take-tokens .ensures), limits (l .before .before .before .args .c))
 
 loop-less : tie.Need-loop-less Inv-loop μ-loop
-loop-less c = omega (arith, c .before .before .before .before .before .before .take-tokens .ensures .fewer)
+loop-less c = omega (arith, c .before .before .before .before .before .take-tokens .ensures .fewer)
 
 loop-again : tie.Need-loop-again Inv-loop μ-loop
 loop-again c =
-    let s = c .before .before .before .before .before .before in
+    let s = c .before .before .before .before .before in
     (opening-next _ _ _ _ (s .before .before .before .loop .inv .0) (s .take-tokens .ensures) (c .before .before .before .open-service .ensures), search needs)
 
 same-length : tie.Need-same-length Inv-loop μ-loop

@@ -31,23 +31,23 @@ take-aid-requires : tie.Need-take-aid-requires Inv-loop μ-loop
 take-aid-requires c κs = (c .before .before .loop .inv .stands, c .if1 .taken)
 
 is-lone-requires : tie.Need-is-lone-requires Inv-loop μ-loop
-is-lone-requires c κs = (c .before .before .before .before .before .before .before .pre .0, c .before .take-aid .ensures .fits)
+is-lone-requires c κs = (c .before .before .before .before .before .before .pre .0, c .take-aid .ensures .fits)
 
 cast-new : tie.Need-cast-new Inv-loop μ-loop
 cast-new c = search needs
 
 returns : tie.Need-returns Inv-loop μ-loop
 returns c =
-    let d = c .before .before .before in
+    let d = c .before .before in
     let l = d .before .before .before .loop in
     room-stop _ (l .left) (d .take-aid .ensures .split) (c .before .is-lone .ensures) (l .inv) (c .if2 .taken)
 
 loop-less : tie.Need-loop-less Inv-loop μ-loop
-loop-less c = omega (arith, c .before .before .before .before .take-aid .ensures .split .fewer)
+loop-less c = omega (arith, c .before .before .before .take-aid .ensures .split .fewer)
 
 loop-again : tie.Need-loop-again Inv-loop μ-loop
 loop-again c =
-    let d = c .before .before .before .before in
+    let d = c .before .before .before in
     let l = d .before .before .before .loop in
     room-next _ (l .left) (d .take-aid .ensures .split) (c .before .before .is-lone .ensures) (l .inv) (c .before .if2 .left)
 

@@ -3,8 +3,7 @@ use native.Mathlib.Omega.{arith}
 use denote.Ref.{now}
 use borrow.Author.Needs.{needs}
 use Rattle.policy.specs.Tables.{decode}
-use Rattle.geometry.specs.Geometry.{layoutOf}
-use Rattle.image.specs.Read.{tokens}
+use Rattle.geometry.specs.Geometry.{layoutOf, tokOf}
 use Rattle.record.specs.Meaning.{aidIn}
 use Rattle.services.proofs.Added.Grants.{grant-bit, grant-waits, grant-lone}
 use Rattle.services.proofs.adding.grant.Statement.{statement}
@@ -29,7 +28,7 @@ returns c =
     let f = c .before .before .before .before .before in
     let a = f .before .before .before .before .before .args in
     let L = layoutOf (a .c) in
-    grant-bit L (decode L (now (a .img))) (a .mask) (a .j) (a .k) (tokens (a .interface) (a .method)) (aidIn (now (a .rec)) (a .a)) _ _ (f .before .before .packages .ensures) (f .find-caller .ensures)
+    grant-bit L (decode L (now (a .img))) (a .mask) (a .j) (a .k) (tokOf (a .t)) (aidIn (now (a .rec)) (a .a)) _ _ (f .before .before .packages .ensures) (f .find-caller .ensures)
     (c .before .before .before .before .if1 .taken) (c .before .before .set-bit .ensures)
 
 wait-requires : tie.Need-wait-requires
@@ -38,7 +37,7 @@ wait-requires c κs =
     let s = f .before .before .before .before .before in
     let a = s .args in
     let L = layoutOf (a .c) in
-    let lone = grant-lone L (decode L (now (a .img))) (a .mask) (a .j) (a .k) (tokens (a .interface) (a .method)) (aidIn (now (a .rec)) (a .a)) _ _ (f .before .before .packages .ensures) (f .find-caller .ensures) (c .before .if1 .left) in
+    let lone = grant-lone L (decode L (now (a .img))) (a .mask) (a .j) (a .k) (tokOf (a .t)) (aidIn (now (a .rec)) (a .a)) _ _ (f .before .before .packages .ensures) (f .find-caller .ensures) (c .before .if1 .left) in
     (s .pre .0, (s .pre .1 .0, (s .pre .1 .1 .0 .0, λ e. s .pre .1 .1 .1 (lone e))))
 
 same-length-2 : tie.Need-same-length-2
@@ -49,7 +48,7 @@ returns-2 c =
     let f = c .before .before .before .before .before in
     let a = f .before .before .before .before .before .args in
     let L = layoutOf (a .c) in
-    grant-waits L (decode L (now (a .img))) (a .mask) (a .j) (a .k) (tokens (a .interface) (a .method)) (aidIn (now (a .rec)) (a .a)) _ _ (f .before .before .packages .ensures) (f .find-caller .ensures)
+    grant-waits L (decode L (now (a .img))) (a .mask) (a .j) (a .k) (tokOf (a .t)) (aidIn (now (a .rec)) (a .a)) _ _ (f .before .before .packages .ensures) (f .find-caller .ensures)
     (c .before .before .before .before .if1 .left) (c .before .before .wait .ensures)
 
 pub grant-spec : {M : Type 1} → statement M

@@ -23,20 +23,20 @@ take-aid-requires c κs = (c .before .before .loop .inv .stands, c .if1 .taken)
 
 is-caller-requires : tie.Need-is-caller-requires Inv-loop μ-loop
 is-caller-requires c κs =
-    let s = c .before .before .before .before .before .before .before in
-    (s .pre .0, (s .pre .1 .0, c .before .take-aid .ensures .fits))
+    let s = c .before .before .before .before .before .before in
+    (s .pre .0, (s .pre .1 .0, c .take-aid .ensures .fits))
 
 returns : tie.Need-returns Inv-loop μ-loop
 returns c =
-    let d = c .before .before .before in
+    let d = c .before .before in
     exists-stop _ (d .take-aid .ensures .split) (c .before .is-caller .ensures) (d .before .before .before .loop .inv) (c .if2 .taken)
 
 loop-less : tie.Need-loop-less Inv-loop μ-loop
-loop-less c = omega (arith, c .before .before .before .before .take-aid .ensures .split .fewer)
+loop-less c = omega (arith, c .before .before .before .take-aid .ensures .split .fewer)
 
 loop-again : tie.Need-loop-again Inv-loop μ-loop
 loop-again c =
-    let d = c .before .before .before .before in
+    let d = c .before .before .before in
     exists-next _ (d .take-aid .ensures .split) (c .before .before .is-caller .ensures) (d .before .before .before .loop .inv) (c .before .if2 .left)
 
 returns-2 : tie.Need-returns-2 Inv-loop μ-loop

@@ -2,9 +2,8 @@
 use denote.Ref.{now}
 use borrow.Author.Needs.{needs}
 use Rattle.policy.specs.Record.{aid}
-use Rattle.geometry.specs.Geometry.{layoutOf}
+use Rattle.geometry.specs.Geometry.{layoutOf, tokOf}
 use Rattle.geometry.specs.declared.Kept.the-variants.{WaitingGrants}
-use Rattle.image.specs.Read.{tokens}
 use Rattle.image.proofs.Laid.{sound-laid}
 use Rattle.image.proofs.Listed.{list-low}
 use Rattle.record.specs.Meaning.{itemsIn}
@@ -23,7 +22,7 @@ due-rows-requires : tie.Need-due-rows-requires
 due-rows-requires c κs =
     let s = c .before .before .before .before .before in
     let a = s .args in
-    (sound-laid (layoutOf (a .c)) (s .pre .0), record { by = ofService (a .j) (tokens (a .interface) (a .method)); is = c .with-service .ensures })
+    (sound-laid (layoutOf (a .c)) (s .pre .0), record { by = ofService (a .j) (tokOf (a .t)); is = c .with-service .ensures })
 
 all-granted-requires : tie.Need-all-granted-requires
 all-granted-requires c κs = search needs
@@ -35,7 +34,7 @@ returns c =
     let m = g .before in
     let s = m .before .before .before .before in
     let a = s .args in
-    lists-ungranted (layoutOf (a .c)) (now (a .img)) (s .pre .0) (a .j) (a .k) (tokens (a .interface) (a .method)) (itemsIn aid (now (a .rec)) (a .callers)) _ _ _ _ (s .pre .1 .1) (m .with-row .ensures) (g .with-service .ensures)
+    lists-ungranted (layoutOf (a .c)) (now (a .img)) (s .pre .0) (a .j) (a .k) (tokOf (a .t)) (itemsIn aid (now (a .rec)) (a .callers)) _ _ _ _ (s .pre .1 .1) (m .with-row .ensures) (g .with-service .ensures)
     (d .due-rows .ensures) _ (c .before .all-granted .ensures) (c .if1 .taken)
 
 room-after-requires : tie.Need-room-after-requires
@@ -53,7 +52,7 @@ returns-2 c =
     let m = g .before in
     let s = m .before .before .before .before in
     let a = s .args in
-    lists-crowded (layoutOf (a .c)) (now (a .img)) (s .pre .0) (a .j) (a .k) (tokens (a .interface) (a .method)) (itemsIn aid (now (a .rec)) (a .callers)) _ _ _ _ (s .pre .1 .1) (m .with-row .ensures) (g .with-service .ensures)
+    lists-crowded (layoutOf (a .c)) (now (a .img)) (s .pre .0) (a .j) (a .k) (tokOf (a .t)) (itemsIn aid (now (a .rec)) (a .callers)) _ _ _ _ (s .pre .1 .1) (m .with-row .ensures) (g .with-service .ensures)
     (d .due-rows .ensures) _ (b .all-granted .ensures) (r .before .if1 .left) _ (r .room-after .ensures) (list-low (a .c) (now (a .img)) (sound-laid (layoutOf (a .c)) (s .pre .0)) WaitingGrants) _ (c .before .callers-fit .ensures) (c .if2 .taken)
 
 returns-3 : tie.Need-returns-3
@@ -65,7 +64,7 @@ returns-3 c =
     let m = g .before in
     let s = m .before .before .before .before in
     let a = s .args in
-    lists-add (layoutOf (a .c)) (now (a .img)) (s .pre .0) (a .j) (a .k) (tokens (a .interface) (a .method)) (itemsIn aid (now (a .rec)) (a .callers)) _ _ _ _ (s .pre .1 .1) (m .with-row .ensures) (g .with-service .ensures)
+    lists-add (layoutOf (a .c)) (now (a .img)) (s .pre .0) (a .j) (a .k) (tokOf (a .t)) (itemsIn aid (now (a .rec)) (a .callers)) _ _ _ _ (s .pre .1 .1) (m .with-row .ensures) (g .with-service .ensures)
     (d .due-rows .ensures) _ (b .all-granted .ensures) (r .before .if1 .left) _ (r .room-after .ensures) (list-low (a .c) (now (a .img)) (sound-laid (layoutOf (a .c)) (s .pre .0)) WaitingGrants) _ (c .before .callers-fit .ensures) (c .if2 .left)
 
 pub plan-lists-spec : {M : Type 1} → statement M

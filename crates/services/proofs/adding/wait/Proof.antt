@@ -3,8 +3,7 @@ use mathlib.Core.Path.{sym, _∙_}
 use denote.Ref.{now}
 use borrow.Author.Needs.{needs}
 use Rattle.policy.specs.Tables.{decode}
-use Rattle.geometry.specs.Geometry.{layoutOf}
-use Rattle.image.specs.Read.{tokens}
+use Rattle.geometry.specs.Geometry.{layoutOf, tokOf}
 use Rattle.record.specs.Meaning.{aidIn}
 use Rattle.changes.proofs.ItemLoops.{aid-short}
 use Rattle.services.proofs.Added.Grants.{waits-already, waits-now}
@@ -21,7 +20,7 @@ returns : tie.Need-returns
 returns c =
     let s = c .before .before .before .before .before in
     let a = s .args in
-    waits-already (layoutOf (a .c)) (a .mask) (a .j) (tokens (a .interface) (a .method)) (aidIn (now (a .rec)) (a .a)) _ (c .before .waits .ensures) (c .if1 .taken) (s .pre .0)
+    waits-already (layoutOf (a .c)) (a .mask) (a .j) (tokOf (a .t)) (aidIn (now (a .rec)) (a .a)) _ (c .before .waits .ensures) (c .if1 .taken) (s .pre .0)
 
 aid-bytes-requires : tie.Need-aid-bytes-requires
 aid-bytes-requires c κs = search needs
@@ -41,7 +40,7 @@ returns-2 c =
     let w = c .before .before .before .before .before .before in
     let a = w .before .before .before .before .args in
     let L = layoutOf (a .c) in
-    waits-now L (a .mask) (a .j) (tokens (a .interface) (a .method)) (aidIn (now (a .rec)) (a .a)) _ (decode L (now (a .img))) _ (w .waits .ensures) (c .before .before .before .before .before .if1 .left)
+    waits-now L (a .mask) (a .j) (tokOf (a .t)) (aidIn (now (a .rec)) (a .a)) _ (decode L (now (a .img))) _ (w .waits .ensures) (c .before .before .before .before .before .if1 .left)
     (c .before .before .before .before .aid-bytes .ensures) (c .before .before .append-row .ensures)
 
 pub wait-spec : {M : Type 1} → statement M
