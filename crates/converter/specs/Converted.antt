@@ -1,4 +1,4 @@
--- What the converter leaves: R-2, 'A converter takes sound version 01 images, numbers and list order kept, into a buffer of that size, else 1'.
+-- What it leaves: R-2, 'A converter takes sound version 01 images, numbers and list order kept, into a buffer of that size, else 1'.
 use Prim.Native.Nat.{ℕ, _+_}
 use mathlib.Core.Path.{_≡_}
 use mathlib.Core.Bool.{Bool, _&&_, cond}

@@ -73,7 +73,8 @@ fn write_rows(old: &[u8], c: Card, out: &mut [u8], n: usize)
     requires sound { ⌜ T (sound narrow (now old)) ⌝ }
     requires sized { ⌜ length (now out) ≡ sizeOf (layoutOf c) ⌝ }
     requires rows { ⌜ n ≤ oldCount (now old) ⌝ }
-    ensures { λ _. ⌜ now (out .exit) ≡ over (placeAt (layoutOf c) WaitingGrants 0) (flat (newRow (now (old .entry))) (upto n)) (now (out .entry)) ⌝ }
+    ensures { λ _. ⌜ now (out .exit)
+        ≡ over (placeAt (layoutOf c) WaitingGrants 0) (flat (newRow (now (old .entry))) (upto n)) (now (out .entry)) ⌝ }
 {
     for r in 0..n {
         write_row(old, c, out, r);

@@ -1,7 +1,8 @@
 -- The layout of each card, and where the places of its image stand.
 use Prim.Native.Nat.{ℕ, _+_, _*_}
 use Rattle.policy.specs.Contract.{Tok}
-use Rattle.policy.specs.Layout.{Layout, small, aidSize, unmetSize, waitingSize, aidsAt, tokensAt, providesAt, callsAt, grantsAt, needsAt, unmetAt, waitingAt}
+use Rattle.policy.specs.Layout.{Layout, small, aidSize, unmetSize, waitingSize}
+use Rattle.policy.specs.Layout.{aidsAt, tokensAt, providesAt, callsAt, grantsAt, needsAt, unmetAt, waitingAt}
 use Rattle.geometry.specs.declared.Card.{Card}
 use Rattle.geometry.specs.declared.Card.the-variants.{Small}
 use Rattle.geometry.specs.declared.Table.{Table}

@@ -5,7 +5,8 @@ ghost use Prim.Native.Nat.{_+_, _^_, _≤_, _<_};
 ghost use lib.ListN.{length, take, drop};
 ghost use Rattle.policy.specs.Layout.{narrow, size as sizeOf};
 ghost use Rattle.policy.specs.Tables.{readNumber, writeNumber};
-ghost use Rattle.geometry.specs.Geometry.{layoutOf, aidAt, tokAt, provAt, tableAt, entryAt, listAt, listEnd, rowSize, placeAt, numberIn, tokensIn};
+ghost use Rattle.geometry.specs.Geometry.{layoutOf, aidAt, tokAt, provAt, tableAt, entryAt};
+ghost use Rattle.geometry.specs.Geometry.{listAt, listEnd, rowSize, placeAt, numberIn, tokensIn};
 
 // The card of 1,110 bytes.
 pub enum Card {

@@ -54,8 +54,8 @@ unfoldable pub turn : ℕ → List ℕ → List ℕ → Bool → Turn
 unfolding heldAs
 turn n image l ended = turnBy n image l (heldAs l ended)
 
--- turns, one after another, from ordinal n on; the bytes of the input behind those held; and what is printed. A read takes the next bytes of the
--- input, no more than were called for, and says that it has ended only where nothing is left.
+-- turns, one after another, from ordinal n on; the bytes of the input behind those held; and what is printed. A read takes the next bytes
+-- of the input, no more than were called for, and says that it has ended only where nothing is left.
 pub data Turns : ℕ → List ℕ → List ℕ → Bool → List ℕ → List ℕ → Type 0 where
   read : {n k : ℕ} {image l rest out input : List ℕ} {ended : Bool} (piece : List ℕ)
       → turn n image l false ≡ reads k → input ≡ piece ++ rest → length (l ++ piece) ≤ k → (ended ≡ true → rest ≡ [])

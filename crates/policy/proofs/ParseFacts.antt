@@ -12,7 +12,7 @@ use lib.Seq.{length-take-le, take-append-seam}
 use Rattle.policy.specs.Lists.{flat, orElse}
 use Rattle.policy.specs.Contract.{Aid, Tok, Row, validAid}
 use Rattle.policy.specs.Layout.{Layout}
-use Rattle.policy.specs.Record.{Change, load, remove, addService, removeService, addCall, removeCall, addGrant, removeGrant, addNeed, removeNeed, Request, Got, got, bad, Reader, andThen, _>>=_, done, given}
+use Rattle.policy.specs.Record.{Change, addCall, removeCall, addGrant, removeGrant, addNeed, removeNeed, Request, Got, got, bad, Reader, andThen, _>>=_, done, given}
 use Rattle.policy.specs.Record.{byte, bytes, numberFrom, number, aid, tokens, rowOf, validTok, validTokens, validRow, many, counted, rowList, aLoad, aService, kinds, change, fields, whole, parse, firstAid}
 use Rattle.policy.specs.Tables.{writeNumber, writeTok}
 use Rattle.policy.specs.Judge.{aidBytes, rowBytes, rowsBytes}

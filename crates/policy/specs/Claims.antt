@@ -31,7 +31,9 @@ MarkedCases =
 
 -- those over R-7's change
 abbrev pub MarkedOver : Type 0
-MarkedOver = map (λ c. linesFrom narrow (imageAfter base (emptyImage base) (c .before)) (c .records)) casesOver ≡ map (λ c. c .lines) casesOver
+MarkedOver =
+    map (λ c. linesFrom narrow (imageAfter base (emptyImage base) (c .before)) (c .records)) casesOver
+    ≡ map (λ c. c .lines) casesOver
 
 -- ---- 2. one record: equal answers, and the image after it stands for the machine's contracts after it
 abbrev pub Agreement : Layout → Type 0
@@ -46,7 +48,8 @@ CallsGranted cs = (c d : Contract) (r : Row) → In c cs → In d cs → In r (c
 
 -- every needed service is present
 abbrev pub NeedsPresent : List Contract → Type 0
-NeedsPresent cs = (c : Contract) (r : Row) → In c cs → In r (c .needs) → (d : Contract) × In d cs × (d .aid ≡ r .aid) × In (r .tok) (d .provides)
+NeedsPresent cs = (c : Contract) (r : Row) → In c cs → In r (c .needs)
+    → (d : Contract) × In d cs × (d .aid ≡ r .aid) × In (r .tok) (d .provides)
 
 pub record HistoryOf (L : Layout) (ss : List (List ℕ)) : Type 0 where
   pub equal-answers : answers L (emptyImage L) ss ≡ machineAnswers L [] ss
@@ -71,7 +74,8 @@ pub record FitsLimits (L : Layout) (ds : List Contract) : Type 0 where
 
 -- 'a well-formed record free of causes 3 to 6 is accepted exactly when the contracts it would leave installed' are lawful and fit
 abbrev pub AcceptedExactly : Layout → Type 0
-AcceptedExactly L = (img s : List ℕ) (cs : List Contract) (q : Request) → StandsFor L img cs → parse L s ≡ some q → T (proper L (q .aid) (q .change))
+AcceptedExactly L = (img s : List ℕ) (cs : List Contract) (q : Request) → StandsFor L img cs → parse L s ≡ some q
+    → T (proper L (q .aid) (q .change))
     → ((k : Cause) → In k (causes4to7 L cs (q .aid) (q .change)) → k .number < 7 → T (k .applies) → ⊥)
     → (judge L img s .answered ≡ 0) ↔ (T (lawful (effect L cs (q .aid) (q .change))) × FitsLimits L (effect L cs (q .aid) (q .change)))
 
@@ -106,10 +110,12 @@ ShortIsFull L = (img s : List ℕ) (q : Request) → T (sound L img) → parse L
 pub record ReadsOut (L : Layout) (img : List ℕ) (n : ℕ) : Type 0 where
   pub parses : (c : Contract) → c ≡ contractAt L (decode L img) n
       → parse L (loadRecord L c) ≡ some (record { aid = c .aid; change = load (c .provides) (c .calls) (c .grants) (c .needs) })
-  pub is-proper : (c : Contract) → c ≡ contractAt L (decode L img) n → T (proper L (c .aid) (load (c .provides) (c .calls) (c .grants) (c .needs)))
+  pub is-proper : (c : Contract) → c ≡ contractAt L (decode L img) n
+      → T (proper L (c .aid) (load (c .provides) (c .calls) (c .grants) (c .needs)))
   pub loads-again : (c : Contract) → c ≡ contractAt L (decode L img) n
       → (img₂ : List ℕ) → judge L img₂ (loadRecord L c) .answered ≡ 0
-      → (m : ℕ) × T (decode L (judge L img₂ (loadRecord L c) .bytes) .used m) × SameContract c (contractAt L (decode L (judge L img₂ (loadRecord L c) .bytes)) m)
+      → (m : ℕ) × T (decode L (judge L img₂ (loadRecord L c) .bytes) .used m)
+      × SameContract c (contractAt L (decode L (judge L img₂ (loadRecord L c) .bytes)) m)
 
 abbrev pub ReadOutAgain : Layout → Type 0
 ReadOutAgain L = (img : List ℕ) (n : ℕ) → T (sound L img) → T (decode L img .used n) → ReadsOut L img n

@@ -49,7 +49,13 @@ hasRow r l = exists (eqRow r) l
 
 -- the contract with grants of provided services alone, as all were before R-2
 abbrev pub ownGrants : Contract → Contract
-ownGrants c = record { aid = c .aid; provides = c .provides; calls = c .calls; grants = keep (λ r. hasTok (r .tok) (c .provides)) (c .grants); needs = c .needs }
+ownGrants c = record {
+  aid = c .aid;
+  provides = c .provides;
+  calls = c .calls;
+  grants = keep (λ r. hasTok (r .tok) (c .provides)) (c .grants);
+  needs = c .needs;
+}
 
 -- a row of a package: the package's AID, and the row
 pub record Link : Type 0 where

@@ -1,5 +1,5 @@
 -- The change that a record asks for, on tables: document 01, 'Where things go'. A draft's lists may pass their limits.
-use Prim.Native.Nat.{ℕ, _+_}
+use Prim.Native.Nat.{ℕ}
 use mathlib.Core.Bool.{Bool, true, false, not, _&&_, _||_, cond}
 use mathlib.Core.List.{List, [], _∷_, _++_, map}
 use mathlib.Core.Option.{Option, none, some}
@@ -8,9 +8,11 @@ use lib.ListN.{length, getD}
 use Rattle.policy.specs.Lists.{implies, exists, keep, flat, isNil, isSome, orElse}
 use Rattle.policy.specs.Contract.{Aid, eqAid, Tok, eqTok, Row, Contract, hasTok, hasRow}
 use Rattle.policy.specs.Layout.{Layout}
-use Rattle.policy.specs.Record.{Change, load, remove, addService, removeService, addCall, removeCall, addGrant, removeGrant, addNeed, removeNeed}
+use Rattle.policy.specs.Record.{Change, load, remove}
+use Rattle.policy.specs.Record.{addService, removeService, addCall, removeCall, addGrant, removeGrant, addNeed, removeNeed}
 use Rattle.policy.specs.Tables.{Tables, Unmet, Waiting, noTok}
-use Rattle.policy.specs.Lookup.{Place, Spot, serviceAt, numbers, places, numberOf, serviceOf, serverOf, spotOf, freeNumber, freeService}
+use Rattle.policy.specs.Lookup.{Place, Spot, serviceAt, numbers, places}
+use Rattle.policy.specs.Lookup.{numberOf, serviceOf, serverOf, spotOf, freeNumber, freeService}
 use Rattle.policy.specs.Sound.{eqUnmet, eqWaiting, everyBit}
 
 -- the tables after the change, and the needs that it leaves unmet
@@ -96,7 +98,8 @@ module _ (L : Layout) (t : Tables) where
   abbrev pub removeCallAt : ℕ → Row → Option Place → Draft
   removeCallAt i r none = kept (withCalls (t .calls) (keep (λ u. not (eqUnmet (callRow i r) u)) (t .unmet)) t)
   removeCallAt i r (some p) =
-      kept (withNeeds (put3 i (p .callee) (p .service) false (t .needs)) (withCalls (put3 i (p .callee) (p .service) false (t .calls)) (t .unmet) t))
+      kept (withNeeds (put3 i (p .callee) (p .service) false (t .needs))
+      (withCalls (put3 i (p .callee) (p .service) false (t .calls)) (t .unmet) t))
 
   abbrev pub addNeedAt : ℕ → Row → Option Place → Draft
   addNeedAt i r none = record { tables = t; lost = callRow i r ∷ [] }
@@ -134,7 +137,8 @@ module _ (L : Layout) (t : Tables) where
     provides = put2 j k true (t .provides);
     calls = λ x y z. t .calls x y z || (eqb y j && eqb z k && hasUnmet (record { callee = t .aid j; tok = s; caller = x }) (t .unmet));
     grants = λ x y z. t .grants x y z
-        || (eqb x j && eqb z k && (t .used y && (exists (eqAid (t .aid y)) l || hasWaiting (record { caller = t .aid y; callee = j; tok = s }) (t .waiting))));
+        || (eqb x j && eqb z k
+        && (t .used y && (exists (eqAid (t .aid y)) l || hasWaiting (record { caller = t .aid y; callee = j; tok = s }) (t .waiting))));
     needs = t .needs;
     unmet = keep (λ u. not (asksFor (t .aid j) s u)) (t .unmet);
     waiting = keep (λ w. not (nowGranted j s w)) (t .waiting)
@@ -184,12 +188,14 @@ module _ (L : Layout) (t : Tables) where
       needs = λ x y z. t .needs x y z && not (eqb x n || eqb y n);
       unmet = keep (λ u. not (eqb (u .caller) n)) (t .unmet) ++ leftBy (t .calls) n (λ z. true);
       waiting = keep (λ w. not (eqb (w .callee) n)) (t .waiting)
-          ++ flat (λ j. map (λ k. record { caller = t .aid n; callee = j; tok = t .tok j k }) (keep (λ k. t .grants j n k) (places L))) (numbers L);
+          ++ flat (λ j. map (λ k. record { caller = t .aid n; callee = j; tok = t .tok j k })
+          (keep (λ k. t .grants j n k) (places L))) (numbers L);
     };
     lost = leftBy (t .needs) n (λ z. true);
   }
 
-  -- ---- kind 1: a contract at number n; 'its services take 0, 1, 2 in record order', 'loading turns fitting unmet calls and waiting grants into bits'
+  -- ---- kind 1: a contract at number n; 'its services take 0, 1, 2 in record order',
+  -- 'loading turns fitting unmet calls and waiting grants into bits'
   module _ (n : ℕ) (c : Contract) where
     abbrev pub loadedTok : ℕ → ℕ → Tok
     loadedTok x y = cond (eqb x n) (getD (c .provides) y noTok) (t .tok x y)
@@ -227,8 +233,10 @@ module _ (L : Layout) (t : Tables) where
         provides = loadedProvides;
         calls = λ x y z. cond (eqb x n) (namedIn (c .calls) y z)
             (cond (eqb y n) (loadedProvides n z && hasUnmet (callRow x (serviceAt loadedNames n z)) (t .unmet)) (t .calls x y z));
-        grants = λ x y z. cond (eqb x n) (loadedProvides n z && (t .used y && hasRow (record { aid = t .aid y; tok = loadedTok n z }) (c .grants)))
-            (cond (eqb y n) (t .provides x z && hasWaiting (record { caller = c .aid; callee = x; tok = t .tok x z }) (t .waiting)) (t .grants x y z));
+        grants = λ x y z. cond (eqb x n)
+            (loadedProvides n z && (t .used y && hasRow (record { aid = t .aid y; tok = loadedTok n z }) (c .grants)))
+            (cond (eqb y n) (t .provides x z && hasWaiting (record { caller = c .aid; callee = x; tok = t .tok x z }) (t .waiting))
+            (t .grants x y z));
         needs = λ x y z. cond (eqb x n) (namedIn (c .needs) y z) (t .needs x y z);
         unmet = keep (λ u. not (eqAid (u .callee) (c .aid) && hasTok (u .tok) (c .provides))) (t .unmet)
             ++ map (callRow n) (keep notServed (c .calls));
@@ -247,7 +255,8 @@ module _ (L : Layout) (t : Tables) where
 
   unfoldable pub draft : Aid → Change → Draft
   unfolding numberOf serviceOf serverOf spotOf freeNumber freeService
-  draft a (load p c g n) = orElse (freeNumber L t) (kept t) (λ m. loadAt m (record { aid = a; provides = p; calls = c; grants = g; needs = n }))
+  draft a (load p c g n) =
+      orElse (freeNumber L t) (kept t) (λ m. loadAt m (record { aid = a; provides = p; calls = c; grants = g; needs = n }))
   draft a remove = atPackage a removeAt
   draft a (addService s l) = atPackage a (λ j. orElse (freeService L t j) (kept t) (λ k. addServiceAt j k s l))
   draft a (removeService s) = atPackage a (λ j. atService j s (removeServiceAt j))

@@ -24,7 +24,8 @@ carried L M img = encode M (decode L img)
 -- a converter: a sound image of L into a buffer of M's size, 'else 1'
 unfoldable pub convert : Layout → Layout → List ℕ → List ℕ → Out
 unfolding sound carried
-convert L M img b = cond (sound L img && eqb (length b) (size M)) (record { answered = 0; second = 0; bytes = carried L M img }) (refusal 1 255 b)
+convert L M img b =
+    cond (sound L img && eqb (length b) (size M)) (record { answered = 0; second = 0; bytes = carried L M img }) (refusal 1 255 b)
 
 -- M has room for what stands under L
 pub record Widens (L M : Layout) : Type 0 where
@@ -92,7 +93,8 @@ pub record HistoryOver (L : Layout) (img : List ℕ) (cs : List Contract) (ss : 
 
 -- demand 3 from an image that stands for contracts, over any changes of the rules
 abbrev pub HistoryFrom : Layout → Type 0
-HistoryFrom L = (img : List ℕ) (cs : List Contract) → StandsFor L img cs → (ss : List (List ℕ)) (es : List Era) → AllPass L cs ss es → HistoryOver L img cs ss es
+HistoryFrom L = (img : List ℕ) (cs : List Contract) → StandsFor L img cs
+    → (ss : List (List ℕ)) (es : List Era) → AllPass L cs ss es → HistoryOver L img cs ss es
 
 -- a passage keeps numbers and list order, since it keeps the tables whole, and the contracts that they stand for
 abbrev pub Passage : Layout → Layout → Type 0
@@ -130,7 +132,7 @@ MarkedConverted =
     map (λ c. linesFrom ahead (carried narrow ahead (imageAfter narrow (emptyImage narrow) (c .before))) (c .records)) casesConverted
     ≡ map (λ c. c .lines) casesConverted
 
--- ---- the card of eight packages so far: records by document 01's rules, R-7's change, records by its rules, R-2's conversion, records by its rules
+-- ---- the card of eight packages so far: records by document 01's rules, R-7's change, records, R-2's conversion, records
 -- the image and the contracts at R-7's change
 abbrev pub imageThen : List (List ℕ) → List ℕ
 imageThen ss = imageAfter base (emptyImage base) ss

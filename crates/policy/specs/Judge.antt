@@ -8,7 +8,8 @@ use lib.ListN.{length, drop}
 use Rattle.policy.specs.Lists.{flat, isSome, orElse}
 use Rattle.policy.specs.Contract.{Aid, Row, Contract, hasTok, hasRow}
 use Rattle.policy.specs.Layout.{Layout, size}
-use Rattle.policy.specs.Record.{Request, Change, load, remove, addService, removeService, addCall, removeCall, addGrant, removeGrant, addNeed, removeNeed, parse, proper}
+use Rattle.policy.specs.Record.{Request, Change, load, remove, parse, proper}
+use Rattle.policy.specs.Record.{addService, removeService, addCall, removeCall, addGrant, removeGrant, addNeed, removeNeed}
 use Rattle.policy.specs.Causes.{Cause, _when_, answer}
 use Rattle.policy.specs.Tables.{Tables, writeNumber, writeTok, decode, encode, emptyImage}
 use Rattle.policy.specs.Lookup.{usedNumbers, numberOf, freeNumber, freeService, contractAt}
@@ -71,7 +72,8 @@ module _ (L : Layout) where
   -- every cause of a record that was read, in order
   abbrev pub judgeCauses : Tables → Request → List Cause
   judgeCauses t q =
-      3 when not (proper L (q .aid) (q .change)) ∷ tableCauses t (q .aid) (q .change) ++ lookCauses (look L (draft L t (q .aid) (q .change)))
+      3 when not (proper L (q .aid) (q .change)) ∷ tableCauses t (q .aid) (q .change)
+      ++ lookCauses (look L (draft L t (q .aid) (q .change)))
 
   -- ---- judging a record on an image
   abbrev pub judged : List ℕ → ℕ → Tables → ℕ → Out

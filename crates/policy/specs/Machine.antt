@@ -6,9 +6,11 @@ use mathlib.Core.Option.{none, some}
 use lib.Dec.{leb}
 use lib.ListN.{length}
 use Rattle.policy.specs.Lists.{keep}
-use Rattle.policy.specs.Contract.{Aid, eqAid, eqTok, Row, eqRow, Contract, hasTok, hasRow, under, installed, callsGranted, needsMet, unmetCalls, waitingGrants}
+use Rattle.policy.specs.Contract.{Aid, eqAid, eqTok, Row, eqRow, Contract, hasTok, hasRow, under, installed}
+use Rattle.policy.specs.Contract.{callsGranted, needsMet, unmetCalls, waitingGrants}
 use Rattle.policy.specs.Layout.{Layout}
-use Rattle.policy.specs.Record.{Request, Change, load, remove, addService, removeService, addCall, removeCall, addGrant, removeGrant, addNeed, removeNeed, parse, proper}
+use Rattle.policy.specs.Record.{Request, Change, load, remove, parse, proper}
+use Rattle.policy.specs.Record.{addService, removeService, addCall, removeCall, addGrant, removeGrant, addNeed, removeNeed}
 use Rattle.policy.specs.Causes.{Cause, _when_, answer}
 
 -- ---- what a change makes of one contract; R-2: 'kind 4 keeps the grants', 'kind 3 takes once a grant that is in both places'
@@ -32,12 +34,18 @@ altered L (removeService s) k = record {
   grants = cond (L .early) (k .grants) (keep (λ x. not (eqTok s (x .tok))) (k .grants));
   needs = k .needs;
 }
-altered L (addCall r) k = record { aid = k .aid; provides = k .provides; calls = k .calls ++ (r ∷ []); grants = k .grants; needs = k .needs }
-altered L (removeCall r) k = record { aid = k .aid; provides = k .provides; calls = withoutRow r (k .calls); grants = k .grants; needs = withoutRow r (k .needs) }
-altered L (addGrant r) k = record { aid = k .aid; provides = k .provides; calls = k .calls; grants = k .grants ++ (r ∷ []); needs = k .needs }
-altered L (removeGrant r) k = record { aid = k .aid; provides = k .provides; calls = k .calls; grants = withoutRow r (k .grants); needs = k .needs }
-altered L (addNeed r) k = record { aid = k .aid; provides = k .provides; calls = k .calls; grants = k .grants; needs = k .needs ++ (r ∷ []) }
-altered L (removeNeed r) k = record { aid = k .aid; provides = k .provides; calls = k .calls; grants = k .grants; needs = withoutRow r (k .needs) }
+altered L (addCall r) k =
+    record { aid = k .aid; provides = k .provides; calls = k .calls ++ (r ∷ []); grants = k .grants; needs = k .needs }
+altered L (removeCall r) k =
+    record { aid = k .aid; provides = k .provides; calls = withoutRow r (k .calls); grants = k .grants; needs = withoutRow r (k .needs) }
+altered L (addGrant r) k =
+    record { aid = k .aid; provides = k .provides; calls = k .calls; grants = k .grants ++ (r ∷ []); needs = k .needs }
+altered L (removeGrant r) k =
+    record { aid = k .aid; provides = k .provides; calls = k .calls; grants = withoutRow r (k .grants); needs = k .needs }
+altered L (addNeed r) k =
+    record { aid = k .aid; provides = k .provides; calls = k .calls; grants = k .grants; needs = k .needs ++ (r ∷ []) }
+altered L (removeNeed r) k =
+    record { aid = k .aid; provides = k .provides; calls = k .calls; grants = k .grants; needs = withoutRow r (k .needs) }
 
 -- the contract under a altered, and no other
 abbrev pub alter : Aid → (Contract → Contract) → List Contract → List Contract

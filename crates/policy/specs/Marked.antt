@@ -9,7 +9,7 @@ use Rattle.policy.specs.Lists.{first, flat, from, upto}
 use Rattle.policy.specs.Layout.{Layout}
 use Rattle.policy.specs.Judge.{Out, judge}
 
--- ---- lines, as the session prints them after the ordinal: 'kind (the fourth byte, known or not), answer, package number or `-` on a refusal'
+-- ---- lines, as the session prints them: 'kind (the fourth byte, known or not), answer, package number or `-` on a refusal'
 pub record Line : Type 0 where
   pub kind : Option ℕ
   pub answer : ℕ
@@ -84,13 +84,20 @@ removeService n m = recordOf 4 (aidOf n ++ (0 ∷ m ∷ []))
 
 -- the records of the session, to the byte
 abbrev pub loadH : List ℕ
-loadH = 0x00 ∷ 0x18 ∷ 0x01 ∷ 0x01 ∷ 0x05 ∷ 0xF0 ∷ 0x00 ∷ 0x00 ∷ 0x00 ∷ 0x01 ∷ 0x01 ∷ 0x00 ∷ 0x00 ∷ 0x00 ∷ 0x01 ∷ 0x05 ∷ 0xF0 ∷ 0x00 ∷ 0x00 ∷ 0x00 ∷ 0x02 ∷ 0x00 ∷ 0x00 ∷ 0x00 ∷ []
+loadH =
+    0x00 ∷ 0x18 ∷ 0x01 ∷ 0x01 ∷ 0x05 ∷ 0xF0 ∷ 0x00 ∷ 0x00 ∷ 0x00 ∷ 0x01
+    ∷ 0x01 ∷ 0x00 ∷ 0x00 ∷ 0x00 ∷ 0x01 ∷ 0x05 ∷ 0xF0 ∷ 0x00 ∷ 0x00 ∷ 0x00 ∷ 0x02 ∷ 0x00 ∷ 0x00 ∷ 0x00 ∷ []
 
 abbrev pub loadB : List ℕ
-loadB = 0x00 ∷ 0x16 ∷ 0x01 ∷ 0x01 ∷ 0x05 ∷ 0xF0 ∷ 0x00 ∷ 0x00 ∷ 0x00 ∷ 0x03 ∷ 0x00 ∷ 0x01 ∷ 0x05 ∷ 0xF0 ∷ 0x00 ∷ 0x00 ∷ 0x00 ∷ 0x01 ∷ 0x00 ∷ 0x00 ∷ 0x00 ∷ 0x00 ∷ []
+loadB =
+    0x00 ∷ 0x16 ∷ 0x01 ∷ 0x01 ∷ 0x05 ∷ 0xF0 ∷ 0x00 ∷ 0x00 ∷ 0x00 ∷ 0x03
+    ∷ 0x00 ∷ 0x01 ∷ 0x05 ∷ 0xF0 ∷ 0x00 ∷ 0x00 ∷ 0x00 ∷ 0x01 ∷ 0x00 ∷ 0x00 ∷ 0x00 ∷ 0x00 ∷ []
 
 abbrev pub loadC : List ℕ
-loadC = 0x00 ∷ 0x1E ∷ 0x01 ∷ 0x01 ∷ 0x05 ∷ 0xF0 ∷ 0x00 ∷ 0x00 ∷ 0x00 ∷ 0x02 ∷ 0x00 ∷ 0x01 ∷ 0x05 ∷ 0xF0 ∷ 0x00 ∷ 0x00 ∷ 0x00 ∷ 0x01 ∷ 0x00 ∷ 0x00 ∷ 0x00 ∷ 0x01 ∷ 0x05 ∷ 0xF0 ∷ 0x00 ∷ 0x00 ∷ 0x00 ∷ 0x01 ∷ 0x00 ∷ 0x00 ∷ []
+loadC =
+    0x00 ∷ 0x1E ∷ 0x01 ∷ 0x01 ∷ 0x05 ∷ 0xF0 ∷ 0x00 ∷ 0x00 ∷ 0x00 ∷ 0x02
+    ∷ 0x00 ∷ 0x01 ∷ 0x05 ∷ 0xF0 ∷ 0x00 ∷ 0x00 ∷ 0x00 ∷ 0x01 ∷ 0x00 ∷ 0x00 ∷ 0x00
+    ∷ 0x01 ∷ 0x05 ∷ 0xF0 ∷ 0x00 ∷ 0x00 ∷ 0x00 ∷ 0x01 ∷ 0x00 ∷ 0x00 ∷ []
 
 abbrev pub removeH : List ℕ
 removeH = 0x00 ∷ 0x0A ∷ 0x01 ∷ 0x02 ∷ 0x05 ∷ 0xF0 ∷ 0x00 ∷ 0x00 ∷ 0x00 ∷ 0x01 ∷ []
@@ -113,7 +120,10 @@ cases =
     -- a 17th unmet call
     ∷ record { records = loadOf 1 [] (callsOn9 16) [] [] ∷ rowChange 5 1 9 17 ∷ []; lines = taken 1 0 ∷ refused 5 10 ∷ [] }
     -- with 16 standing, a granted load that meets one and adds one
-    ∷ record { records = loadOf 1 [] (callsOn9 16) [] [] ∷ loadOf 9 (1 ∷ []) (rowOf 10 20 ∷ []) (rowOf 1 1 ∷ []) [] ∷ []; lines = taken 1 0 ∷ taken 1 1 ∷ [] }
+    ∷ record {
+      records = loadOf 1 [] (callsOn9 16) [] [] ∷ loadOf 9 (1 ∷ []) (rowOf 10 20 ∷ []) (rowOf 1 1 ∷ []) [] ∷ [];
+      lines = taken 1 0 ∷ taken 1 1 ∷ [];
+    }
     -- removing a server whose callers' calls would make 17 unmet
     ∷ record {
       records = loadH ∷ loadOf 2 [] (rowOf 1 0 ∷ []) [] [] ∷ loadOf 3 [] (callsOn9 16) [] [] ∷ removalOf 1 ∷ [];
@@ -123,17 +133,25 @@ cases =
     ∷ record { records = loadH ∷ loadOf 4 [] (rowOf 1 0 ∷ rowOf 9 0 ∷ []) [] (rowOf 9 0 ∷ []) ∷ []; lines = taken 1 0 ∷ refused 1 8 ∷ [] }
     -- R-7: a method token of 127 is read, one of 128 is not: in each list of a load
     ∷ record { records = loadOf 1 (127 ∷ []) [] [] [] ∷ loadOf 2 (128 ∷ []) [] [] [] ∷ []; lines = taken 1 0 ∷ refused 1 2 ∷ [] }
-    ∷ record { records = loadOf 1 [] (rowOf 9 127 ∷ []) [] [] ∷ loadOf 2 [] (rowOf 9 128 ∷ []) [] [] ∷ []; lines = taken 1 0 ∷ refused 1 2 ∷ [] }
-    ∷ record { records = loadOf 1 (127 ∷ []) [] (rowOf 2 127 ∷ []) [] ∷ loadOf 3 (127 ∷ []) [] (rowOf 2 128 ∷ []) [] ∷ []; lines = taken 1 0 ∷ refused 1 2 ∷ [] }
     ∷ record {
-      records = loadOf 1 (127 ∷ []) [] (rowOf 2 127 ∷ []) [] ∷ loadOf 2 [] (rowOf 1 127 ∷ []) [] (rowOf 1 127 ∷ []) ∷ loadOf 3 [] [] [] (rowOf 1 128 ∷ []) ∷ [];
+      records = loadOf 1 [] (rowOf 9 127 ∷ []) [] [] ∷ loadOf 2 [] (rowOf 9 128 ∷ []) [] [] ∷ [];
+      lines = taken 1 0 ∷ refused 1 2 ∷ [];
+    }
+    ∷ record {
+      records = loadOf 1 (127 ∷ []) [] (rowOf 2 127 ∷ []) [] ∷ loadOf 3 (127 ∷ []) [] (rowOf 2 128 ∷ []) [] ∷ [];
+      lines = taken 1 0 ∷ refused 1 2 ∷ [];
+    }
+    ∷ record {
+      records = loadOf 1 (127 ∷ []) [] (rowOf 2 127 ∷ []) [] ∷ loadOf 2 [] (rowOf 1 127 ∷ []) [] (rowOf 1 127 ∷ [])
+          ∷ loadOf 3 [] [] [] (rowOf 1 128 ∷ []) ∷ [];
       lines = taken 1 0 ∷ taken 1 1 ∷ refused 1 2 ∷ [];
     }
     -- in kinds 3 to 10
     ∷ record {
       records = loadOf 1 [] [] [] [] ∷ loadOf 2 [] [] [] []
           ∷ flat (λ f. f 128 ∷ f 127 ∷ [])
-          (addService 1 ∷ rowChange 7 1 2 ∷ rowChange 5 2 1 ∷ rowChange 9 2 1 ∷ rowChange 10 2 1 ∷ rowChange 6 2 1 ∷ rowChange 8 1 2 ∷ removeService 1 ∷ []);
+          (addService 1 ∷ rowChange 7 1 2 ∷ rowChange 5 2 1 ∷ rowChange 9 2 1
+          ∷ rowChange 10 2 1 ∷ rowChange 6 2 1 ∷ rowChange 8 1 2 ∷ removeService 1 ∷ []);
       lines = taken 1 0 ∷ taken 1 1
           ∷ refused 3 2 ∷ taken 3 0 ∷ refused 7 2 ∷ taken 7 0 ∷ refused 5 2 ∷ taken 5 1 ∷ refused 9 2 ∷ taken 9 1
           ∷ refused 10 2 ∷ taken 10 1 ∷ refused 6 2 ∷ taken 6 1 ∷ refused 8 2 ∷ taken 8 0 ∷ refused 4 2 ∷ taken 4 0 ∷ [];
@@ -199,7 +217,8 @@ casesConverted =
     -- 'Kind 3 takes once a grant that is in both places': 16 wait before it and after it; a 17th does not fit
     ∷ record {
       before = loadOf 1 [] [] [] [] ∷ [];
-      records = loadOf 2 [] [] (map (λ c. rowOf c 0) (from 20 15)) [] ∷ rowChange 7 1 9 0 ∷ addServiceTo 1 0 (9 ∷ []) ∷ rowChange 7 1 10 0 ∷ [];
+      records = loadOf 2 [] [] (map (λ c. rowOf c 0) (from 20 15)) []
+          ∷ rowChange 7 1 9 0 ∷ addServiceTo 1 0 (9 ∷ []) ∷ rowChange 7 1 10 0 ∷ [];
       lines = taken 1 1 ∷ taken 7 0 ∷ taken 3 0 ∷ refused 7 11 ∷ [];
     }
     -- a load turns those that wait for it into bits whose service is there; of the other, the call comes back unmet

@@ -7,7 +7,8 @@ use lib.Dec.{T}
 use lib.ListN.{length, take}
 use Rattle.policy.specs.Contract.{Aid, Contract}
 use Rattle.policy.specs.Layout.{Layout}
-use Rattle.policy.specs.Record.{Request, Change, load, remove, addService, removeService, addCall, removeCall, addGrant, removeGrant, addNeed, removeNeed, parse}
+use Rattle.policy.specs.Record.{Request, Change, load, remove, parse}
+use Rattle.policy.specs.Record.{addService, removeService, addCall, removeCall, addGrant, removeGrant, addNeed, removeNeed}
 use Rattle.policy.specs.Tables.{Tables, decode}
 use Rattle.policy.specs.Lookup.{contractAt}
 use Rattle.policy.specs.Sound.{sound}

@@ -11,7 +11,8 @@ use lib.Dec.{T}
 use lib.ListN.{length, getD}
 use Rattle.policy.specs.Contract.{Row}
 use Rattle.policy.specs.Layout.{Layout}
-use Rattle.policy.specs.Record.{Request, Change, load, remove, addService, removeService, addCall, removeCall, addGrant, removeGrant, addNeed, removeNeed, parse}
+use Rattle.policy.specs.Record.{Request, Change, load, remove, parse}
+use Rattle.policy.specs.Record.{addService, removeService, addCall, removeCall, addGrant, removeGrant, addNeed, removeNeed}
 use Rattle.policy.specs.Tables.{Tables, Unmet, Waiting, noTok, decode}
 use Rattle.policy.specs.Lookup.{wanted, grantAt}
 use Rattle.policy.specs.Sound.{sound}
@@ -51,7 +52,8 @@ GoesUp (p ∷ l) = ((q : ℕ × ℕ) → In q l → Below p q) × GoesUp l
 
 -- 'by caller number then the service number', 'by callee number then service number': the rows of pairs whose bits were set
 abbrev pub ByNumber : {A : Type 0} → (ℕ → ℕ → Bool) → (ℕ → ℕ → A) → List A → Type 0
-ByNumber bits row new = (ps : List (ℕ × ℕ)) × GoesUp ps × ((p : ℕ × ℕ) → In p ps → T (bits (p .0) (p .1))) × (new ≡ map (λ p. row (p .0) (p .1)) ps)
+ByNumber bits row new = (ps : List (ℕ × ℕ)) × GoesUp ps × ((p : ℕ × ℕ) → In p ps → T (bits (p .0) (p .1)))
+    × (new ≡ map (λ p. row (p .0) (p .1)) ps)
 
 -- ---- new rows, by the number m of the record's package and the tables before or after
 -- unmet calls of package m that the record has, and its grants that wait
@@ -87,7 +89,8 @@ module _ (before after : Tables) (m : ℕ) where
   abbrev pub rule : Change → Rule
   -- 'A load takes the lowest unused package number. Its services take 0, 1, 2 in record order.'
   rule (load p c g n) = record {
-    numbers = Lowest (before .used) m × ((k : ℕ) → T (after .provides m k) ↔ (k < length p)) × ((k : ℕ) → k < length p → after .tok m k ≡ getD p k noTok);
+    numbers = Lowest (before .used) m × ((k : ℕ) → T (after .provides m k) ↔ (k < length p))
+        × ((k : ℕ) → k < length p → after .tok m k ≡ getD p k noTok);
     unmet = callsOf m c;
     waiting = grantsOf m g;
   }

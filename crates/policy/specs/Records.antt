@@ -1,4 +1,4 @@
--- Requests as records: document 01, 'Records'. How each of the ten kinds is written, what a request must meet for it, and the claims on both.
+-- Requests as records: document 01, 'Records'. How each of the ten kinds is written, what a request must meet, and the claims on both.
 use Prim.Native.Nat.{ℕ, _+_, _*_, _^_, _≤_, _<_, max}
 use mathlib.Core.Path.{_≡_}
 use mathlib.Core.List.{List, [], _∷_, _++_}
@@ -9,7 +9,8 @@ use lib.ListN.{length}
 use Rattle.policy.specs.Lists.{flat}
 use Rattle.policy.specs.Contract.{Aid, Tok, Row, Contract, validAid}
 use Rattle.policy.specs.Layout.{Layout}
-use Rattle.policy.specs.Record.{Request, Change, load, remove, addService, removeService, addCall, removeCall, addGrant, removeGrant, addNeed, removeNeed, validTok, parse}
+use Rattle.policy.specs.Record.{Request, Change, load, remove, validTok, parse}
+use Rattle.policy.specs.Record.{addService, removeService, addCall, removeCall, addGrant, removeGrant, addNeed, removeNeed}
 use Rattle.policy.specs.Tables.{writeNumber, writeTok}
 use Rattle.policy.specs.Judge.{aidBytes, rowBytes, rowsBytes, readOut}
 
@@ -53,7 +54,8 @@ module _ (L : Layout) where
   ValidRow r = ValidAid (r .aid) × ValidTok (r .tok)
 
   -- ---- writing
-  -- what follows the first AID: document 01's table. 'An AID is written as a length byte and its bytes. A list is a count byte and its rows.'
+  -- what follows the first AID: document 01's table.
+  -- 'An AID is written as a length byte and its bytes. A list is a count byte and its rows.'
   abbrev pub changeBytes : Change → List ℕ
   changeBytes (load p c g n) = (length p ∷ flat writeTok p) ++ (rowsBytes L c ++ (rowsBytes L g ++ rowsBytes L n))
   changeBytes remove = []
@@ -75,7 +77,8 @@ module _ (L : Layout) where
 
   -- ---- what can be written: every AID and method token is valid, and each list is within the layout's limits
   abbrev pub WithinChange : Change → Type 0
-  WithinChange (load p c g n) = AtMost (L .services) ValidTok p × AtMost (L .mostRows) ValidRow c × AtMost (L .mostRows) ValidRow g × AtMost (L .mostRows) ValidRow n
+  WithinChange (load p c g n) =
+      AtMost (L .services) ValidTok p × AtMost (L .mostRows) ValidRow c × AtMost (L .mostRows) ValidRow g × AtMost (L .mostRows) ValidRow n
   WithinChange remove = Unit {0}
   WithinChange (addService s l) = ValidTok s × AtMost (L .mostCallers) ValidAid l
   WithinChange (removeService s) = ValidTok s

@@ -29,4 +29,5 @@ pub record Room (L : Layout) (t : Tables) : Type 0 where
   pub waiting-fits : length (t .waiting) ≤ L .capacity
   pub waiting-short : (v : Waiting) → In v (t .waiting) → length (v .caller) ≤ 16
   -- before R-2 a row of waiting grants holds the number of a provided service
-  pub waiting-own : (T (L .early) → ⊥) → (v : Waiting) → In v (t .waiting) → (k : ℕ) × T (t .provides (v .callee) k) × (t .tok (v .callee) k ≡ v .tok)
+  pub waiting-own : (T (L .early) → ⊥) → (v : Waiting) → In v (t .waiting)
+      → (k : ℕ) × T (t .provides (v .callee) k) × (t .tok (v .callee) k ≡ v .tok)

@@ -8,7 +8,8 @@ use lib.ListN.{length}
 use Rattle.policy.specs.Lists.{implies, every, exists, keep, isSome, orElse}
 use Rattle.policy.specs.Contract.{Aid, eqAid, Tok, Contract, hasTok, hasRow}
 use Rattle.policy.specs.Layout.{Layout}
-use Rattle.policy.specs.Record.{Change, load, remove, addService, removeService, addCall, removeCall, addGrant, removeGrant, addNeed, removeNeed}
+use Rattle.policy.specs.Record.{Change, load, remove}
+use Rattle.policy.specs.Record.{addService, removeService, addCall, removeCall, addGrant, removeGrant, addNeed, removeNeed}
 use Rattle.policy.specs.Tables.{Tables, Unmet}
 use Rattle.policy.specs.Lookup.{Place, Spot, numbers, places, numberOf, serviceOf, serverOf, spotOf}
 use Rattle.policy.specs.Draft.{Look, asksFor, hasWaiting, installedAid, nowGranted}
@@ -49,7 +50,8 @@ module _ (L : Layout) (t : Tables) where
   -- kind 8: a grant of package j is not called by its caller
   abbrev pub shortRemoveGrant : ℕ → Option Spot → Look
   shortRemoveGrant j none = fine
-  shortRemoveGrant j (some p) = record { granted = not (t .calls (p .caller) j (p .service)); needed = true; unmetFits = true; waitingFits = true }
+  shortRemoveGrant j (some p) =
+      record { granted = not (t .calls (p .caller) j (p .service)); needed = true; unmetFits = true; waitingFits = true }
 
   -- kind 9
   abbrev pub shortAddNeed : Option Place → Look
@@ -58,7 +60,9 @@ module _ (L : Layout) (t : Tables) where
   -- kind 3: each unmet call on the new service is by one of the callers, or its grant waits; callers not installed wait, once
   abbrev pub shortAddService : ℕ → Tok → List Aid → Look
   shortAddService j s l = record {
-    granted = every (λ u. implies (asksFor L t (t .aid j) s u) (exists (eqAid (t .aid (u .caller))) l || hasWaiting (record { caller = t .aid (u .caller); callee = j; tok = s }) (t .waiting))) (t .unmet);
+    granted = every (λ u. implies (asksFor L t (t .aid j) s u)
+        (exists (eqAid (t .aid (u .caller))) l || hasWaiting (record { caller = t .aid (u .caller); callee = j; tok = s }) (t .waiting)))
+        (t .unmet);
     needed = true;
     unmetFits = true;
     waitingFits = fits (count (λ w. not (nowGranted L t j s w)) (t .waiting)
@@ -87,7 +91,8 @@ module _ (L : Layout) (t : Tables) where
   module _ (c : Contract) where
     -- the newcomer's calls are granted: a grant to it waits at each server that it calls
     abbrev pub newcomerRights : Bool
-    newcomerRights = every (λ r. orElse (serverOf L t r) true (λ p. hasWaiting (record { caller = c .aid; callee = p .callee; tok = r .tok }) (t .waiting))) (c .calls)
+    newcomerRights = every (λ r. orElse (serverOf L t r) true
+        (λ p. hasWaiting (record { caller = c .aid; callee = p .callee; tok = r .tok }) (t .waiting))) (c .calls)
 
     -- its needs are on the card
     abbrev pub newcomerNeeds : Bool

@@ -62,11 +62,15 @@ module _ (L : Layout) where
 
     -- 'every unmet call has a valid AID other than its caller's, a used caller and no such service on the card'
     abbrev pub unmetOk : Unmet → Bool
-    unmetOk u = (validAid (u .callee) && not (eqAid (u .callee) (t .aid (u .caller)))) && (t .used (u .caller) && not (isSome (serverOf L t (wanted u))))
+    unmetOk u =
+        (validAid (u .callee) && not (eqAid (u .callee) (t .aid (u .caller))))
+        && (t .used (u .caller) && not (isSome (serverOf L t (wanted u))))
 
     -- R-2: 'a grant that waits, of a used callee to another valid AID'
     abbrev pub waitingOk : Waiting → Bool
-    waitingOk w = (validAid (w .caller) && not (eqAid (w .caller) (t .aid (w .callee)))) && (t .used (w .callee) && not (isSome (spotOf L t (w .callee) (grantAt w))))
+    waitingOk w =
+        (validAid (w .caller) && not (eqAid (w .caller) (t .aid (w .callee))))
+        && (t .used (w .callee) && not (isSome (spotOf L t (w .callee) (grantAt w))))
 
     unfoldable pub rowsOk : Bool
     unfolding spotOf serverOf
@@ -87,7 +91,8 @@ module _ (L : Layout) where
     unfoldable pub soundTables : Bool
     unfolding aidsOk tokensOk blanksOk entriesOk bitsProvided needsCalled bitsGranted listsOk rowsOk methodsOk grantsOk
     soundTables =
-        (aidsOk && tokensOk) && (blanksOk && entriesOk) && (bitsProvided && needsCalled) && (bitsGranted && (listsOk && rowsOk)) && (methodsOk && grantsOk)
+        (aidsOk && tokensOk) && (blanksOk && entriesOk) && (bitsProvided && needsCalled)
+        && (bitsGranted && (listsOk && rowsOk)) && (methodsOk && grantsOk)
 
   -- 'the first three bytes are as above'; and no byte but those that the tables give: fill bytes, and list places past the count, are zero
   unfoldable pub sound : List ℕ → Bool

@@ -6,7 +6,8 @@ use lib.Dec.{eqb, ltb}
 use lib.ListN.{length, getD, take, drop, replicate}
 use Rattle.policy.specs.Lists.{flat, upto, first, orElse}
 use Rattle.policy.specs.Contract.{Aid, Tok, eqTok}
-use Rattle.policy.specs.Layout.{Layout, aidSize, unmetSize, waitingSize, usedAt, aidsAt, tokensAt, providesAt, callsAt, grantsAt, needsAt, unmetAt, waitingAt, size}
+use Rattle.policy.specs.Layout.{Layout, aidSize, unmetSize, waitingSize, size}
+use Rattle.policy.specs.Layout.{usedAt, aidsAt, tokensAt, providesAt, callsAt, grantsAt, needsAt, unmetAt, waitingAt}
 
 -- a row of the list of unmet calls
 pub record Unmet : Type 0 where
@@ -117,7 +118,11 @@ module _ (L : Layout) where
   abbrev pub readWaiting : (ℕ → ℕ → Tok) → List ℕ → Waiting
   readWaiting toks bs =
       let j = getD (drop aidSize bs) 0 0 in
-      record { caller = readAid (take aidSize bs); callee = j; tok = cond (L .early) (readTok (drop 1 (drop aidSize bs))) (toks j (getD (drop aidSize bs) 1 0)) }
+      record {
+        caller = readAid (take aidSize bs);
+        callee = j;
+        tok = cond (L .early) (readTok (drop 1 (drop aidSize bs))) (toks j (getD (drop aidSize bs) 1 0));
+      }
 
   -- the number of the service with tokens s that a package provides
   abbrev pub numberWith : (ℕ → Bool) → (ℕ → Tok) → Tok → ℕ
@@ -125,7 +130,8 @@ module _ (L : Layout) where
 
   abbrev pub writeWaiting : (ℕ → ℕ → Bool) → (ℕ → ℕ → Tok) → Waiting → List ℕ
   writeWaiting provides toks w =
-      writeAid (w .caller) ++ (w .callee ∷ cond (L .early) (writeTok (w .tok)) (numberWith (provides (w .callee)) (toks (w .callee)) (w .tok) ∷ []))
+      writeAid (w .caller)
+      ++ (w .callee ∷ cond (L .early) (writeTok (w .tok)) (numberWith (provides (w .callee)) (toks (w .callee)) (w .tok) ∷ []))
 
   -- ---- the whole image
   unfoldable pub decode : List ℕ → Tables

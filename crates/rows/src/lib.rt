@@ -5,7 +5,8 @@ ghost use lib.ListN.{length, getD, replicate};
 ghost use Rattle.policy.specs.Lists.{eqBytes, flat};
 ghost use Rattle.rows.specs.Area.{part, over, rowsIn, IsArea, HasRoom, keepRows, appended, dropped};
 
-// Whether the bytes of a from index at on are those of b. Most that differ do in the last one, so it goes first; the loop over the others has no branches.
+// Whether the bytes of a from index at on are those of b. Most that differ do in the last one, so it goes first;
+// the loop over the others has no branches.
 pub fn same_at(a: &[u8], at: usize, b: &[u8]) -> bool
     requires { ⌜ at + length (now b) ≤ length (now a) ⌝ }
     ensures { λ r. ⌜ r ≡ eqBytes (part at (length (now (b .entry))) (now (a .entry))) (now (b .entry)) ⌝ }

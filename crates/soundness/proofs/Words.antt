@@ -6,7 +6,7 @@ use mathlib.Core.Path.{_≡_, refl, sym, ap, ap₂, _∙_, subst}
 use mathlib.Core.Bool.{Bool, true, false, _&&_}
 use mathlib.Core.List.{List, [], _∷_, _++_}
 use lib.Bits.{bitOr, or-lt, or-add-and, and-le-l, and-le-r}
-use lib.Dec.{T, eqb, eqb→eq, ltb, ltb→lt, lt→ltb}
+use lib.Dec.{eqb, eqb→eq, ltb, ltb→lt, lt→ltb}
 use lib.ListN.{length, take, drop}
 use lib.Seq.{take-take}
 use Rattle.policy.specs.Lists.{every, upto, eqBytes}

@@ -133,7 +133,8 @@ module _ (L : Layout) (l : List ℕ) where
   packagesOk = every packageOk (upto (L .packages))
 
   -- ---- caller i, callee j: 'every unused .. row and column is zero; diagonals are zero; call and grant bits name provided services;
-  -- needs are among call bits; the card is lawful'. Needs are among the calls, calls among the grants, and grants among the provided services, of which an unused callee has none
+  -- needs are among call bits; the card is lawful'. Needs are among the calls, calls among the grants,
+  -- and grants among the provided services, of which an unused callee has none
   abbrev pub grantOk : ℕ → ℕ → ℕ → Bool
   grantOk g i j = eqb g 0 || (not (eqb i j) && bit usedRow i && within g (provRow j))
 
@@ -149,8 +150,8 @@ module _ (L : Layout) (l : List ℕ) where
   unfoldable pub linesOk : Bool
   linesOk = every lineOk (upto (L .packages))
 
-  -- ---- rows of the lists with tokens: 'every unmet call has a valid AID other than its caller's, a used caller and no such service on the card';
-  -- R-2: 'A sound row is a grant that waits, of a used callee to another valid AID'
+  -- ---- rows of the lists with tokens: 'every unmet call has a valid AID other than its caller's, a used caller and no such service on the
+  -- card'; R-2: 'A sound row is a grant that waits, of a used callee to another valid AID'
   abbrev pub isUsed : ℕ → Bool
   isUsed n = ltb n (L .packages) && bit usedRow n
 
@@ -160,14 +161,17 @@ module _ (L : Layout) (l : List ℕ) where
 
   unfoldable pub tokenRowOk : Kept → ℕ → Bool
   tokenRowOk k at =
-      isUsed (byteAt l (at + numberIn k)) && aidOk l at && methodOk (at + tokensIn k) && unserved k (at + tokensIn k) (byteAt l (at + numberIn k)) (numberAt at)
+      isUsed (byteAt l (at + numberIn k)) && aidOk l at && methodOk (at + tokensIn k)
+      && unserved k (at + tokensIn k) (byteAt l (at + numberIn k)) (numberAt at)
 
-  -- ---- rows with a service number, before R-2: 'every waiting grant has a valid AID that is not installed, a used callee and a provided service'
+  -- ---- numbered rows, before R-2: 'every waiting grant has a valid AID that is not installed, a used callee and a provided service'
   abbrev pub isProvided : ℕ → ℕ → Bool
   isProvided j k = ltb j (L .packages) && ltb k (L .services) && bit (provRow j) k
 
   unfoldable pub numberRowOk : ℕ → Bool
-  numberRowOk at = isProvided (byteAt l (at + numberIn WaitingGrants)) (byteAt l (at + tokensIn WaitingGrants)) && aidOk l at && eqb (numberAt at) (L .packages)
+  numberRowOk at =
+      isProvided (byteAt l (at + numberIn WaitingGrants)) (byteAt l (at + tokensIn WaitingGrants))
+      && aidOk l at && eqb (numberAt at) (L .packages)
 
   -- ---- 'list counts are at most 16; no list row repeats'; and the places past the count are zero
   unfoldable pub rowOk : Bool → Kept → ℕ → Bool

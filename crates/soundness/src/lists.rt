@@ -7,7 +7,8 @@ ghost use Rattle.policy.specs.Lists.{every, upto};
 ghost use Rattle.policy.specs.Layout.{waitingAt};
 ghost use Rattle.geometry.specs.Geometry.{layoutOf};
 ghost use Rattle.geometry.specs.declared.Kept.the-variants.{WaitingGrants};
-ghost use Rattle.soundness.specs.Check.{zerosAt, rowSize, numbered as isNumbered, placeAt, listEnd, isUsed, unserved as unservedBy, tokenRowOk, isProvided, numberRowOk, rowOk, newRow, placeOk, listOk};
+ghost use Rattle.soundness.specs.Check.{zerosAt, rowSize, numbered as isNumbered, placeAt, listEnd, isUsed, unserved as unservedBy};
+ghost use Rattle.soundness.specs.Check.{tokenRowOk, isProvided, numberRowOk, rowOk, newRow, placeOk, listOk};
 use crate::bytes;
 use crate::packages;
 use geometry::Card;
@@ -33,7 +34,8 @@ fn is_used(img: &[u8], c: Card, n: usize) -> bool
 
 // Package n, which has a row's AID, is not installed; or it is not the row's own, and there is no service with the tokens at at.
 fn unserved(img: &[u8], c: Card, k: Kept, at: usize, own: usize, n: usize) -> bool
-    requires { ⌜ (waitingAt (layoutOf c) ≤ length (now img)) × (at + 2 ≤ length (now img)) × (own < layoutOf c .packages) × (n ≤ layoutOf c .packages) ⌝ }
+    requires { ⌜ (waitingAt (layoutOf c) ≤ length (now img)) × (at + 2 ≤ length (now img))
+        × (own < layoutOf c .packages) × (n ≤ layoutOf c .packages) ⌝ }
     ensures { λ r. ⌜ r ≡ unservedBy (layoutOf c) (now (img .entry)) k at own n ⌝ }
 {
     if n == geometry::packages(c) {

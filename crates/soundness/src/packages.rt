@@ -5,7 +5,8 @@ ghost use lib.ListN.{length};
 ghost use Rattle.policy.specs.Layout.{waitingAt};
 ghost use Rattle.policy.specs.Tables.{bit};
 ghost use Rattle.geometry.specs.Geometry.{layoutOf};
-ghost use Rattle.soundness.specs.Check.{otherTok, numberAt, newTok, methodsOk, tokOk, toksOk, blankOk, packageOk, packagesOk, usedRow, provRow};
+ghost use Rattle.soundness.specs.Check.{otherTok, numberAt, newTok, methodsOk, tokOk, toksOk};
+ghost use Rattle.soundness.specs.Check.{blankOk, packageOk, packagesOk, usedRow, provRow};
 use crate::bytes;
 use geometry::Card;
 
@@ -49,7 +50,8 @@ pub fn number_of(img: &[u8], c: Card, at: usize) -> usize
 
 // Service k of package j has not the tokens at at.
 fn other_tok(img: &[u8], c: Card, at: usize, j: usize, k: usize) -> bool
-    requires { ⌜ (waitingAt (layoutOf c) ≤ length (now img)) × (at + 2 ≤ length (now img)) × (j < layoutOf c .packages) × (k < layoutOf c .services) ⌝ }
+    requires { ⌜ (waitingAt (layoutOf c) ≤ length (now img)) × (at + 2 ≤ length (now img))
+        × (j < layoutOf c .packages) × (k < layoutOf c .services) ⌝ }
     ensures { λ r. ⌜ r ≡ otherTok (layoutOf c) (now (img .entry)) at j k ⌝ }
 {
     if !provides(img, c, j, k) {
@@ -60,7 +62,8 @@ fn other_tok(img: &[u8], c: Card, at: usize, j: usize, k: usize) -> bool
 
 // None of the first n services of package j has the tokens at at.
 pub fn new_tok(img: &[u8], c: Card, n: usize, at: usize, j: usize) -> bool
-    requires { ⌜ (waitingAt (layoutOf c) ≤ length (now img)) × (n ≤ layoutOf c .services) × (at + 2 ≤ length (now img)) × (j < layoutOf c .packages) ⌝ }
+    requires { ⌜ (waitingAt (layoutOf c) ≤ length (now img)) × (n ≤ layoutOf c .services)
+        × (at + 2 ≤ length (now img)) × (j < layoutOf c .packages) ⌝ }
     ensures { λ r. ⌜ r ≡ newTok (layoutOf c) (now (img .entry)) n at j ⌝ }
 {
     for k in 0..n {
@@ -96,7 +99,8 @@ fn toks_ok(img: &[u8], c: Card, j: usize) -> bool
     true
 }
 
-// The method tokens of package j are below the card's limit. The limit is a power of 2, so a number in which all tokens are gathered is below it where each is.
+// The method tokens of package j are below the card's limit. The limit is a power of 2,
+// so a number in which all tokens are gathered is below it where each is.
 fn methods_ok(img: &[u8], c: Card, j: usize) -> bool
     requires { ⌜ (waitingAt (layoutOf c) ≤ length (now img)) × (j < layoutOf c .packages) ⌝ }
     ensures { λ r. ⌜ r ≡ methodsOk (layoutOf c) (now (img .entry)) j ⌝ }
