@@ -37,14 +37,19 @@ bit-past zero r k h l = ap (λ (x : ℕ). bit x k) (lt-one h) ∙ bit-none k
 bit-past (suc n) r zero h l = absurd (not-suc-le-zero l)
 bit-past (suc n) r (suc k) h l = bit-rest r k ∙ bit-past n (r / 2) k (omega (arith, pow-suc 2 n)) (le-of-suc-le-suc l)
 
+-- what holds of both bits holds of numbers below 2
+two-bits : (P : ℕ → ℕ → Type 0) → P 0 0 → P 0 1 → P 1 0 → P 1 1 → (x y : ℕ) → x < 2 → y < 2 → P x y
+two-bits P a b c d zero zero h l = a
+two-bits P a b c d zero (suc zero) h l = b
+two-bits P a b c d (suc zero) zero h l = c
+two-bits P a b c d (suc zero) (suc zero) h l = d
+two-bits P a b c d zero (suc (suc y)) h l = absurd (omega arith)
+two-bits P a b c d (suc zero) (suc (suc y)) h l = absurd (omega arith)
+two-bits P a b c d (suc (suc x)) y h l = absurd (omega arith)
+
 eqb-one : (x y : ℕ) → x < 2 → y < 2 → eqb x 1 ≡ eqb y 1 → x ≡ y
-eqb-one zero zero h l e = refl
-eqb-one zero (suc zero) h l e = let z : _≡_ {A = ℕ} 0 1 = cc in z
-eqb-one (suc zero) zero h l e = let z : _≡_ {A = ℕ} 0 1 = cc in sym z
-eqb-one (suc zero) (suc zero) h l e = refl
-eqb-one zero (suc (suc y)) h l e = absurd (omega arith)
-eqb-one (suc zero) (suc (suc y)) h l e = absurd (omega arith)
-eqb-one (suc (suc x)) y h l e = absurd (omega arith)
+eqb-one = two-bits (λ x y. eqb x 1 ≡ eqb y 1 → x ≡ y)
+    (λ _. refl) (λ e. let z : _≡_ {A = ℕ} 0 1 = cc in z) (λ e. let z : _≡_ {A = ℕ} 0 1 = cc in sym z) (λ _. refl)
 
 -- two rows of n bits with the same bits are the same
 pub bit-ext : (n a b : ℕ) → a < 2 ^ n → b < 2 ^ n → ((k : ℕ) → k < n → bit a k ≡ bit b k) → a ≡ b
@@ -61,39 +66,24 @@ pub row-is : (n x : ℕ) (f : ℕ → Bool) → x < 2 ^ n → ((k : ℕ) → k <
 row-is n x f h e = bit-ext n x (rowOf n f) h (rowOf-lt n f) (λ k l. e k l ∙ sym (bit-rowOf n f k l))
 
 -- ---- bit by bit
-min-bit : (x y : ℕ) → x < 2 → y < 2 → eqb (min x y) 1 ≡ eqb x 1 && eqb y 1
-min-bit zero zero h l = refl
-min-bit zero (suc zero) h l = refl
-min-bit (suc zero) zero h l = refl
-min-bit (suc zero) (suc zero) h l = refl
-min-bit zero (suc (suc y)) h l = absurd (omega arith)
-min-bit (suc zero) (suc (suc y)) h l = absurd (omega arith)
-min-bit (suc (suc x)) y h l = absurd (omega arith)
-
-max-bit : (x y : ℕ) → x < 2 → y < 2 → eqb (max x y) 1 ≡ eqb x 1 || eqb y 1
-max-bit zero zero h l = refl
-max-bit zero (suc zero) h l = refl
-max-bit (suc zero) zero h l = refl
-max-bit (suc zero) (suc zero) h l = refl
-max-bit zero (suc (suc y)) h l = absurd (omega arith)
-max-bit (suc zero) (suc (suc y)) h l = absurd (omega arith)
-max-bit (suc (suc x)) y h l = absurd (omega arith)
+-- of an operation on rows that is f on bits, and low on the lowest ones
+module _ (op low : ℕ → ℕ → ℕ) (f : Bool → Bool → Bool) (step : (a b : ℕ) → op a b ≡ op (a / 2) (b / 2) * 2 + low (a % 2) (b % 2))
+    (is : (x y : ℕ) → x < 2 → y < 2 → (low x y < 2) × (eqb (low x y) 1 ≡ f (eqb x 1) (eqb y 1))) where
+  bit-by : (a b k : ℕ) → bit (op a b) k ≡ f (bit a k) (bit b k)
+  bit-by a b zero =
+      let i = is (a % 2) (b % 2) (low2 a) (low2 b) in
+      step0 (op a b) (op (a / 2) (b / 2)) (low (a % 2) (b % 2)) (step a b) (i .0) ∙ i .1 ∙ ap₂ f (sym (bit-low a)) (sym (bit-low b))
+  bit-by a b (suc k) =
+      stepS (op a b) (op (a / 2) (b / 2)) (low (a % 2) (b % 2)) k (step a b) (is (a % 2) (b % 2) (low2 a) (low2 b) .0)
+      ∙ bit-by (a / 2) (b / 2) k ∙ ap₂ f (sym (bit-rest a k)) (sym (bit-rest b k))
 
 pub bit-and : (a b k : ℕ) → bit (bitAnd a b) k ≡ bit a k && bit b k
-bit-and a b zero =
-    step0 (bitAnd a b) (bitAnd (a / 2) (b / 2)) (min (a % 2) (b % 2)) (and-step a b) (omega (arith, low2 a, low2 b))
-    ∙ min-bit (a % 2) (b % 2) (low2 a) (low2 b) ∙ ap₂ _&&_ (sym (bit-low a)) (sym (bit-low b))
-bit-and a b (suc k) =
-    stepS (bitAnd a b) (bitAnd (a / 2) (b / 2)) (min (a % 2) (b % 2)) k (and-step a b) (omega (arith, low2 a, low2 b))
-    ∙ bit-and (a / 2) (b / 2) k ∙ ap₂ _&&_ (sym (bit-rest a k)) (sym (bit-rest b k))
+bit-and = bit-by bitAnd min _&&_ and-step
+    (λ x y h l. (omega arith, two-bits (λ x y. eqb (min x y) 1 ≡ eqb x 1 && eqb y 1) refl refl refl refl x y h l))
 
 pub bit-or : (a b k : ℕ) → bit (bitOr a b) k ≡ bit a k || bit b k
-bit-or a b zero =
-    step0 (bitOr a b) (bitOr (a / 2) (b / 2)) (max (a % 2) (b % 2)) (or-step a b) (omega (arith, low2 a, low2 b))
-    ∙ max-bit (a % 2) (b % 2) (low2 a) (low2 b) ∙ ap₂ _||_ (sym (bit-low a)) (sym (bit-low b))
-bit-or a b (suc k) =
-    stepS (bitOr a b) (bitOr (a / 2) (b / 2)) (max (a % 2) (b % 2)) k (or-step a b) (omega (arith, low2 a, low2 b))
-    ∙ bit-or (a / 2) (b / 2) k ∙ ap₂ _||_ (sym (bit-rest a k)) (sym (bit-rest b k))
+bit-or = bit-by bitOr max _||_ or-step
+    (λ x y h l. (omega arith, two-bits (λ x y. eqb (max x y) 1 ≡ eqb x 1 || eqb y 1) refl refl refl refl x y h l))
 
 bit-pow : (k j : ℕ) → bit (2 ^ k) j ≡ eqb j k
 bit-pow zero zero = step0 1 0 1 refl (omega arith)

@@ -3,7 +3,7 @@ use Prim.Native.Nat.{ℕ, _-_, _≤_}
 use native.Mathlib.Omega.{arith}
 use native.Mathlib.Nat.{le-trans}
 use mathlib.Core.Path.{_≡_, refl, sym, ap, _∙_, subst}
-use mathlib.Core.Bool.{_&&_}
+use mathlib.Core.Bool.{Bool, _&&_}
 use mathlib.Core.List.{List, [], _∷_, _++_}
 use lib.Dec.{T, eqb, eqb→eq}
 use lib.ListN.{length, take, drop}
@@ -45,6 +45,22 @@ module _ (L : Layout) (img : List ℕ) (bad : T (sound L img) → ⊥) where
     reading = λ n out. cond-false (sound L img) (readOutTables L (decode L img) n out) (refusal 1 0 out) bad;
   }
 
+-- L's records, on images with other sizes
+abbrev resized : Layout → ℕ → ℕ → ℕ → ℕ → List ℕ → Bool → Layout
+resized L p s w c h e = record {
+  packages = p;
+  services = s;
+  width = w;
+  capacity = c;
+  header = h;
+  early = e;
+  version = L .version;
+  countWidth = L .countWidth;
+  mostRows = L .mostRows;
+  mostCallers = L .mostCallers;
+  methods = L .methods;
+}
+
 -- ---- the passage
 module _ (L M : Layout) where
   -- what stands under L has room under M
@@ -82,36 +98,8 @@ module _ (L M : Layout) where
 
   -- ---- where the bytes stay the same
   module _ (e : SameBytes L M) where
-    -- M's sizes with L's rules
-    abbrev between : Layout
-    between = record {
-      packages = M .packages;
-      services = M .services;
-      width = M .width;
-      capacity = M .capacity;
-      header = M .header;
-      early = M .early;
-      version = L .version;
-      countWidth = L .countWidth;
-      mostRows = L .mostRows;
-      mostCallers = L .mostCallers;
-      methods = L .methods;
-    }
-
-    same-sizes : L ≡ between
-    same-sizes i = record {
-      packages = e .packages i;
-      services = e .services i;
-      width = e .width i;
-      capacity = e .capacity i;
-      header = e .header i;
-      early = e .early i;
-      version = L .version;
-      countWidth = L .countWidth;
-      mostRows = L .mostRows;
-      mostCallers = L .mostCallers;
-      methods = L .methods;
-    }
+    same-sizes : L ≡ resized L (M .packages) (M .services) (M .width) (M .capacity) (M .header) (M .early)
+    same-sizes i = resized L (e .packages i) (e .services i) (e .width i) (e .capacity i) (e .header i) (e .early i)
 
     same-encode : (t : Tables) → encode L t ≡ encode M t
     unfolding encode
@@ -145,35 +133,8 @@ module _ (L M : Layout) where
 
   -- ---- where the sizes stay the same: all that stands before the waiting grants is copied, behind another header
   module _ (lo : LayoutOk L) (ep : L .packages ≡ M .packages) (es : L .services ≡ M .services) (ew : L .width ≡ M .width) (ec : L .capacity ≡ M .capacity) where
-    abbrev sized : Layout
-    sized = record {
-      packages = M .packages;
-      services = M .services;
-      width = M .width;
-      capacity = M .capacity;
-      header = L .header;
-      version = L .version;
-      countWidth = L .countWidth;
-      mostRows = L .mostRows;
-      mostCallers = L .mostCallers;
-      methods = L .methods;
-      early = L .early;
-    }
-
-    sizes : L ≡ sized
-    sizes i = record {
-      packages = ep i;
-      services = es i;
-      width = ew i;
-      capacity = ec i;
-      header = L .header;
-      version = L .version;
-      countWidth = L .countWidth;
-      mostRows = L .mostRows;
-      mostCallers = L .mostCallers;
-      methods = L .methods;
-      early = L .early;
-    }
+    sizes : L ≡ resized L (M .packages) (M .services) (M .width) (M .capacity) (L .header) (L .early)
+    sizes i = resized L (ep i) (es i) (ew i) (ec i) (L .header) (L .early)
 
     same-front : (t : Tables) → front L t ≡ front M t
     unfolding front

@@ -30,103 +30,6 @@ write-number-below t =
     (falls 1 write-number-kinds.ps _<_ μ-write-number t)
     write-number.Pre
 
-write-number-cast-put-byte : (t : ℕ) → write-number-lts.Need-cast-put-byte (
-  put-byte-reads.Asked,
-  put-byte-reads.Learnt,
-  write-number-below t,
-  write-number.Post,
-) (write-number-at t) write-number.Post
-write-number-cast-put-byte t c = search needs
-
-write-number-add-put-byte : (t : ℕ) → write-number-lts.Need-add-put-byte (
-  put-byte-reads.Asked,
-  put-byte-reads.Learnt,
-  write-number-below t,
-  write-number.Post,
-) (write-number-at t) write-number.Post
-write-number-add-put-byte t c = search needs
-
-write-number-put-byte-requires : (t : ℕ) → write-number-lts.Need-put-byte-requires (
-  put-byte-reads.Asked,
-  put-byte-reads.Learnt,
-  write-number-below t,
-  write-number.Post,
-) (write-number-at t) write-number.Post
-write-number-put-byte-requires t c κs = omega (arith, ap length (digits-one _ (c .before .if1 .taken)))
-
-write-number-same-length : (t : ℕ) → write-number-lts.Need-same-length (
-  put-byte-reads.Asked,
-  put-byte-reads.Learnt,
-  write-number-below t,
-  write-number.Post,
-) (write-number-at t) write-number.Post
-write-number-same-length t c = search needs
-
-write-number-returns : (t : ℕ) → write-number-lts.Need-returns (
-  put-byte-reads.Asked,
-  put-byte-reads.Learnt,
-  write-number-below t,
-  write-number.Post,
-) (write-number-at t) write-number.Post
-write-number-returns t c = rw (digits-one _ (c .before .before .before .before .if1 .taken)) (c .before .before .put-byte .ensures)
-
-write-number-write-number-requires : (t : ℕ) → write-number-lts.Need-write-number-requires (
-  put-byte-reads.Asked,
-  put-byte-reads.Learnt,
-  write-number-below t,
-  write-number.Post,
-) (write-number-at t) write-number.Post
-write-number-write-number-requires t c κs =
-    let s = c .before .before .before in
-    (omega arith, omega (arith, length-more (s .args .n) (c .before .if1 .left)))
-
-write-number-cast-put-byte-2 : (t : ℕ) → write-number-lts.Need-cast-put-byte-2 (
-  put-byte-reads.Asked,
-  put-byte-reads.Learnt,
-  write-number-below t,
-  write-number.Post,
-) (write-number-at t) write-number.Post
-write-number-cast-put-byte-2 t c = search needs
-
-write-number-add-put-byte-2 : (t : ℕ) → write-number-lts.Need-add-put-byte-2 (
-  put-byte-reads.Asked,
-  put-byte-reads.Learnt,
-  write-number-below t,
-  write-number.Post,
-) (write-number-at t) write-number.Post
-write-number-add-put-byte-2 t c = search needs
-
-write-number-put-byte-requires-2 : (t : ℕ) → write-number-lts.Need-put-byte-requires-2 (
-  put-byte-reads.Asked,
-  put-byte-reads.Learnt,
-  write-number-below t,
-  write-number.Post,
-) (write-number-at t) write-number.Post
-write-number-put-byte-requires-2 t c κs =
-    let s = c .before .before .before .before .before .before .before in
-    let w = c .before .before .before .write-number in
-    omega (arith, length-more (s .args .n) (c .before .before .before .before .before .if1 .left), w .ensures .ends, w .kept .0, s .pre .1)
-
-write-number-same-length-2 : (t : ℕ) → write-number-lts.Need-same-length-2 (
-  put-byte-reads.Asked,
-  put-byte-reads.Learnt,
-  write-number-below t,
-  write-number.Post,
-) (write-number-at t) write-number.Post
-write-number-same-length-2 t c = search needs
-
-write-number-returns-2 : (t : ℕ) → write-number-lts.Need-returns-2 (
-  put-byte-reads.Asked,
-  put-byte-reads.Learnt,
-  write-number-below t,
-  write-number.Post,
-) (write-number-at t) write-number.Post
-write-number-returns-2 t c =
-    let s = c .before .before .before .before .before .before .before .before .before .before in
-    let left = c .before .before .before .before .before .before .before .before .if1 .left in
-    rw (digits-more (s .args .n) left)
-    (after _ _ _ _ _ _ _ _ (omega (arith, length-more (s .args .n) left, s .pre .1)) (c .before .before .before .before .before .before .write-number .ensures) (c .before .before .put-byte2 .ensures))
-
 pub +write-number-spec : {M : Type 1} → statement M
 +write-number-spec = close μ-write-number λ t. write-number-lts.spec (
   put-byte-reads.Asked,
@@ -136,14 +39,19 @@ pub +write-number-spec : {M : Type 1} → statement M
 )
     (write-number-at t)
     write-number.Post
-    (write-number-cast-put-byte t)
-    (write-number-add-put-byte t)
-    (write-number-put-byte-requires t)
-    (write-number-same-length t)
-    (write-number-returns t)
-    (write-number-write-number-requires t)
-    (write-number-cast-put-byte-2 t)
-    (write-number-add-put-byte-2 t)
-    (write-number-put-byte-requires-2 t)
-    (write-number-same-length-2 t)
-    (write-number-returns-2 t)
+    (λ c. search needs)
+    (λ c. search needs)
+    (λ c κs. omega (arith, ap length (digits-one _ (c .before .if1 .taken))))
+    (λ c. search needs)
+    (λ c. rw (digits-one _ (c .before .before .before .before .if1 .taken)) (c .before .before .put-byte .ensures))
+    (λ c κs. (omega arith, omega (arith, length-more (c .before .before .before .args .n) (c .before .if1 .left))))
+    (λ c. search needs)
+    (λ c. search needs)
+    (λ c κs. let s = c .before .before .before .before .before .before .before in
+    let w = c .before .before .before .write-number in
+    omega (arith, length-more (s .args .n) (c .before .before .before .before .before .if1 .left), w .ensures .ends, w .kept .0, s .pre .1))
+    (λ c. search needs)
+    (λ c. let s = c .before .before .before .before .before .before .before .before .before .before in
+    let left = c .before .before .before .before .before .before .before .before .if1 .left in
+    rw (digits-more (s .args .n) left)
+    (after _ _ _ _ _ _ _ _ (omega (arith, length-more (s .args .n) left, s .pre .1)) (c .before .before .before .before .before .before .write-number .ensures) (c .before .before .put-byte2 .ensures)))
