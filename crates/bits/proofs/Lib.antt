@@ -1,2 +1,4 @@
 pub mod Loops
 pub mod Row
+pub mod Tests
+pub mod Gathered

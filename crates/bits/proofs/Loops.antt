@@ -1,16 +1,19 @@
--- Laws of the tests over the numbers below n: what a loop that counts up has shown, and when two tests agree. Assumes nothing.
+-- Laws of the tests over the numbers below n, and over the rows of a list: what a loop has shown, and when two tests agree. Assumes nothing.
 use Prim.Native.Nat.{ℕ, zero, suc, _+_, _-_, _≤_, _<_}
 use native.Mathlib.Omega.{arith}
 use native.Mathlib.Nat.{zero-add}
 use mathlib.Core.Path.{_≡_, refl, sym, ap, ap₂, _∙_}
 use mathlib.Core.Bool.{Bool, true, false, not, _&&_, _||_, cond, and-true, or-false, and-assoc, or-assoc}
-use mathlib.Core.List.{List, [], _∷_, _++_, append-nil}
-use mathlib.Core.List.{List·Memᴰ as In, List·Memᴰ·head as here, List·Memᴰ·tail as there}
+use mathlib.Core.List.{List, [], _∷_, _++_, append-nil, List·Memᴰ as In, List·Memᴰ·head as here, List·Memᴰ·tail as there}
 use mathlib.Core.Option.{Option, none, some}
 use borrow.Author.Needs.{needs}
 use Rattle.policy.specs.Lists.{every, exists, keep, first, from, upto, orElse}
 use borrow.Author.Tests.{not-true, not-false}
 use Rattle.policy.proofs.Sets.{T-true, T-false, true-T, false-T, every-in, in-every, exists-in, in-exists, keep-ext, from-in, upto-in, in-upto}
+use lib.Dec.{T}
+use lib.ListN.{length, getD, drop, drop-of-length-le}
+use lib.Seq.{drop-cons}
+use native.Mathlib.Numerals.{add-one}
 
 -- ---- the numbers below n and d more; one more
 from-split : (i n d : ℕ) → from i (n + d) ≡ from i n ++ from (i + n) d
@@ -183,3 +186,19 @@ module _ (f : ℕ → Bool) (n m : ℕ) (h : n ≤ m) where
       go zero q none = omega arith
       go zero q (some x) = refl
       go (suc d) q o = at-n d o (f n) (e n (omega arith))
+
+-- ---- a loop over the rows of a list: those from r on decide
+module _ {A : Type 0} (f : A → Bool) (l : List A) (d : A) where
+  row-here : (r : ℕ) → r < length l → every f (drop r l) ≡ f (getD l r d) && every f (drop (r + 1) l)
+  row-here r h = rw (add-one r) (ap (every f) (drop-cons l r d h))
+
+  pub rows-stop : (r : ℕ) (b : Bool) → r < length l → every f (drop r l) ≡ every f l → b ≡ f (getD l r d) → not b ≡ true → false ≡ every f l
+  rows-stop r false h e q n = ap (λ (z : Bool). z && every f (drop (r + 1) l)) q ∙ sym (row-here r h) ∙ e
+  rows-stop r true h e q n = absurd (false-T (sym n) tt)
+
+  pub rows-next : (r : ℕ) (b : Bool) → r < length l → every f (drop r l) ≡ every f l → b ≡ f (getD l r d) → not b ≡ false → every f (drop (r + 1) l) ≡ every f l
+  rows-next r true h e q n = ap (λ (z : Bool). z && every f (drop (r + 1) l)) q ∙ sym (row-here r h) ∙ e
+  rows-next r false h e q n = absurd (false-T n tt)
+
+  pub rows-end : (r : ℕ) → length l ≤ r → every f (drop r l) ≡ every f l → true ≡ every f l
+  rows-end r h e = sym (ap (every f) (drop-of-length-le l {i = r} h)) ∙ e

@@ -6,7 +6,7 @@ use mathlib.Core.Path.{_≡_, refl, sym, ap, ap₂, _∙_}
 use mathlib.Core.Logic.{_⊎_, inl, inr}
 use mathlib.Core.Bool.{Bool, true, false, _&&_, _||_, not, cond, or-comm, and-comm}
 use mathlib.Core.List.{List, _∷_}
-use mathlib.Core.Option.{Option, some}
+use mathlib.Core.Option.{Option, some, none}
 use lib.Dec.{eqb, eqb→eq, eqb·zero-suc, eqb·suc-zero, eqb·suc-suc}
 use lib.ListN.{length}
 use lib.Arith.{lt-one}
@@ -16,10 +16,11 @@ use lib.Count.{ones, ones-step, trailingZeros, under}
 use borrow.Author.Tests.{eq-eqb}
 use Rattle.policy.specs.Lists.{implies, every, keep, first, from, upto, orElse}
 use Rattle.policy.specs.Tables.{bit, rowOf}
-use Rattle.policy.proofs.Sets.{T-eq, T-true, true-T, upto-in}
+use Rattle.policy.proofs.Sets.{T-eq, T-true, true-T, upto-in, keep-ext}
 use Rattle.policy.proofs.Pieces.{in-or-off}
 use Rattle.policy.proofs.Bits.{bit-low, bit-rest, bit-none, bit-rowOf, rowOf-lt}
 use Rattle.bits.proofs.Loops.{every-at, every-intro, first-ext, keep-narrow, first-past}
+use Rattle.policy.specs.ShortCheck.{count}
 
 -- a number made of its lowest bit c and the rest y
 step0 : (x y c : ℕ) → x ≡ y * 2 + c → c < 2 → bit x zero ≡ eqb c 1
@@ -211,3 +212,18 @@ module _ (n : ℕ) (f : ℕ → Bool) (off : (k : ℕ) → n ≤ k → f k ≡ f
 
   pub row-narrow : (m : ℕ) → n ≤ m → rowOf m f ≡ rowOf n f
   row-narrow m h = sym (row-is m (rowOf n f) f (lt-of-lt-of-le (rowOf-lt n f) (pow-mono h)) (λ k _. bits-row k))
+
+-- ---- a row of n bits that was read
+module _ (n : ℕ) (f : ℕ → Bool) (r : ℕ) (e : r ≡ rowOf n f) where
+  pub row-bit : (k : ℕ) → k < n → bit r k ≡ f k
+  row-bit k h = ap (λ (x : ℕ). bit x k) e ∙ bit-rowOf n f k h
+
+  -- how many it has
+  pub row-count : n ≤ 16 → (q : ℕ) → q ≡ length (keep (bit r) (upto 16)) → q ≡ count f (upto n)
+  row-count h q p =
+      p ∙ ap (λ (x : ℕ). length (keep (bit x) (upto 16))) e
+      ∙ ap length (keep-row n 16 (rowOf n f) h (rowOf-lt n f) ∙ keep-ext (bit (rowOf n f)) f (upto n) (λ k m. bit-rowOf n f k (upto-in n m)))
+
+-- a bit of a row that was read
+pub bit-seen : (n : ℕ) (f : ℕ → Bool) (row k : ℕ) (b : Bool) → b ≡ bit row k → row ≡ rowOf n f → k < n → b ≡ f k
+bit-seen n f row k b e q h = e ∙ ap (λ (r : ℕ). bit r k) q ∙ bit-rowOf n f k h

@@ -14,7 +14,7 @@ use Rattle.image.specs.Laid.{Laid, withUnmet, withWaiting, withItems}
 use Rattle.image.specs.Wrote.{Wrote}
 use Rattle.image.proofs.Clears.{wrote-then}
 use Rattle.changes.specs.Left.{behind, RoomBehind}
-use Rattle.changes.proofs.Gathered.{flat-snoc, flat-room}
+use Rattle.bits.proofs.Gathered.{flat-snoc, flat-room}
 
 pub wrote-as : (L : Layout) {img : List ℕ} {t t′ : Tables} → t ≡ t′ → Wrote L img t → Wrote L img t′
 wrote-as L {img} e w = subst (λ (z : Tables). Wrote L img z) e w

@@ -3,59 +3,44 @@ use Prim.Native.Nat.{ℕ, _+_, _≤_, _<_}
 use native.Mathlib.Omega.{arith}
 use mathlib.Core.Path.{_≡_, refl, sym, ap, _∙_}
 use mathlib.Core.Bool.{Bool, true, false, not, cond}
-use mathlib.Core.List.{List, [], _∷_}
+use mathlib.Core.List.{List, [], _∷_, _++_, map}
 use lib.ListN.{length}
-use mir.Val.{boolByte}
 use borrow.Author.Tests.{not-true, not-false}
-use Rattle.policy.specs.Lists.{keep, upto}
+use Rattle.policy.specs.Lists.{keep, flat}
 use Rattle.policy.specs.Contract.{Aid, Tok}
 use Rattle.policy.specs.Layout.{Layout}
-use Rattle.policy.specs.Tables.{Tables, Unmet, Waiting, bit, rowOf, decode}
-use Rattle.policy.specs.ShortCheck.{count}
-use Rattle.policy.proofs.Sets.{length-keep, keep-ext, length-from, upto-in}
-use Rattle.policy.proofs.Bits.{bit-rowOf, rowOf-lt}
-use Rattle.bits.proofs.Row.{keep-row}
+use Rattle.policy.specs.Tables.{Tables, Unmet, Waiting, bit, decode}
+use Rattle.policy.specs.ShortCheck.{count, sum}
+use Rattle.policy.proofs.Sets.{flat-ext, pairs}
 use Rattle.geometry.specs.declared.Card.{Card}
 use Rattle.geometry.specs.declared.Table.{Table}
 use Rattle.geometry.specs.declared.Table.the-variants.{Calls, Grants, Needs}
 use Rattle.geometry.specs.declared.Kept.{Kept}
 use Rattle.geometry.specs.declared.Kept.the-variants.{UnmetCalls, WaitingGrants}
-use Rattle.geometry.specs.Geometry.{layoutOf, tokAt}
-use Rattle.geometry.proofs.Bounds.{layout-ok, early}
-use Rattle.image.specs.Read.{Item, item, tokensIn}
+use Rattle.geometry.specs.Geometry.{layoutOf}
+use Rattle.image.specs.Read.{Item, item}
 use Rattle.image.specs.Laid.{Laid, tableOf, withUnmet, withWaiting}
 use Rattle.image.specs.Wrote.{Wrote}
-use Rattle.image.proofs.Access.{tok-itf, tok-mth}
 use Rattle.changes.specs.Left.{only, byList, behind, leftOne}
 use Rattle.changes.proofs.AppendedRows.{wrote-as, behind-none}
+use Rattle.policy.proofs.ShortRemove.{length-pairs}
 
--- ---- a row of n bits that was read
-module _ (n : ℕ) (f : ℕ → Bool) (r : ℕ) (e : r ≡ rowOf n f) where
-  pub row-bit : (k : ℕ) → k < n → bit r k ≡ f k
-  row-bit k h = ap (λ (x : ℕ). bit x k) e ∙ bit-rowOf n f k h
-
-  -- how many it has
-  pub row-count : n ≤ 16 → (q : ℕ) → q ≡ length (keep (bit r) (upto 16)) → q ≡ count f (upto n)
-  row-count h q p =
-      p ∙ ap (λ (x : ℕ). length (keep (bit x) (upto 16))) e
-      ∙ ap length (keep-row n 16 (rowOf n f) h (rowOf-lt n f) ∙ keep-ext (bit (rowOf n f)) f (upto n) (λ k m. bit-rowOf n f k (upto-in n m)))
-
-pub count-le : (f : ℕ → Bool) (n : ℕ) → count f (upto n) ≤ n
-count-le f n = let e = length-from 0 n in omega (arith, length-keep f (upto n))
-
-pub bits-low : (r q : ℕ) → q ≡ length (keep (bit r) (upto 16)) → q ≤ 16
-bits-low r q e = omega (arith, count-le (bit r) 16)
-
-pub bool-low : (b : Bool) → boolByte b ≤ 16
-bool-low true = omega arith
-bool-low false = omega arith
-
-pub bool-is : (b c : Bool) → b ≡ c → boolByte b ≡ cond c 1 0
-bool-is b c e = ap boolByte e ∙ go c
+-- ---- rows where a test has them
+pub only-keep : {A : Type 0} (f : ℕ → Bool) (g : ℕ → A) (l : List ℕ) → flat (λ k. only (f k) (g k)) l ≡ map g (keep f l)
+only-keep f g [] = refl
+only-keep {A} f g (x ∷ l) = go (f x) (only-keep f g l)
   where
-    go : (c : Bool) → boolByte c ≡ cond c 1 0
-    go true = refl
-    go false = refl
+    go : (b : Bool) → flat (λ k. only (f k) (g k)) l ≡ map g (keep f l) → only b (g x) ++ flat (λ k. only (f k) (g k)) l ≡ map g (cond b (x ∷ keep f l) (keep f l))
+    go true e = ap (λ (z : List A). g x ∷ z) e
+    go false e = e
+
+-- the rows of pairs of numbers, and how many they are
+module _ {A : Type 0} (g : ℕ → ℕ → A) (f : ℕ → ℕ → Bool) (l m : List ℕ) where
+  pub only-pairs : flat (λ i. flat (λ k. only (f i k) (g i k)) l) m ≡ pairs g f l m
+  only-pairs = flat-ext (λ i. flat (λ k. only (f i k) (g i k)) l) (λ i. map (g i) (keep (f i) l)) m (λ i _. only-keep (f i) (g i) l)
+
+  pub length-only : length (flat (λ i. flat (λ k. only (f i k) (g i k)) l) m) ≡ sum (λ i. count (f i) l) m
+  length-only = ap length only-pairs ∙ length-pairs g f l m
 
 -- ---- one row, where the row of bits has it
 pub only-room : {A : Type 0} (b r : Bool) (x : A) (n most : ℕ) → r ≡ b → not r ≡ false → n + length (only b x) ≤ most → n < most

@@ -1,12 +1,11 @@
 pub mod Verdicts
 pub mod RemovalCauses
 pub mod Tests
-pub mod ListLoops
+pub mod ItemRoom
 pub mod SoundRows
 pub mod MaskedRows
 pub mod ItemLoops
 pub mod AppendedRows
-pub mod Gathered
 pub mod LeftRows
 pub mod OwnRows
 pub mod OwnWrites

@@ -17,7 +17,7 @@ use Rattle.geometry.specs.declared.Kept.{Kept}
 use Rattle.geometry.specs.declared.Kept.the-variants.{UnmetCalls, WaitingGrants}
 use Rattle.image.specs.Read.{itemsOf, maskOf}
 use Rattle.image.proofs.Masks.{mask-count}
-use Rattle.changes.proofs.Gathered.{count-others}
+use Rattle.bits.proofs.Gathered.{count-others}
 
 pub rows-fit : {L : Layout} {t : Tables} → Room L t → (l : Kept) → length (itemsOf l t) ≤ L .capacity
 rows-fit room UnmetCalls = room .unmet-fits

@@ -25,15 +25,7 @@ use Rattle.image.proofs.Access as at
 use Rattle.image.proofs.Places.{list-fits}
 use Rattle.image.proofs.Seen.{aid-held, laid-size}
 use Rattle.image.proofs.Masks.{mask-start, mask-turn, mask-doubles, mask-adds, mask-end}
-
--- ---- a test of the tokens first, then of the AID
-pub other : (b : Bool) (x y : Bool) → b ≡ y → not b ≡ true → false ≡ x && y
-other false x y e q = sym (and-false x) ∙ ap (λ (z : Bool). x && z) e
-other true x y e q = absurd (false-T (sym q) tt)
-
-pub alike : (b r x y : Bool) → b ≡ y → not b ≡ false → r ≡ x → r ≡ x && y
-alike true r x y e q z = z ∙ sym (and-true x) ∙ ap (λ (v : Bool). x && v) e
-alike false r x y e q z = absurd (false-T q tt)
+use Rattle.bits.proofs.Tests.{other, alike}
 
 module _ (c : Card) (img : List ℕ) (h : Laid (layoutOf c) img) (l : Kept) where
   abbrev t : Tables

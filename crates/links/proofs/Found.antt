@@ -11,9 +11,8 @@ use borrow.Author.Tests.{eq-eqb, ne-eqb, lt-ltb, le-ltb, not-true, not-false}
 use Rattle.policy.specs.Lists.{orElse}
 use Rattle.policy.specs.Contract.{Aid, eqAid, eqTok, Row}
 use Rattle.policy.specs.Layout.{Layout}
-use Rattle.policy.specs.Tables.{Tables, bit, rowOf}
+use Rattle.policy.specs.Tables.{Tables}
 use Rattle.policy.specs.Lookup.{Place as Found, Spot as SpotFound, numberOf, serverOf, spotOf}
-use Rattle.policy.proofs.Bits.{bit-rowOf}
 use Rattle.geometry.specs.declared.Kept.{Kept}
 use Rattle.image.specs.declared.read.Place.{Place}
 use Rattle.image.specs.declared.read.Spot.{Spot}
@@ -147,7 +146,3 @@ pub ruleset plans = (
   grant-called,
   needs,
 )
-
--- a bit of a row that was read
-pub bit-seen : (n : ℕ) (f : ℕ → Bool) (row k : ℕ) (b : Bool) → b ≡ bit row k → row ≡ rowOf n f → k < n → b ≡ f k
-bit-seen n f row k b e q h = e ∙ ap (λ (r : ℕ). bit r k) q ∙ bit-rowOf n f k h

@@ -11,7 +11,7 @@ use Rattle.policy.specs.Tables.{bit, rowOf}
 use Rattle.policy.proofs.Sets.{length-keep, length-from, upto-in, keep-ext}
 use Rattle.policy.proofs.Bits.{rowOf-lt, bit-rowOf}
 use Rattle.bits.proofs.Row.{keep-row}
-use Rattle.changes.proofs.Gathered.{flat-snoc, flat-room}
+use Rattle.bits.proofs.Gathered.{flat-snoc, flat-room}
 use Rattle.readout.specs.Parts.{Put, Short}
 use Rattle.readout.proofs.Writers.{after, put-nothing}
 

@@ -25,12 +25,13 @@ use Rattle.policy.proofs.Sets.{length-keep}
 use Rattle.image.specs.declared.read.Place.{Place}
 use Rattle.image.specs.Read.{numberOr, placeOr, maskOf}
 use Rattle.image.proofs.Laid.{sound-laid}
-use Rattle.image.proofs.Listed.{other, alike}
+use Rattle.bits.proofs.Tests.{other, alike}
 use Rattle.image.proofs.Numbers.{package-below, service-below, server-none, server-some}
 use Rattle.record.specs.Meaning.{Stands, Uncons, itemsIn}
 use Rattle.record.specs.declared.Items.{Items}
 use Rattle.record.proofs.Loops.{Todo, Left, todo-start, todo-end, todo-cons, todo-next, every-stop, every-next, count-yes, count-no}
-use Rattle.changes.proofs.Tests.{unnamed, named-so, not-asking, asking-by, found-below, served-is}
+use Rattle.bits.proofs.Tests.{unnamed, named-so, not-asking, asking-by}
+use Rattle.changes.proofs.Tests.{found-below, served-is}
 use Rattle.packages.specs.Loads.{meets, present, comesDue, waitsAt, callGranted, CallsCome, grantFits, othersGranted, unmetFit, waitingFit, limitCause, loadCause, bothThere}
 use Rattle.changes.specs.Own.{served}
 use Rattle.packages.specs.declared.decide.Called.{Called}

@@ -30,7 +30,7 @@ use Rattle.image.specs.Read.{maskOf, item, unmetRow}
 use Rattle.image.proofs.Masks.{mask-bit, mask-zero, zero-mask, mask-and, mask-count}
 use Rattle.packages.specs.Loads.{meets, bothThere, comesDue, waitsAt, callGranted, grantFits, othersGranted, loadLook, loadCause, loadOf}
 use Rattle.changes.specs.Own.{served}
-use Rattle.changes.proofs.Gathered.{count-others}
+use Rattle.bits.proofs.Gathered.{count-others}
 
 -- ---- a list by the numbers of its elements
 every-rows : {A : Type 0} (d : A) (F : A → Bool) (G : ℕ → Bool) (i : ℕ) (l : List A) → ((r : ℕ) → r < length l → G (i + r) ≡ F (getD l r d)) → every G (from i (length l)) ≡ every F l

@@ -25,10 +25,12 @@ use Rattle.policy.specs.Lookup.{numbers, places, serviceAt}
 use Rattle.policy.specs.Draft.{callRow, leftBy}
 use Rattle.image.proofs.Masks.{mask-count, keep-mask}
 use Rattle.packages.specs.Removal.{leftRows, rowsWithout, listWithout, RoomWithout, listsWithout}
-use Rattle.changes.proofs.Gathered.{only-pairs, length-only, count-others}
+use Rattle.changes.proofs.LeftRows.{only-pairs, length-only}
+use Rattle.bits.proofs.Gathered.{count-others}
 use Rattle.rows.specs.Area.{keepRows}
 use Rattle.image.proofs.Clears.{wrote-then}
-use Rattle.changes.proofs.LeftRows.{table-apart, row-bit}
+use Rattle.changes.proofs.LeftRows.{table-apart}
+use Rattle.bits.proofs.Row.{row-bit}
 
 module _ (L : Layout) (l : Kept) (t : Tables) (tb : Table) where
   -- the rows that turn i of `leave_rows` leaves: r are the bits that it reads, and j whose services they are of

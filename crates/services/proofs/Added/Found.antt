@@ -19,7 +19,7 @@ use Rattle.image.specs.Read.{maskOf, numberOr, unmetRow}
 use Rattle.image.proofs.Masks.{mask-count}
 use Rattle.image.proofs.Numbers.{package-none, package-some}
 use Rattle.services.specs.Adding.{waitsIn, isLone, dueTo, byCallers}
-use Rattle.changes.proofs.Tests.{asking-by}
+use Rattle.bits.proofs.Tests.{asking-by}
 use Rattle.changes.proofs.MaskedRows.{named}
 
 -- ---- an AID on the card, or not

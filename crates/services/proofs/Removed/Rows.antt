@@ -27,9 +27,9 @@ use Rattle.changes.proofs.AppendedRows.{apart}
 use lib.Dec.{eqb, eqb→eq}
 use Rattle.policy.specs.Lookup.{numbers, places, serviceAt}
 use Rattle.policy.specs.Draft.{callRow, leftBy}
-use Rattle.changes.proofs.Gathered.{only-keep}
+use Rattle.changes.proofs.LeftRows.{only-keep}
 use Rattle.image.proofs.Clears.{wrote-then}
-use Rattle.changes.proofs.LeftRows.{row-bit}
+use Rattle.bits.proofs.Row.{row-bit}
 
 -- ---- an AID in a copy of its place
 module _ (place : List ℕ) (a : Aid) (e : place ≡ writeAid a) (h : length a ≤ 16) where

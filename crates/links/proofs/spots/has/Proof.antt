@@ -6,7 +6,7 @@ use Rattle.policy.specs.Tables.{decode}
 use Rattle.geometry.specs.Geometry.{layoutOf}
 use Rattle.geometry.proofs.Bounds.{limits}
 use Rattle.image.specs.Laid.{tableOf}
-use Rattle.links.proofs.Found.{bit-seen}
+use Rattle.bits.proofs.Row.{bit-seen}
 use Rattle.links.proofs.spots.has.Statement.{statement}
 use Rattle.links.proofs.spots.has.Tie as tie
 

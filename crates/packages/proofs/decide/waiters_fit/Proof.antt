@@ -9,7 +9,7 @@ use Rattle.policy.specs.ShortCheck.{count}
 use Rattle.geometry.specs.Geometry.{layoutOf}
 use Rattle.record.specs.Meaning.{itemsIn}
 use Rattle.record.proofs.Loops.{Todo, todo-start}
-use Rattle.changes.proofs.ListLoops.{room-stop, room-next, room-end}
+use Rattle.changes.proofs.ItemRoom.{room-stop, room-next, room-end}
 use Rattle.packages.specs.Loads.{bothThere}
 use Rattle.packages.proofs.decide.waiters_fit.Statement.{statement}
 use Rattle.packages.proofs.decide.waiters_fit.Tie as tie

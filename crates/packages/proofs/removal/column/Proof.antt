@@ -8,8 +8,9 @@ use Rattle.policy.specs.ShortCheck.{count}
 use Rattle.geometry.specs.Geometry.{layoutOf}
 use Rattle.geometry.proofs.Bounds.{limits}
 use Rattle.image.specs.Laid.{tableOf}
-use Rattle.changes.proofs.Gathered.{Tally, tally-start, tally-less, tally-next, tally-fits, tally-turn, tally-end}
-use Rattle.changes.proofs.LeftRows.{row-count, bits-low}
+use Rattle.bits.proofs.Gathered.{Tally, tally-start, tally-less, tally-next, tally-fits, tally-turn, tally-end}
+use Rattle.bits.proofs.Row.{row-count}
+use Rattle.bits.proofs.Gathered.{bits-low}
 use Rattle.packages.proofs.removal.column.Statement.{statement}
 use Rattle.packages.proofs.removal.column.Tie as tie
 

@@ -14,7 +14,7 @@ use Rattle.image.proofs.Laid.{sound-laid}
 use Rattle.record.specs.Meaning.{itemsIn}
 use Rattle.services.specs.Adding.{byCallers}
 use Rattle.services.proofs.Added.Found.{row-by}
-use Rattle.changes.proofs.ListLoops.{rows-stop, rows-next, rows-end}
+use Rattle.bits.proofs.Loops.{rows-stop, rows-next, rows-end}
 use borrow.Author.Needs.{needs}
 use Rattle.services.proofs.adding.all_granted.Statement.{statement}
 use Rattle.services.proofs.adding.all_granted.Tie as tie

@@ -12,7 +12,7 @@ use Rattle.geometry.specs.Geometry.{layoutOf}
 use Rattle.record.specs.Meaning.{itemsIn}
 use Rattle.record.proofs.Loops.{Todo, todo-start}
 use Rattle.services.specs.Adding.{isLone}
-use Rattle.changes.proofs.ListLoops.{room-end, room-stop, room-next}
+use Rattle.changes.proofs.ItemRoom.{room-end, room-stop, room-next}
 use Rattle.services.proofs.adding.callers_fit.Statement.{statement}
 use Rattle.services.proofs.adding.callers_fit.Tie as tie
 

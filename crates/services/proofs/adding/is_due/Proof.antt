@@ -7,7 +7,7 @@ use Rattle.geometry.specs.Geometry.{layoutOf}
 use Rattle.image.specs.Read.{waitingRow}
 use Rattle.geometry.specs.declared.Kept.the-variants.{WaitingGrants}
 use Rattle.image.proofs.Listed.{list-low}
-use Rattle.changes.proofs.Tests.{unnamed, named-so}
+use Rattle.bits.proofs.Tests.{unnamed, named-so}
 use Rattle.services.proofs.Added.Found.{below-installed}
 use Rattle.services.proofs.adding.is_due.Statement.{statement}
 use Rattle.services.proofs.adding.is_due.Tie as tie

@@ -4,7 +4,7 @@ use denote.Ref.{now}
 use borrow.Author.Needs.{needs}
 use Rattle.geometry.specs.declared.Kept.the-variants.{WaitingGrants}
 use Rattle.image.proofs.Listed.{list-low}
-use Rattle.changes.proofs.Tests.{unnamed, named-so}
+use Rattle.bits.proofs.Tests.{unnamed, named-so}
 use Rattle.services.proofs.adding.row_for.Statement.{statement}
 use Rattle.services.proofs.adding.row_for.Tie as tie
 

@@ -9,7 +9,7 @@ use Rattle.geometry.specs.declared.Kept.the-variants.{UnmetCalls}
 use Rattle.image.proofs.Laid.{sound-laid}
 use Rattle.image.proofs.Listed.{list-low}
 use Rattle.changes.proofs.SoundRows.{caller-used}
-use Rattle.changes.proofs.Tests.{not-asking}
+use Rattle.bits.proofs.Tests.{not-asking}
 use Rattle.services.proofs.Added.Found.{row-among, row-due}
 use Rattle.services.proofs.adding.row_granted.Statement.{statement}
 use Rattle.services.proofs.adding.row_granted.Tie as tie

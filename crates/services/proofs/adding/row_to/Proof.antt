@@ -7,7 +7,7 @@ use mathlib.Core.Path.{ap}
 use lib.Dec.{eqb}
 use Rattle.geometry.specs.declared.Kept.the-variants.{WaitingGrants}
 use Rattle.image.proofs.Listed.{list-low}
-use Rattle.changes.proofs.Tests.{unnamed, named-so}
+use Rattle.bits.proofs.Tests.{unnamed, named-so}
 use Rattle.services.proofs.adding.row_to.Statement.{statement}
 use Rattle.services.proofs.adding.row_to.Tie as tie
 

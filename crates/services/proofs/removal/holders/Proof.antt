@@ -9,8 +9,9 @@ use Rattle.policy.specs.Lookup.{numbers}
 use Rattle.geometry.specs.Geometry.{layoutOf}
 use Rattle.geometry.proofs.Bounds.{limits}
 use Rattle.services.specs.Removal.{between}
-use Rattle.changes.proofs.Gathered.{Tally, tally-start, tally-fits, tally-turn, tally-end, sum-count}
-use Rattle.changes.proofs.LeftRows.{row-bit, bool-low, bool-is}
+use Rattle.bits.proofs.Gathered.{Tally, tally-start, tally-fits, tally-turn, tally-end, sum-count}
+use Rattle.bits.proofs.Row.{row-bit}
+use Rattle.bits.proofs.Tests.{bool-low, bool-is}
 use Rattle.services.proofs.removal.holders.Statement.{statement}
 use Rattle.services.proofs.removal.holders.Tie as tie
 

@@ -8,7 +8,7 @@ use Rattle.geometry.specs.Geometry.{layoutOf}
 use Rattle.geometry.proofs.Bounds.{limits}
 use Rattle.image.proofs.Listed.{list-low}
 use Rattle.services.specs.Removal.{between}
-use Rattle.changes.proofs.LeftRows.{count-le}
+use Rattle.bits.proofs.Gathered.{count-le}
 use Rattle.services.proofs.removal.rows_with.Statement.{statement}
 use Rattle.services.proofs.removal.rows_with.Tie as tie
 

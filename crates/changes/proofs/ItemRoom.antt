@@ -1,37 +1,19 @@
--- Loops over the rows of a list, and over items of a record that need room: those to come decide. Assumes nothing.
+-- Loops over items of a record that need room: what is left of it after those that pass. Assumes nothing.
 use Prim.Native.Nat.{ℕ, _+_, _-_, _≤_, _<_}
 use native.Mathlib.Omega.{arith}
 use native.Mathlib.Nat.{not-le-of-lt}
 use mathlib.Core.Path.{_≡_, sym, ap, _∙_}
-use mathlib.Core.Bool.{Bool, true, false, not, _&&_, cond}
+use mathlib.Core.Bool.{Bool, true, false, not, cond}
 use mathlib.Core.List.{List, _∷_}
 use lib.Dec.{T, leb, leb→le, le→leb}
-use lib.ListN.{length, getD, drop, drop-of-length-le}
-use lib.Seq.{drop-cons}
-use native.Mathlib.Numerals.{add-one}
+use lib.ListN.{length}
 use mir.Val.{boolByte}
-use Rattle.policy.specs.Lists.{every, keep}
+use Rattle.policy.specs.Lists.{keep}
 use Rattle.policy.specs.Record.{Reader}
-use Rattle.policy.proofs.Sets.{T-eq, T-true, T-false, false-T}
+use Rattle.policy.proofs.Sets.{T-eq, T-true, T-false}
 use Rattle.record.specs.Meaning.{itemsIn, Uncons}
 use Rattle.record.specs.declared.Items.{Items}
 use Rattle.record.proofs.Loops.{Todo, todo-next, todo-cons, todo-end}
-
--- ---- a loop over the rows of a list: those from r on decide
-module _ {A : Type 0} (f : A → Bool) (l : List A) (d : A) where
-  row-here : (r : ℕ) → r < length l → every f (drop r l) ≡ f (getD l r d) && every f (drop (r + 1) l)
-  row-here r h = rw (add-one r) (ap (every f) (drop-cons l r d h))
-
-  pub rows-stop : (r : ℕ) (b : Bool) → r < length l → every f (drop r l) ≡ every f l → b ≡ f (getD l r d) → not b ≡ true → false ≡ every f l
-  rows-stop r false h e q n = ap (λ (z : Bool). z && every f (drop (r + 1) l)) q ∙ sym (row-here r h) ∙ e
-  rows-stop r true h e q n = absurd (false-T (sym n) tt)
-
-  pub rows-next : (r : ℕ) (b : Bool) → r < length l → every f (drop r l) ≡ every f l → b ≡ f (getD l r d) → not b ≡ false → every f (drop (r + 1) l) ≡ every f l
-  rows-next r true h e q n = ap (λ (z : Bool). z && every f (drop (r + 1) l)) q ∙ sym (row-here r h) ∙ e
-  rows-next r false h e q n = absurd (false-T n tt)
-
-  pub rows-end : (r : ℕ) → length l ≤ r → every f (drop r l) ≡ every f l → true ≡ every f l
-  rows-end r h e = sym (ap (every f) (drop-of-length-le l {i = r} h)) ∙ e
 
 -- ---- room: what is left of it after those that pass
 leb-same : (m n o p : ℕ) → (m ≤ n → o ≤ p) → (o ≤ p → m ≤ n) → leb m n ≡ leb o p

@@ -1,19 +1,18 @@
--- Rows and counts gathered number by number: what a loop that appends or adds has done. Assumes nothing.
+-- Rows and counts gathered number by number: what a loop that appends or adds has done, and how many pass. Assumes nothing.
 use Prim.Native.Nat.{ℕ, zero, suc, _+_, _*_, _-_, _≤_, _<_}
 use native.Mathlib.Omega.{arith}
 use native.Mathlib.Nat.{add-zero, zero-add, add-assoc}
 use mathlib.Core.Path.{_≡_, refl, sym, ap, ap₂, _∙_}
 use mathlib.Core.Bool.{Bool, true, false, not, cond}
-use mathlib.Core.List.{List, [], _∷_, _++_, map, append-nil}
+use mathlib.Core.List.{List, [], _∷_, _++_, append-nil}
 use lib.ListN.{length, length-append}
 use mir.Syntax.{w64}
 use mir.Val.{Fits}
 use Rattle.policy.specs.Lists.{keep, flat, upto}
 use Rattle.policy.specs.ShortCheck.{count, sum}
-use Rattle.policy.proofs.Sets.{flat-append, flat-ext, pairs}
-use Rattle.policy.proofs.ShortRemove.{length-pairs}
+use Rattle.policy.proofs.Sets.{flat-append, length-keep, length-from}
 use Rattle.bits.proofs.Loops.{upto-split}
-use Rattle.changes.specs.Left.{only}
+use Rattle.policy.specs.Tables.{bit}
 
 -- ---- lists
 module _ {A : Type 0} (h : ℕ → List A) where
@@ -41,23 +40,6 @@ module _ {A : Type 0} (h : ℕ → List A) where
       let q : i + 1 + (n - (i + 1)) ≡ n = omega arith in
       let z = ap (λ (x : ℕ). length (flat h (upto x))) q in
       omega arith
-
--- what is kept, row by row
-pub only-keep : {A : Type 0} (f : ℕ → Bool) (g : ℕ → A) (l : List ℕ) → flat (λ k. only (f k) (g k)) l ≡ map g (keep f l)
-only-keep f g [] = refl
-only-keep {A} f g (x ∷ l) = go (f x) (only-keep f g l)
-  where
-    go : (b : Bool) → flat (λ k. only (f k) (g k)) l ≡ map g (keep f l) → only b (g x) ++ flat (λ k. only (f k) (g k)) l ≡ map g (cond b (x ∷ keep f l) (keep f l))
-    go true e = ap (λ (z : List A). g x ∷ z) e
-    go false e = e
-
--- the rows of pairs of numbers, and how many they are
-module _ {A : Type 0} (g : ℕ → ℕ → A) (f : ℕ → ℕ → Bool) (l m : List ℕ) where
-  pub only-pairs : flat (λ i. flat (λ k. only (f i k) (g i k)) l) m ≡ pairs g f l m
-  only-pairs = flat-ext (λ i. flat (λ k. only (f i k) (g i k)) l) (λ i. map (g i) (keep (f i) l)) m (λ i _. only-keep (f i) (g i) l)
-
-  pub length-only : length (flat (λ i. flat (λ k. only (f i k) (g i k)) l) m) ≡ sum (λ i. count (f i) l) m
-  length-only = ap length only-pairs ∙ length-pairs g f l m
 
 -- ---- sums
 module _ (f : ℕ → ℕ) where
@@ -114,3 +96,10 @@ count-others f (x ∷ l) = go (f x) (count-others f l)
         → length (cond (not b) (x ∷ keep (λ x. not (f x)) l) (keep (λ x. not (f x)) l)) + length (cond b (x ∷ keep f l) (keep f l)) ≡ suc (length l)
     go true e = omega arith
     go false e = omega arith
+
+-- ---- no more than there are
+pub count-le : (f : ℕ → Bool) (n : ℕ) → count f (upto n) ≤ n
+count-le f n = let e = length-from 0 n in omega (arith, length-keep f (upto n))
+
+pub bits-low : (r q : ℕ) → q ≡ length (keep (bit r) (upto 16)) → q ≤ 16
+bits-low r q e = omega (arith, count-le (bit r) 16)
