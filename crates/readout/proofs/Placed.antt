@@ -24,7 +24,7 @@ use Rattle.image.specs.Read.{aidIn, tokensIn, itemsOf, itemNumber, itemAt}
 use Rattle.image.proofs.Seen.{laid-size, aid-seen, aid-short, tokens-seen}
 use Rattle.image.proofs.Listed.{row-aid, tokens-room, tok-seen}
 use Rattle.image.proofs.Listed as listed
-use Rattle.links.proofs.Spots.{bit-seen}
+use Rattle.bits.proofs.Row.{bit-seen}
 use Rattle.readout.specs.Parts.{Put, given, server, bitBytes, itemBytes, tokBytes}
 use Rattle.readout.proofs.Writers.{put-nothing}
 
