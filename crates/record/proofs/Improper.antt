@@ -14,6 +14,8 @@ use Rattle.record.specs.declared.Items.{Items}
 use Rattle.record.specs.declared.RowKind.{RowKind}
 use Rattle.record.specs.declared.RowKind.the-variants.{AddCall, RemoveCall, AddGrant, RemoveGrant, AddNeed, RemoveNeed}
 use Rattle.record.proofs.Loops.{Todo, todo-cons, todo-next}
+use Rattle.policy.proofs.Sets.{false-T}
+use borrow.Author.Tests.{not-true, not-false}
 
 -- a row or a caller whose AID is the own
 abbrev pub ownRow : Bytes → Row → Bool
@@ -64,14 +66,35 @@ arranged true true true true true false on x = refl
 arranged true true true true true true false x = refl
 arranged true true true true true true true x = and-true x
 
--- R-2: a grant of a service that is not provided is proper
-pub load-proper : (a : Bytes) (p : List Tok) (c g n : List Row) {rp rc rg rn x : Bool}
-    → rp ≡ distinct eqTok p → rc ≡ (notOwn a c && distinct eqRow c) → rg ≡ (notOwn a g && distinct eqRow g) → rn ≡ (notOwn a n && distinct eqRow n)
-    → x ≡ every (λ r. hasRow r c) n → (k : Card) → ((((rp && rc) && rg) && rn) && x) ≡ proper (layoutOf k) a (load p c g n)
-unfolding proper
-load-proper a p c g n hp hc hg hn hx k =
-    rw (early k, hp, hc, hg, hn, hx)
-    (sym (arranged (distinct eqTok p) (distinct eqRow c) (distinct eqRow g) (distinct eqRow n) (notOwn a c) (notOwn a g) (notOwn a n) (every (λ r. hasRow r c) n)))
+-- R-2: a grant of a service that is not provided is proper. The answers so far decide: whether the four lists are proper, and the needs called
+module _ (a : Bytes) (p : List Tok) (c g n : List Row) (rp rc rg rn x : Bool) (hp : rp ≡ distinct eqTok p) (hc : rc ≡ (notOwn a c && distinct eqRow c))
+    (hg : rg ≡ (notOwn a g && distinct eqRow g)) (hn : rn ≡ (notOwn a n && distinct eqRow n)) (hx : x ≡ every (λ r. hasRow r c) n) (k : Card) where
+  abbrev whole : Bool → Bool → Bool → Bool → Bool → Bool
+  whole b d e f y = (((b && d) && e) && f) && y
+
+  all : whole rp rc rg rn x ≡ proper (layoutOf k) a (load p c g n)
+  unfolding proper
+  all =
+      rw (early k, hp, hc, hg, hn, hx)
+      (sym (arranged (distinct eqTok p) (distinct eqRow c) (distinct eqRow g) (distinct eqRow n) (notOwn a c) (notOwn a g) (notOwn a n) (every (λ r. hasRow r c) n)))
+
+  pub stop-1 : not rp ≡ true → false ≡ proper (layoutOf k) a (load p c g n)
+  stop-1 h = sym (λ i. whole (not-true rp h i) rc rg rn x) ∙ all
+
+  module _ (h1 : not rp ≡ false) where
+    pub stop-2 : not rc ≡ true → false ≡ proper (layoutOf k) a (load p c g n)
+    stop-2 h = sym (λ i. whole (not-false rp h1 i) (not-true rc h i) rg rn x) ∙ all
+
+    module _ (h2 : not rc ≡ false) where
+      pub stop-3 : not rg ≡ true → false ≡ proper (layoutOf k) a (load p c g n)
+      stop-3 h = sym (λ i. whole (not-false rp h1 i) (not-false rc h2 i) (not-true rg h i) rn x) ∙ all
+
+      module _ (h3 : not rg ≡ false) where
+        pub stop-4 : not rn ≡ true → false ≡ proper (layoutOf k) a (load p c g n)
+        stop-4 h = sym (λ i. whole (not-false rp h1 i) (not-false rc h2 i) (not-false rg h3 i) (not-true rn h i) x) ∙ all
+
+        pub last-decides : not rn ≡ false → x ≡ proper (layoutOf k) a (load p c g n)
+        last-decides h = sym (λ i. whole (not-false rp h1 i) (not-false rc h2 i) (not-false rg h3 i) (not-false rn h i) x) ∙ all
 
 -- ---- a row whose other end is b
 pub row-proper : (a b : Bytes) {r : Bool} → r ≡ eqAid b a → (k : Card) (x : RowKind) (t : Row) → t .aid ≡ b → not r ≡ proper (layoutOf k) a (changeOf x t)

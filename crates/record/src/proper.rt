@@ -140,11 +140,19 @@ pub fn load_proper(rec: &[u8], own: &[u8], l: Lists) -> bool
     requires { ⌜ ListsStand (now rec) l ⌝ }
     ensures { λ r. ⌜ ((c : Card) → r ≡ proper (layoutOf c) (now (own .entry)) (loadIn (now (rec .entry)) l)) ⌝ }
 {
-    let provides = tokens_proper(rec, l.provides);
-    let calls = rows_proper(rec, own, l.calls);
-    let grants = rows_proper(rec, own, l.grants);
-    let needs = rows_proper(rec, own, l.needs);
-    provides & calls & grants & needs & all_called(rec, l.needs, l.calls)
+    if !tokens_proper(rec, l.provides) {
+        return false;
+    }
+    if !rows_proper(rec, own, l.calls) {
+        return false;
+    }
+    if !rows_proper(rec, own, l.grants) {
+        return false;
+    }
+    if !rows_proper(rec, own, l.needs) {
+        return false;
+    }
+    all_called(rec, l.needs, l.calls)
 }
 
 // Kinds 5 to 10: whether the other end of a row is not the own AID.
