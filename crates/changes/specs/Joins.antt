@@ -41,7 +41,8 @@ module _ (L : Layout) where
   -- the waiting grants of l that the mask names are bits
   abbrev pub settledRows : ℕ → ℕ → List Waiting → Tables → Tables
   settledRows mask r l t =
-      withGrants (listed (λ w. w .callee) (λ w. holder t (w .caller)) (λ w. serviceNumber t (w .callee) (w .tok)) mask r l (t .grants)) (t .waiting) t
+      withGrants (listed (λ w. w .callee) (λ w. holder t (w .caller)) (λ w. serviceNumber t (w .callee) (w .tok)) mask r l (t .grants))
+      (t .waiting) t
 
   abbrev pub settledAll : ℕ → Tables → Tables
   settledAll mask t = settledRows mask 0 (t .waiting) t

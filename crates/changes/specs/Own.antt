@@ -52,7 +52,8 @@ module _ (L : Layout) where
     tok = t .tok;
     provides = t .provides;
     calls = λ x y z. cond (eqb x n) (t .provides y z && hasRow (serviceAt t y z) c) (t .calls x y z);
-    grants = λ x y z. cond (eqb x n) ((t .provides n z && t .used y) && hasRow (record { aid = t .aid y; tok = t .tok n z }) g) (t .grants x y z);
+    grants = λ x y z. cond (eqb x n) ((t .provides n z && t .used y) && hasRow (record { aid = t .aid y; tok = t .tok n z }) g)
+        (t .grants x y z);
     needs = λ x y z. cond (eqb x n) (t .provides y z && hasRow (serviceAt t y z) m) (t .needs x y z);
     unmet = t .unmet ++ map (callRow n) (keep (λ r. not (served t r)) c);
     waiting = t .waiting ++ map (grantRow n) (keep (λ r. not (isSome (spotOf L t n r))) g);

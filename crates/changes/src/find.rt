@@ -1,10 +1,10 @@
 // What a record names, found on the image.
 ghost use mathlib.Core.Path.{_≡_};
 ghost use Prim.Native.Nat.{_<_};
-ghost use Rattle.policy.specs.Tables.{bit, decode};
+ghost use Rattle.policy.specs.Tables.{bit};
 ghost use Rattle.policy.specs.Lookup.{numberOf, serverOf};
 ghost use Rattle.geometry.specs.Geometry.{layoutOf};
-ghost use Rattle.image.specs.Laid.{Laid};
+ghost use Rattle.image.specs.Laid.{Laid, tablesOf};
 ghost use Rattle.image.specs.Read.{numberOr, placeOr};
 ghost use Rattle.record.specs.Meaning.{AidFits, aidIn, rowIn};
 use geometry::Card;
@@ -16,7 +16,8 @@ use record::Row;
 pub fn find_caller(img: &[u8], c: Card, rec: &[u8], a: Aid) -> usize
     requires laid { ⌜ Laid (layoutOf c) (now img) ⌝ }
     requires fits { ⌜ AidFits (now rec) a ⌝ }
-    ensures { λ r. ⌜ r ≡ numberOr (layoutOf c .packages) (numberOf (layoutOf c) (decode (layoutOf c) (now (img .entry))) (aidIn (now (rec .entry)) a)) ⌝ }
+    ensures { λ r. ⌜ r ≡ numberOr (layoutOf c .packages)
+        (numberOf (layoutOf c) (tablesOf c (now (img .entry))) (aidIn (now (rec .entry)) a)) ⌝ }
 {
     let other = record::aid_bytes(rec, a);
     image::read::find_package(img, c, other)
@@ -34,7 +35,7 @@ pub fn has_row(mask: u32, r: usize) -> bool
 pub fn server(img: &[u8], c: Card, rec: &[u8], r: Row) -> Place
     requires laid { ⌜ Laid (layoutOf c) (now img) ⌝ }
     requires fits { ⌜ AidFits (now rec) (r .other) ⌝ }
-    ensures { λ p. ⌜ p ≡ placeOr (layoutOf c) (serverOf (layoutOf c) (decode (layoutOf c) (now (img .entry))) (rowIn (now (rec .entry)) r)) ⌝ }
+    ensures { λ p. ⌜ p ≡ placeOr (layoutOf c) (serverOf (layoutOf c) (tablesOf c (now (img .entry))) (rowIn (now (rec .entry)) r)) ⌝ }
 {
     let other = record::aid_bytes(rec, r.other);
     image::read::find_server(img, c, other, r.tokens)

@@ -5,10 +5,10 @@ ghost use Prim.Native.Nat.{_≤_, _<_};
 ghost use lib.Dec.{eqb, leb};
 ghost use lib.ListN.{length};
 ghost use Rattle.policy.specs.Causes.{answer};
-ghost use Rattle.policy.specs.Tables.{bit, decode};
+ghost use Rattle.policy.specs.Tables.{bit};
 ghost use Rattle.policy.specs.Judge.{lookCauses};
 ghost use Rattle.geometry.specs.Geometry.{layoutOf};
-ghost use Rattle.image.specs.Laid.{Laid};
+ghost use Rattle.image.specs.Laid.{Laid, tablesOf};
 ghost use Rattle.image.specs.Wrote.{Wrote};
 ghost use Rattle.changes.specs.Left.{byList, behind, RoomBehind, leftOne, leftRow};
 use geometry::Card;
@@ -26,7 +26,8 @@ pub fn by_list(l: Kept, x: usize, y: usize) -> usize
 
 // The cause from 9 to 11 by the needs on what goes, and by the rows of the two lists afterwards; 0 where there is none.
 pub fn first_cause(most: usize, needed: usize, unmet: usize, waiting: usize) -> u8
-    ensures { λ r. ⌜ r ≡ answer (lookCauses (record { granted = true; needed = eqb needed 0; unmetFits = leb unmet most; waitingFits = leb waiting most })) ⌝ }
+    ensures { λ r. ⌜ r ≡ answer (lookCauses (record
+        { granted = true; needed = eqb needed 0; unmetFits = leb unmet most; waitingFits = leb waiting most })) ⌝ }
 {
     if needed != 0 {
         return 9;
@@ -54,9 +55,9 @@ pub fn leave_one(
     requires laid { ⌜ Laid (layoutOf c) (now img) ⌝ }
     requires inside { ⌜ (j < layoutOf c .packages) × (i < layoutOf c .packages) × (k < layoutOf c .services) ⌝ }
     requires short { ⌜ length (now aid) ≤ 16 ⌝ }
-    requires room { ⌜ RoomBehind l (layoutOf c) (leftOne l (decode (layoutOf c) (now img)) (now aid) j i (bit row) k) (decode (layoutOf c) (now img)) ⌝ }
+    requires room { ⌜ RoomBehind l (layoutOf c) (leftOne l (tablesOf c (now img)) (now aid) j i (bit row) k) (tablesOf c (now img)) ⌝ }
     ensures { λ _. ⌜ Wrote (layoutOf c) (now (img .exit))
-        (behind l (leftOne l (decode (layoutOf c) (now (img .entry))) (now (aid .entry)) j i (bit row) k) (decode (layoutOf c) (now (img .entry)))) ⌝ }
+        (behind l (leftOne l (tablesOf c (now (img .entry))) (now (aid .entry)) j i (bit row) k) (tablesOf c (now (img .entry)))) ⌝ }
 {
     if !bits::has_bit(row, k) {
         return;
@@ -70,9 +71,11 @@ pub fn leave_row(img: &mut [u8], c: Card, l: Kept, aid: &[u8], j: usize, i: usiz
     requires laid { ⌜ Laid (layoutOf c) (now img) ⌝ }
     requires inside { ⌜ (j < layoutOf c .packages) × (i < layoutOf c .packages) ⌝ }
     requires short { ⌜ length (now aid) ≤ 16 ⌝ }
-    requires room { ⌜ RoomBehind l (layoutOf c) (leftRow (layoutOf c) l (decode (layoutOf c) (now img)) (now aid) j i (bit row)) (decode (layoutOf c) (now img)) ⌝ }
+    requires room { ⌜ RoomBehind l (layoutOf c) (leftRow (layoutOf c) l (tablesOf c (now img)) (now aid) j i (bit row))
+        (tablesOf c (now img)) ⌝ }
     ensures { λ _. ⌜ Wrote (layoutOf c) (now (img .exit))
-        (behind l (leftRow (layoutOf c) l (decode (layoutOf c) (now (img .entry))) (now (aid .entry)) j i (bit row)) (decode (layoutOf c) (now (img .entry)))) ⌝ }
+        (behind l (leftRow (layoutOf c) l (tablesOf c (now (img .entry))) (now (aid .entry)) j i (bit row))
+        (tablesOf c (now (img .entry)))) ⌝ }
 {
     let size = geometry::services(c);
     for k in 0..size {

@@ -3,13 +3,14 @@ ghost use mathlib.Core.Path.{_≡_};
 ghost use mathlib.Core.Bool.{not};
 ghost use Prim.Native.Nat.{ℕ, _<_};
 ghost use lib.ListN.{length};
-ghost use Rattle.policy.specs.Tables.{Unmet, Waiting, bit, decode};
+ghost use Rattle.policy.specs.Tables.{Unmet, Waiting, bit};
 ghost use Rattle.policy.specs.ShortCheck.{count};
 ghost use Rattle.geometry.specs.Geometry.{layoutOf};
-ghost use Rattle.image.specs.Laid.{Laid};
+ghost use Rattle.image.specs.Laid.{Laid, tablesOf};
 ghost use Rattle.image.specs.Wrote.{Wrote};
 ghost use Rattle.image.specs.Read.{unmetRow, waitingRow};
-ghost use Rattle.changes.specs.Joins.{metOne, CallersIn, GivenIn, serviceNumber, settledOne, settledAll, DueAt, withoutRows, CallOn, metAll, TakesIn, takenIn, roomAfter};
+ghost use Rattle.changes.specs.Joins.{metOne, CallersIn, GivenIn, serviceNumber, settledOne, settledAll, DueAt, withoutRows};
+ghost use Rattle.changes.specs.Joins.{CallOn, metAll, TakesIn, takenIn, roomAfter};
 use geometry::Card;
 use geometry::Kept;
 use geometry::Table;
@@ -17,7 +18,7 @@ use geometry::Table;
 // How many rows a list has room for, once those of the mask have gone.
 pub fn room_after(img: &[u8], c: Card, l: Kept, mask: u32) -> usize
     requires { ⌜ Laid (layoutOf c) (now img) ⌝ }
-    ensures { λ r. ⌜ r ≡ roomAfter (layoutOf c) l mask (decode (layoutOf c) (now (img .entry))) ⌝ }
+    ensures { λ r. ⌜ r ≡ roomAfter (layoutOf c) l mask (tablesOf c (now (img .entry))) ⌝ }
 {
     let most = geometry::capacity(c);
     let rows = image::lists::count(img, c, l);
@@ -30,10 +31,10 @@ pub fn room_after(img: &[u8], c: Card, l: Kept, mask: u32) -> usize
 // The number of the service that waiting grant r is of; the number of services where its package does not provide it.
 pub fn granted_service(img: &[u8], c: Card, r: usize) -> usize
     requires laid { ⌜ Laid (layoutOf c) (now img) ⌝ }
-    requires inside { ⌜ r < length (decode (layoutOf c) (now img) .waiting) ⌝ }
-    requires given { ⌜ waitingRow (decode (layoutOf c) (now img)) r .callee < layoutOf c .packages ⌝ }
-    ensures { λ k. ⌜ k ≡ serviceNumber (layoutOf c) (decode (layoutOf c) (now (img .entry))) (waitingRow (decode (layoutOf c) (now (img .entry))) r .callee)
-        (waitingRow (decode (layoutOf c) (now (img .entry))) r .tok) ⌝ }
+    requires inside { ⌜ r < length (tablesOf c (now img) .waiting) ⌝ }
+    requires given { ⌜ waitingRow (tablesOf c (now img)) r .callee < layoutOf c .packages ⌝ }
+    ensures { λ k. ⌜ k ≡ serviceNumber (layoutOf c) (tablesOf c (now (img .entry))) (waitingRow (tablesOf c (now (img .entry))) r .callee)
+        (waitingRow (tablesOf c (now (img .entry))) r .tok) ⌝ }
 {
     let j = image::lists::number(img, c, Kept::WaitingGrants, r);
     let t = image::lists::tokens(img, c, Kept::WaitingGrants, r);
@@ -43,10 +44,10 @@ pub fn granted_service(img: &[u8], c: Card, r: usize) -> usize
 // Waiting grant r, if the mask names it, becomes a bit.
 fn settle_row(img: &mut [u8], c: Card, due: u32, r: usize)
     requires laid { ⌜ Laid (layoutOf c) (now img) ⌝ }
-    requires inside { ⌜ r < length (decode (layoutOf c) (now img) .waiting) ⌝ }
-    requires given { ⌜ waitingRow (decode (layoutOf c) (now img)) r .callee < layoutOf c .packages ⌝ }
-    requires there { ⌜ DueAt (layoutOf c) due (decode (layoutOf c) (now img)) r ⌝ }
-    ensures { λ _. ⌜ Wrote (layoutOf c) (now (img .exit)) (settledOne (layoutOf c) due r (decode (layoutOf c) (now (img .entry)))) ⌝ }
+    requires inside { ⌜ r < length (tablesOf c (now img) .waiting) ⌝ }
+    requires given { ⌜ waitingRow (tablesOf c (now img)) r .callee < layoutOf c .packages ⌝ }
+    requires there { ⌜ DueAt (layoutOf c) due (tablesOf c (now img)) r ⌝ }
+    ensures { λ _. ⌜ Wrote (layoutOf c) (now (img .exit)) (settledOne (layoutOf c) due r (tablesOf c (now (img .entry)))) ⌝ }
 {
     if crate::find::has_row(due, r) {
         let j = image::lists::number(img, c, Kept::WaitingGrants, r);
@@ -59,9 +60,9 @@ fn settle_row(img: &mut [u8], c: Card, due: u32, r: usize)
 // The waiting grants of the mask become bits.
 fn settle(img: &mut [u8], c: Card, due: u32)
     requires laid { ⌜ Laid (layoutOf c) (now img) ⌝ }
-    requires by { ⌜ GivenIn (layoutOf c) (decode (layoutOf c) (now img) .waiting) ⌝ }
-    requires there { ⌜ ((r : ℕ) → r < length (decode (layoutOf c) (now img) .waiting) → DueAt (layoutOf c) due (decode (layoutOf c) (now img)) r) ⌝ }
-    ensures { λ _. ⌜ Wrote (layoutOf c) (now (img .exit)) (settledAll (layoutOf c) due (decode (layoutOf c) (now (img .entry)))) ⌝ }
+    requires by { ⌜ GivenIn (layoutOf c) (tablesOf c (now img) .waiting) ⌝ }
+    requires there { ⌜ ((r : ℕ) → r < length (tablesOf c (now img) .waiting) → DueAt (layoutOf c) due (tablesOf c (now img)) r) ⌝ }
+    ensures { λ _. ⌜ Wrote (layoutOf c) (now (img .exit)) (settledAll (layoutOf c) due (tablesOf c (now (img .entry)))) ⌝ }
 {
     let n = image::lists::count(img, c, Kept::WaitingGrants);
     for r in 0..n {
@@ -72,10 +73,10 @@ fn settle(img: &mut [u8], c: Card, due: u32)
 // Unmet call r, if the mask names it, becomes a bit, on package n's service with its tokens.
 fn meet_row(img: &mut [u8], c: Card, n: usize, met: u32, r: usize)
     requires laid { ⌜ Laid (layoutOf c) (now img) ⌝ }
-    requires inside { ⌜ r < length (decode (layoutOf c) (now img) .unmet) ⌝ }
-    requires numbers { ⌜ (unmetRow (decode (layoutOf c) (now img)) r .caller < layoutOf c .packages) × (n < layoutOf c .packages) ⌝ }
-    requires there { ⌜ CallOn (layoutOf c) met n (decode (layoutOf c) (now img)) r ⌝ }
-    ensures { λ _. ⌜ Wrote (layoutOf c) (now (img .exit)) (metOne (layoutOf c) met n r (decode (layoutOf c) (now (img .entry)))) ⌝ }
+    requires inside { ⌜ r < length (tablesOf c (now img) .unmet) ⌝ }
+    requires numbers { ⌜ (unmetRow (tablesOf c (now img)) r .caller < layoutOf c .packages) × (n < layoutOf c .packages) ⌝ }
+    requires there { ⌜ CallOn (layoutOf c) met n (tablesOf c (now img)) r ⌝ }
+    ensures { λ _. ⌜ Wrote (layoutOf c) (now (img .exit)) (metOne (layoutOf c) met n r (tablesOf c (now (img .entry)))) ⌝ }
 {
     if crate::find::has_row(met, r) {
         let i = image::lists::number(img, c, Kept::UnmetCalls, r);
@@ -88,10 +89,10 @@ fn meet_row(img: &mut [u8], c: Card, n: usize, met: u32, r: usize)
 // The unmet calls of the mask become bits, on package n's services.
 fn meet(img: &mut [u8], c: Card, n: usize, met: u32)
     requires laid { ⌜ Laid (layoutOf c) (now img) ⌝ }
-    requires by { ⌜ CallersIn (layoutOf c) (decode (layoutOf c) (now img) .unmet) ⌝ }
-    requires there { ⌜ ((r : ℕ) → r < length (decode (layoutOf c) (now img) .unmet) → CallOn (layoutOf c) met n (decode (layoutOf c) (now img)) r) ⌝ }
+    requires by { ⌜ CallersIn (layoutOf c) (tablesOf c (now img) .unmet) ⌝ }
+    requires there { ⌜ ((r : ℕ) → r < length (tablesOf c (now img) .unmet) → CallOn (layoutOf c) met n (tablesOf c (now img)) r) ⌝ }
     requires inside { ⌜ n < layoutOf c .packages ⌝ }
-    ensures { λ _. ⌜ Wrote (layoutOf c) (now (img .exit)) (metAll (layoutOf c) met n (decode (layoutOf c) (now (img .entry)))) ⌝ }
+    ensures { λ _. ⌜ Wrote (layoutOf c) (now (img .exit)) (metAll (layoutOf c) met n (tablesOf c (now (img .entry)))) ⌝ }
 {
     let m = image::lists::count(img, c, Kept::UnmetCalls);
     for r in 0..m {
@@ -102,7 +103,7 @@ fn meet(img: &mut [u8], c: Card, n: usize, met: u32)
 // The unmet calls and the waiting grants of the masks go.
 fn drop_listed(img: &mut [u8], c: Card, met: u32, due: u32)
     requires { ⌜ Laid (layoutOf c) (now img) ⌝ }
-    ensures { λ _. ⌜ Wrote (layoutOf c) (now (img .exit)) (withoutRows met due (decode (layoutOf c) (now (img .entry)))) ⌝ }
+    ensures { λ _. ⌜ Wrote (layoutOf c) (now (img .exit)) (withoutRows met due (tablesOf c (now (img .entry)))) ⌝ }
 {
     image::write::drop_rows(img, c, Kept::UnmetCalls, met);
     image::write::drop_rows(img, c, Kept::WaitingGrants, due);
@@ -111,8 +112,8 @@ fn drop_listed(img: &mut [u8], c: Card, met: u32, due: u32)
 // The unmet calls of one mask, on package n's services, and the waiting grants of the other become bits and leave their lists.
 pub fn take_in(img: &mut [u8], c: Card, n: usize, met: u32, due: u32)
     requires laid { ⌜ Laid (layoutOf c) (now img) ⌝ }
-    requires fit { ⌜ TakesIn (layoutOf c) n met due (decode (layoutOf c) (now img)) ⌝ }
-    ensures { λ _. ⌜ Wrote (layoutOf c) (now (img .exit)) (takenIn (layoutOf c) n met due (decode (layoutOf c) (now (img .entry)))) ⌝ }
+    requires fit { ⌜ TakesIn (layoutOf c) n met due (tablesOf c (now img)) ⌝ }
+    ensures { λ _. ⌜ Wrote (layoutOf c) (now (img .exit)) (takenIn (layoutOf c) n met due (tablesOf c (now (img .entry)))) ⌝ }
 {
     meet(img, c, n, met);
     settle(img, c, due);

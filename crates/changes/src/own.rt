@@ -7,12 +7,11 @@ ghost use lib.Dec.{T};
 ghost use lib.ListN.{length};
 ghost use Rattle.policy.specs.Lists.{every, isSome};
 ghost use Rattle.policy.specs.Record.{aRow};
-ghost use Rattle.policy.specs.Tables.{decode};
 ghost use Rattle.policy.specs.Lookup.{serverOf, spotOf};
 ghost use Rattle.policy.specs.Draft.{addCallAt, addGrantAt, addNeedAt};
 ghost use Rattle.policy.specs.ShortCheck.{count};
 ghost use Rattle.geometry.specs.Geometry.{layoutOf};
-ghost use Rattle.image.specs.Laid.{Laid};
+ghost use Rattle.image.specs.Laid.{Laid, tablesOf};
 ghost use Rattle.image.specs.Wrote.{Wrote};
 ghost use Rattle.record.specs.Meaning.{AidFits, Stands, ListsStand, rowIn, itemsIn};
 ghost use Rattle.changes.specs.Own.{served, calledAll, grantedAll, neededAll, ownRows, OwnFits};
@@ -28,10 +27,11 @@ fn call(img: &mut [u8], c: Card, n: usize, rec: &[u8], r: Row)
     requires laid { ⌜ Laid (layoutOf c) (now img) ⌝ }
     requires fits { ⌜ AidFits (now rec) (r .other) ⌝ }
     requires inside { ⌜ n < layoutOf c .packages ⌝ }
-    requires room { ⌜ (serverOf (layoutOf c) (decode (layoutOf c) (now img)) (rowIn (now rec) r) ≡ none
-        → length (decode (layoutOf c) (now img) .unmet) < layoutOf c .capacity) ⌝ }
-    ensures { λ _. ⌜ Wrote (layoutOf c) (now (img .exit)) (addCallAt (layoutOf c) (decode (layoutOf c) (now (img .entry))) n (rowIn (now (rec .entry)) r)
-        (serverOf (layoutOf c) (decode (layoutOf c) (now (img .entry))) (rowIn (now (rec .entry)) r)) .tables) ⌝ }
+    requires room { ⌜ (serverOf (layoutOf c) (tablesOf c (now img)) (rowIn (now rec) r) ≡ none
+        → length (tablesOf c (now img) .unmet) < layoutOf c .capacity) ⌝ }
+    ensures { λ _. ⌜ Wrote (layoutOf c) (now (img .exit))
+        (addCallAt (layoutOf c) (tablesOf c (now (img .entry))) n (rowIn (now (rec .entry)) r)
+        (serverOf (layoutOf c) (tablesOf c (now (img .entry))) (rowIn (now (rec .entry)) r)) .tables) ⌝ }
 {
     let size = geometry::packages(c);
     let p = crate::find::server(img, c, rec, r);
@@ -48,9 +48,10 @@ fn call_all(img: &mut [u8], c: Card, n: usize, rec: &[u8], calls: Items)
     requires laid { ⌜ Laid (layoutOf c) (now img) ⌝ }
     requires stands { ⌜ Stands aRow (now rec) calls ⌝ }
     requires inside { ⌜ n < layoutOf c .packages ⌝ }
-    requires room { ⌜ length (decode (layoutOf c) (now img) .unmet)
-        + count (λ x. not (served (layoutOf c) (decode (layoutOf c) (now img)) x)) (itemsIn aRow (now rec) calls) ≤ layoutOf c .capacity ⌝ }
-    ensures { λ _. ⌜ Wrote (layoutOf c) (now (img .exit)) (calledAll (layoutOf c) n (itemsIn aRow (now (rec .entry)) calls) (decode (layoutOf c) (now (img .entry)))) ⌝ }
+    requires room { ⌜ length (tablesOf c (now img) .unmet)
+        + count (λ x. not (served (layoutOf c) (tablesOf c (now img)) x)) (itemsIn aRow (now rec) calls) ≤ layoutOf c .capacity ⌝ }
+    ensures { λ _. ⌜ Wrote (layoutOf c) (now (img .exit))
+        (calledAll (layoutOf c) n (itemsIn aRow (now (rec .entry)) calls) (tablesOf c (now (img .entry)))) ⌝ }
 {
     let mut todo = calls;
     while 0 < todo.count {
@@ -65,10 +66,11 @@ fn grant(img: &mut [u8], c: Card, n: usize, rec: &[u8], r: Row)
     requires laid { ⌜ Laid (layoutOf c) (now img) ⌝ }
     requires fits { ⌜ AidFits (now rec) (r .other) ⌝ }
     requires inside { ⌜ n < layoutOf c .packages ⌝ }
-    requires room { ⌜ (spotOf (layoutOf c) (decode (layoutOf c) (now img)) n (rowIn (now rec) r) ≡ none
-        → length (decode (layoutOf c) (now img) .waiting) < layoutOf c .capacity) ⌝ }
-    ensures { λ _. ⌜ Wrote (layoutOf c) (now (img .exit)) (addGrantAt (layoutOf c) (decode (layoutOf c) (now (img .entry))) n (rowIn (now (rec .entry)) r)
-        (spotOf (layoutOf c) (decode (layoutOf c) (now (img .entry))) n (rowIn (now (rec .entry)) r)) .tables) ⌝ }
+    requires room { ⌜ (spotOf (layoutOf c) (tablesOf c (now img)) n (rowIn (now rec) r) ≡ none
+        → length (tablesOf c (now img) .waiting) < layoutOf c .capacity) ⌝ }
+    ensures { λ _. ⌜ Wrote (layoutOf c) (now (img .exit))
+        (addGrantAt (layoutOf c) (tablesOf c (now (img .entry))) n (rowIn (now (rec .entry)) r)
+        (spotOf (layoutOf c) (tablesOf c (now (img .entry))) n (rowIn (now (rec .entry)) r)) .tables) ⌝ }
 {
     let size = geometry::packages(c);
     let other = record::aid_bytes(rec, r.other);
@@ -85,9 +87,11 @@ fn grant_all(img: &mut [u8], c: Card, n: usize, rec: &[u8], grants: Items)
     requires laid { ⌜ Laid (layoutOf c) (now img) ⌝ }
     requires stands { ⌜ Stands aRow (now rec) grants ⌝ }
     requires inside { ⌜ n < layoutOf c .packages ⌝ }
-    requires room { ⌜ length (decode (layoutOf c) (now img) .waiting)
-        + count (λ x. not (isSome (spotOf (layoutOf c) (decode (layoutOf c) (now img)) n x))) (itemsIn aRow (now rec) grants) ≤ layoutOf c .capacity ⌝ }
-    ensures { λ _. ⌜ Wrote (layoutOf c) (now (img .exit)) (grantedAll (layoutOf c) n (itemsIn aRow (now (rec .entry)) grants) (decode (layoutOf c) (now (img .entry)))) ⌝ }
+    requires room { ⌜ length (tablesOf c (now img) .waiting)
+        + count (λ x. not (isSome (spotOf (layoutOf c) (tablesOf c (now img)) n x))) (itemsIn aRow (now rec) grants)
+        ≤ layoutOf c .capacity ⌝ }
+    ensures { λ _. ⌜ Wrote (layoutOf c) (now (img .exit))
+        (grantedAll (layoutOf c) n (itemsIn aRow (now (rec .entry)) grants) (tablesOf c (now (img .entry)))) ⌝ }
 {
     let mut todo = grants;
     while 0 < todo.count {
@@ -102,9 +106,10 @@ fn need(img: &mut [u8], c: Card, n: usize, rec: &[u8], r: Row)
     requires laid { ⌜ Laid (layoutOf c) (now img) ⌝ }
     requires fits { ⌜ AidFits (now rec) (r .other) ⌝ }
     requires inside { ⌜ n < layoutOf c .packages ⌝ }
-    requires there { ⌜ T (served (layoutOf c) (decode (layoutOf c) (now img)) (rowIn (now rec) r)) ⌝ }
-    ensures { λ _. ⌜ Wrote (layoutOf c) (now (img .exit)) (addNeedAt (layoutOf c) (decode (layoutOf c) (now (img .entry))) n (rowIn (now (rec .entry)) r)
-        (serverOf (layoutOf c) (decode (layoutOf c) (now (img .entry))) (rowIn (now (rec .entry)) r)) .tables) ⌝ }
+    requires there { ⌜ T (served (layoutOf c) (tablesOf c (now img)) (rowIn (now rec) r)) ⌝ }
+    ensures { λ _. ⌜ Wrote (layoutOf c) (now (img .exit))
+        (addNeedAt (layoutOf c) (tablesOf c (now (img .entry))) n (rowIn (now (rec .entry)) r)
+        (serverOf (layoutOf c) (tablesOf c (now (img .entry))) (rowIn (now (rec .entry)) r)) .tables) ⌝ }
 {
     let p = crate::find::server(img, c, rec, r);
     image::write::set_bit(img, c, Table::Needs, n, p.callee, p.service);
@@ -115,8 +120,9 @@ fn need_all(img: &mut [u8], c: Card, n: usize, rec: &[u8], needs: Items)
     requires laid { ⌜ Laid (layoutOf c) (now img) ⌝ }
     requires stands { ⌜ Stands aRow (now rec) needs ⌝ }
     requires inside { ⌜ n < layoutOf c .packages ⌝ }
-    requires there { ⌜ T (every (served (layoutOf c) (decode (layoutOf c) (now img))) (itemsIn aRow (now rec) needs)) ⌝ }
-    ensures { λ _. ⌜ Wrote (layoutOf c) (now (img .exit)) (neededAll (layoutOf c) n (itemsIn aRow (now (rec .entry)) needs) (decode (layoutOf c) (now (img .entry)))) ⌝ }
+    requires there { ⌜ T (every (served (layoutOf c) (tablesOf c (now img))) (itemsIn aRow (now rec) needs)) ⌝ }
+    ensures { λ _. ⌜ Wrote (layoutOf c) (now (img .exit))
+        (neededAll (layoutOf c) n (itemsIn aRow (now (rec .entry)) needs) (tablesOf c (now (img .entry)))) ⌝ }
 {
     let mut todo = needs;
     while 0 < todo.count {
@@ -131,9 +137,9 @@ pub fn put_rows(img: &mut [u8], c: Card, n: usize, rec: &[u8], l: Lists)
     requires laid { ⌜ Laid (layoutOf c) (now img) ⌝ }
     requires stands { ⌜ ListsStand (now rec) l ⌝ }
     requires fit { ⌜ OwnFits (layoutOf c) n (itemsIn aRow (now rec) (l .calls)) (itemsIn aRow (now rec) (l .grants))
-        (itemsIn aRow (now rec) (l .needs)) (decode (layoutOf c) (now img)) ⌝ }
+        (itemsIn aRow (now rec) (l .needs)) (tablesOf c (now img)) ⌝ }
     ensures { λ _. ⌜ Wrote (layoutOf c) (now (img .exit)) (ownRows (layoutOf c) n (itemsIn aRow (now (rec .entry)) (l .calls))
-        (itemsIn aRow (now (rec .entry)) (l .grants)) (itemsIn aRow (now (rec .entry)) (l .needs)) (decode (layoutOf c) (now (img .entry)))) ⌝ }
+        (itemsIn aRow (now (rec .entry)) (l .grants)) (itemsIn aRow (now (rec .entry)) (l .needs)) (tablesOf c (now (img .entry)))) ⌝ }
 {
     call_all(img, c, n, rec, l.calls);
     grant_all(img, c, n, rec, l.grants);

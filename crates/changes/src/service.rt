@@ -1,9 +1,8 @@
 // The places of a service: opened, and cleared.
 ghost use Prim.Native.Nat.{_<_};
-ghost use Rattle.policy.specs.Tables.{decode};
 ghost use Rattle.policy.specs.Lookup.{numbers};
 ghost use Rattle.geometry.specs.Geometry.{layoutOf, tokOf};
-ghost use Rattle.image.specs.Laid.{Laid};
+ghost use Rattle.image.specs.Laid.{Laid, tablesOf};
 ghost use Rattle.image.specs.Wrote.{Wrote};
 ghost use Rattle.changes.specs.Places.{opened, tablesWithoutService};
 use geometry::Card;
@@ -14,7 +13,7 @@ use geometry::Tokens;
 pub fn open_service(img: &mut [u8], c: Card, j: usize, k: usize, t: Tokens)
     requires laid { ⌜ Laid (layoutOf c) (now img) ⌝ }
     requires numbers { ⌜ (j < layoutOf c .packages) × (k < layoutOf c .services) ⌝ }
-    ensures { λ _. ⌜ Wrote (layoutOf c) (now (img .exit)) (opened j k (tokOf t) (decode (layoutOf c) (now (img .entry)))) ⌝ }
+    ensures { λ _. ⌜ Wrote (layoutOf c) (now (img .exit)) (opened j k (tokOf t) (tablesOf c (now (img .entry)))) ⌝ }
 {
     image::write::put_tok(img, c, j, k, t);
     let row = image::read::provided_row(img, c, j);
@@ -26,7 +25,7 @@ pub fn open_service(img: &mut [u8], c: Card, j: usize, k: usize, t: Tokens)
 pub fn clear_service(img: &mut [u8], c: Card, j: usize, k: usize)
     requires laid { ⌜ Laid (layoutOf c) (now img) ⌝ }
     requires inside { ⌜ (j < layoutOf c .packages) × (k < layoutOf c .services) ⌝ }
-    ensures { λ _. ⌜ Wrote (layoutOf c) (now (img .exit)) (tablesWithoutService j k (decode (layoutOf c) (now (img .entry)))) ⌝ }
+    ensures { λ _. ⌜ Wrote (layoutOf c) (now (img .exit)) (tablesWithoutService j k (tablesOf c (now (img .entry)))) ⌝ }
 {
     image::write::clear_column_bit(img, c, Table::Calls, j, k);
     image::write::clear_column_bit(img, c, Table::Grants, j, k);

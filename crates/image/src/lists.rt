@@ -6,10 +6,10 @@ ghost use lib.Dec.{eqb};
 ghost use lib.ListN.{length, getD};
 ghost use Rattle.policy.specs.Lists.{keep, upto};
 ghost use Rattle.policy.specs.Contract.{eqAid, eqTok};
-ghost use Rattle.policy.specs.Tables.{bit, decode};
+ghost use Rattle.policy.specs.Tables.{bit};
 ghost use Rattle.policy.specs.Lookup.{numberOf};
 ghost use Rattle.geometry.specs.Geometry.{layoutOf, tokOf};
-ghost use Rattle.image.specs.Laid.{Laid};
+ghost use Rattle.image.specs.Laid.{Laid, tablesOf};
 ghost use Rattle.image.specs.Read.{numberOr, itemsOf, itemAid, itemTok, itemNumber, itemAt, maskOf};
 use geometry::Card;
 use geometry::Kept;
@@ -26,7 +26,7 @@ fn byte_at(img: &[u8], at: usize) -> usize
 // How many rows a list has.
 pub fn count(img: &[u8], c: Card, l: Kept) -> usize
     requires { ⌜ Laid (layoutOf c) (now img) ⌝ }
-    ensures { λ r. ⌜ r ≡ length (itemsOf l (decode (layoutOf c) (now (img .entry)))) ⌝ }
+    ensures { λ r. ⌜ r ≡ length (itemsOf l (tablesOf c (now (img .entry)))) ⌝ }
 {
     let at = geometry::list_at(c, l);
     byte_at(img, at)
@@ -35,8 +35,8 @@ pub fn count(img: &[u8], c: Card, l: Kept) -> usize
 // The package number of row r: the caller of an unmet call, the package that gives a waiting grant.
 pub fn number(img: &[u8], c: Card, l: Kept, r: usize) -> usize
     requires laid { ⌜ Laid (layoutOf c) (now img) ⌝ }
-    requires inside { ⌜ r < length (itemsOf l (decode (layoutOf c) (now img))) ⌝ }
-    ensures { λ n. ⌜ n ≡ itemNumber l (itemAt l (decode (layoutOf c) (now (img .entry))) r) ⌝ }
+    requires inside { ⌜ r < length (itemsOf l (tablesOf c (now img))) ⌝ }
+    ensures { λ n. ⌜ n ≡ itemNumber l (itemAt l (tablesOf c (now (img .entry))) r) ⌝ }
 {
     let at = geometry::place_at(c, l, r);
     let part = geometry::number_in(l);
@@ -46,8 +46,8 @@ pub fn number(img: &[u8], c: Card, l: Kept, r: usize) -> usize
 // The tokens of row r.
 pub fn tokens(img: &[u8], c: Card, l: Kept, r: usize) -> Tokens
     requires laid { ⌜ Laid (layoutOf c) (now img) ⌝ }
-    requires inside { ⌜ r < length (itemsOf l (decode (layoutOf c) (now img))) ⌝ }
-    ensures { λ t. ⌜ tokOf t ≡ itemTok l (itemAt l (decode (layoutOf c) (now (img .entry))) r) ⌝ }
+    requires inside { ⌜ r < length (itemsOf l (tablesOf c (now img))) ⌝ }
+    ensures { λ t. ⌜ tokOf t ≡ itemTok l (itemAt l (tablesOf c (now (img .entry))) r) ⌝ }
 {
     let at = geometry::place_at(c, l, r);
     let part = geometry::tokens_in(l);
@@ -57,8 +57,8 @@ pub fn tokens(img: &[u8], c: Card, l: Kept, r: usize) -> Tokens
 // Row r has this AID: of the callee of an unmet call, of the caller that a grant waits for.
 pub fn has_aid(img: &[u8], c: Card, l: Kept, r: usize, aid: &[u8]) -> bool
     requires laid { ⌜ Laid (layoutOf c) (now img) ⌝ }
-    requires inside { ⌜ r < length (itemsOf l (decode (layoutOf c) (now img))) ⌝ }
-    ensures { λ b. ⌜ b ≡ eqAid (itemAid l (itemAt l (decode (layoutOf c) (now (img .entry))) r)) (now (aid .entry)) ⌝ }
+    requires inside { ⌜ r < length (itemsOf l (tablesOf c (now img))) ⌝ }
+    ensures { λ b. ⌜ b ≡ eqAid (itemAid l (itemAt l (tablesOf c (now (img .entry))) r)) (now (aid .entry)) ⌝ }
 {
     let at = geometry::place_at(c, l, r);
     crate::read::aid_is(img, at, aid)
@@ -67,9 +67,9 @@ pub fn has_aid(img: &[u8], c: Card, l: Kept, r: usize, aid: &[u8]) -> bool
 // The number of the package with the AID of row r; the number of packages where there is none.
 pub fn find_holder(img: &[u8], c: Card, l: Kept, r: usize) -> usize
     requires laid { ⌜ Laid (layoutOf c) (now img) ⌝ }
-    requires inside { ⌜ r < length (itemsOf l (decode (layoutOf c) (now img))) ⌝ }
-    ensures { λ n. ⌜ n ≡ numberOr (layoutOf c .packages) (numberOf (layoutOf c) (decode (layoutOf c) (now (img .entry)))
-        (itemAid l (itemAt l (decode (layoutOf c) (now (img .entry))) r))) ⌝ }
+    requires inside { ⌜ r < length (itemsOf l (tablesOf c (now img))) ⌝ }
+    ensures { λ n. ⌜ n ≡ numberOr (layoutOf c .packages) (numberOf (layoutOf c) (tablesOf c (now (img .entry)))
+        (itemAid l (itemAt l (tablesOf c (now (img .entry))) r))) ⌝ }
 {
     let at = geometry::place_at(c, l, r);
     let n = img[at] as usize;
@@ -80,8 +80,8 @@ pub fn find_holder(img: &[u8], c: Card, l: Kept, r: usize) -> usize
 // Row r has these tokens.
 pub fn has_tokens(img: &[u8], c: Card, l: Kept, r: usize, t: Tokens) -> bool
     requires laid { ⌜ Laid (layoutOf c) (now img) ⌝ }
-    requires inside { ⌜ r < length (itemsOf l (decode (layoutOf c) (now img))) ⌝ }
-    ensures { λ b. ⌜ b ≡ eqTok (itemTok l (itemAt l (decode (layoutOf c) (now (img .entry))) r)) (tokOf t) ⌝ }
+    requires inside { ⌜ r < length (itemsOf l (tablesOf c (now img))) ⌝ }
+    ensures { λ b. ⌜ b ≡ eqTok (itemTok l (itemAt l (tablesOf c (now (img .entry))) r)) (tokOf t) ⌝ }
 {
     let at = geometry::place_at(c, l, r);
     let part = geometry::tokens_in(l);
@@ -91,9 +91,9 @@ pub fn has_tokens(img: &[u8], c: Card, l: Kept, r: usize, t: Tokens) -> bool
 // Row r has this AID and these tokens. Tokens are the quicker test.
 pub fn has_row(img: &[u8], c: Card, l: Kept, r: usize, aid: &[u8], t: Tokens) -> bool
     requires laid { ⌜ Laid (layoutOf c) (now img) ⌝ }
-    requires inside { ⌜ r < length (itemsOf l (decode (layoutOf c) (now img))) ⌝ }
-    ensures { λ b. ⌜ b ≡ eqAid (itemAid l (itemAt l (decode (layoutOf c) (now (img .entry))) r)) (now (aid .entry))
-        && eqTok (itemTok l (itemAt l (decode (layoutOf c) (now (img .entry))) r)) (tokOf t) ⌝ }
+    requires inside { ⌜ r < length (itemsOf l (tablesOf c (now img))) ⌝ }
+    ensures { λ b. ⌜ b ≡ eqAid (itemAid l (itemAt l (tablesOf c (now (img .entry))) r)) (now (aid .entry))
+        && eqTok (itemTok l (itemAt l (tablesOf c (now (img .entry))) r)) (tokOf t) ⌝ }
 {
     if !has_tokens(img, c, l, r, t) {
         return false;
@@ -105,7 +105,7 @@ pub fn has_row(img: &[u8], c: Card, l: Kept, r: usize, aid: &[u8], t: Tokens) ->
 pub fn with_row(img: &[u8], c: Card, l: Kept, aid: &[u8], t: Tokens) -> u32
     requires { ⌜ Laid (layoutOf c) (now img) ⌝ }
     ensures { λ m. ⌜ m ≡ maskOf (λ x. eqAid (itemAid l x) (now (aid .entry)) && eqTok (itemTok l x) (tokOf t))
-        (itemsOf l (decode (layoutOf c) (now (img .entry)))) ⌝ }
+        (itemsOf l (tablesOf c (now (img .entry)))) ⌝ }
 {
     let mut r = count(img, c, l);
     let mut mask: u32 = 0;
@@ -120,7 +120,7 @@ pub fn with_row(img: &[u8], c: Card, l: Kept, aid: &[u8], t: Tokens) -> u32
 // Which rows have this package number.
 pub fn with_number(img: &[u8], c: Card, l: Kept, n: usize) -> u32
     requires { ⌜ Laid (layoutOf c) (now img) ⌝ }
-    ensures { λ m. ⌜ m ≡ maskOf (λ x. eqb (itemNumber l x) n) (itemsOf l (decode (layoutOf c) (now (img .entry)))) ⌝ }
+    ensures { λ m. ⌜ m ≡ maskOf (λ x. eqb (itemNumber l x) n) (itemsOf l (tablesOf c (now (img .entry)))) ⌝ }
 {
     let mut r = count(img, c, l);
     let mut mask: u32 = 0;
@@ -136,7 +136,7 @@ pub fn with_number(img: &[u8], c: Card, l: Kept, n: usize) -> u32
 pub fn with_service(img: &[u8], c: Card, l: Kept, n: usize, t: Tokens) -> u32
     requires { ⌜ Laid (layoutOf c) (now img) ⌝ }
     ensures { λ m. ⌜ m ≡ maskOf (λ x. eqb (itemNumber l x) n && eqTok (itemTok l x) (tokOf t))
-        (itemsOf l (decode (layoutOf c) (now (img .entry)))) ⌝ }
+        (itemsOf l (tablesOf c (now (img .entry)))) ⌝ }
 {
     let mut r = count(img, c, l);
     let mut mask: u32 = 0;

@@ -4,10 +4,10 @@ ghost use mathlib.Core.Bool.{_&&_};
 ghost use Prim.Native.Nat.{_+_, _≤_, _<_};
 ghost use lib.ListN.{length, getD};
 ghost use Rattle.policy.specs.Contract.{Aid, eqAid, eqTok};
-ghost use Rattle.policy.specs.Tables.{rowOf, writeAid, decode};
+ghost use Rattle.policy.specs.Tables.{rowOf, writeAid};
 ghost use Rattle.policy.specs.Lookup.{numberOf, serviceOf, serverOf, spotOf, freeNumber, freeService};
 ghost use Rattle.geometry.specs.Geometry.{layoutOf, tokOf};
-ghost use Rattle.image.specs.Laid.{Laid, tableOf};
+ghost use Rattle.image.specs.Laid.{Laid, tableOf, tablesOf};
 ghost use Rattle.image.specs.Read.{numberOr, placeOr, spotOr, asked, aidIn, tokensIn};
 use geometry::Card;
 use geometry::Table;
@@ -28,7 +28,7 @@ pub struct Spot {
 // The used package numbers.
 pub fn used_row(img: &[u8], c: Card) -> u16
     requires { ⌜ Laid (layoutOf c) (now img) ⌝ }
-    ensures { λ r. ⌜ r ≡ rowOf (layoutOf c .packages) (decode (layoutOf c) (now (img .entry)) .used) ⌝ }
+    ensures { λ r. ⌜ r ≡ rowOf (layoutOf c .packages) (tablesOf c (now (img .entry)) .used) ⌝ }
 {
     geometry::row_at(img, c, 3)
 }
@@ -37,7 +37,7 @@ pub fn used_row(img: &[u8], c: Card) -> u16
 pub fn provided_row(img: &[u8], c: Card, j: usize) -> u16
     requires laid { ⌜ Laid (layoutOf c) (now img) ⌝ }
     requires inside { ⌜ j < layoutOf c .packages ⌝ }
-    ensures { λ r. ⌜ r ≡ rowOf (layoutOf c .services) (decode (layoutOf c) (now (img .entry)) .provides j) ⌝ }
+    ensures { λ r. ⌜ r ≡ rowOf (layoutOf c .services) (tablesOf c (now (img .entry)) .provides j) ⌝ }
 {
     let at = geometry::prov_at(c, j);
     geometry::row_at(img, c, at)
@@ -47,7 +47,7 @@ pub fn provided_row(img: &[u8], c: Card, j: usize) -> u16
 pub fn entry(img: &[u8], c: Card, tb: Table, i: usize, j: usize) -> u16
     requires laid { ⌜ Laid (layoutOf c) (now img) ⌝ }
     requires inside { ⌜ (i < layoutOf c .packages) × (j < layoutOf c .packages) ⌝ }
-    ensures { λ r. ⌜ r ≡ rowOf (layoutOf c .services) (tableOf tb (decode (layoutOf c) (now (img .entry))) i j) ⌝ }
+    ensures { λ r. ⌜ r ≡ rowOf (layoutOf c .services) (tableOf tb (tablesOf c (now (img .entry))) i j) ⌝ }
 {
     let at = geometry::entry_at(c, tb, i, j);
     geometry::row_at(img, c, at)
@@ -98,7 +98,7 @@ pub fn tokens_in(img: &[u8], at: usize) -> Tokens
 pub fn tokens_at(img: &[u8], c: Card, j: usize, k: usize) -> Tokens
     requires laid { ⌜ Laid (layoutOf c) (now img) ⌝ }
     requires inside { ⌜ (j < layoutOf c .packages) × (k < layoutOf c .services) ⌝ }
-    ensures { λ r. ⌜ tokOf r ≡ decode (layoutOf c) (now (img .entry)) .tok j k ⌝ }
+    ensures { λ r. ⌜ tokOf r ≡ tablesOf c (now (img .entry)) .tok j k ⌝ }
 {
     let at = geometry::tok_at(c, j, k);
     tokens_in(img, at)
@@ -108,7 +108,7 @@ pub fn tokens_at(img: &[u8], c: Card, j: usize, k: usize) -> Tokens
 pub fn aid_place(img: &[u8], c: Card, n: usize) -> [u8; 17]
     requires laid { ⌜ Laid (layoutOf c) (now img) ⌝ }
     requires inside { ⌜ n < layoutOf c .packages ⌝ }
-    ensures { λ r. ⌜ r ≡ writeAid (decode (layoutOf c) (now (img .entry)) .aid n) ⌝ }
+    ensures { λ r. ⌜ r ≡ writeAid (tablesOf c (now (img .entry)) .aid n) ⌝ }
 {
     let at = geometry::aid_at(c, n);
     let mut place = [0u8; 17];
@@ -120,8 +120,8 @@ pub fn aid_place(img: &[u8], c: Card, n: usize) -> [u8; 17]
 pub fn is_package(img: &[u8], c: Card, n: usize, aid: &[u8]) -> bool
     requires laid { ⌜ Laid (layoutOf c) (now img) ⌝ }
     requires inside { ⌜ n < layoutOf c .packages ⌝ }
-    ensures { λ r. ⌜ r ≡ decode (layoutOf c) (now (img .entry)) .used n
-        && eqAid (decode (layoutOf c) (now (img .entry)) .aid n) (now (aid .entry)) ⌝ }
+    ensures { λ r. ⌜ r ≡ tablesOf c (now (img .entry)) .used n
+        && eqAid (tablesOf c (now (img .entry)) .aid n) (now (aid .entry)) ⌝ }
 {
     let at = geometry::aid_at(c, n);
     if !aid_is(img, at, aid) {
@@ -135,7 +135,7 @@ pub fn is_package(img: &[u8], c: Card, n: usize, aid: &[u8]) -> bool
 pub fn find_package(img: &[u8], c: Card, aid: &[u8]) -> usize
     requires { ⌜ Laid (layoutOf c) (now img) ⌝ }
     ensures { λ r. ⌜ r ≡ numberOr (layoutOf c .packages)
-        (numberOf (layoutOf c) (decode (layoutOf c) (now (img .entry))) (now (aid .entry))) ⌝ }
+        (numberOf (layoutOf c) (tablesOf c (now (img .entry))) (now (aid .entry))) ⌝ }
 {
     let n = geometry::packages(c);
     for i in 0..n {
@@ -150,8 +150,8 @@ pub fn find_package(img: &[u8], c: Card, aid: &[u8]) -> usize
 pub fn is_service(img: &[u8], c: Card, j: usize, t: Tokens, k: usize) -> bool
     requires laid { ⌜ Laid (layoutOf c) (now img) ⌝ }
     requires inside { ⌜ (j < layoutOf c .packages) × (k < layoutOf c .services) ⌝ }
-    ensures { λ r. ⌜ r ≡ decode (layoutOf c) (now (img .entry)) .provides j k
-        && eqTok (decode (layoutOf c) (now (img .entry)) .tok j k) (tokOf t) ⌝ }
+    ensures { λ r. ⌜ r ≡ tablesOf c (now (img .entry)) .provides j k
+        && eqTok (tablesOf c (now (img .entry)) .tok j k) (tokOf t) ⌝ }
 {
     let row = provided_row(img, c, j);
     if !bits::has_bit(row, k) {
@@ -166,7 +166,7 @@ pub fn find_service(img: &[u8], c: Card, j: usize, t: Tokens) -> usize
     requires laid { ⌜ Laid (layoutOf c) (now img) ⌝ }
     requires inside { ⌜ j < layoutOf c .packages ⌝ }
     ensures { λ r. ⌜ r ≡ numberOr (layoutOf c .services)
-        (serviceOf (layoutOf c) (decode (layoutOf c) (now (img .entry))) j (tokOf t)) ⌝ }
+        (serviceOf (layoutOf c) (tablesOf c (now (img .entry))) j (tokOf t)) ⌝ }
 {
     let n = geometry::services(c);
     for k in 0..n {
@@ -182,8 +182,8 @@ pub fn find_service(img: &[u8], c: Card, j: usize, t: Tokens) -> usize
 fn spot_of(img: &[u8], c: Card, i: usize, j: usize, t: Tokens) -> Spot
     requires laid { ⌜ Laid (layoutOf c) (now img) ⌝ }
     requires inside { ⌜ (i < layoutOf c .packages → j < layoutOf c .packages) ⌝ }
-    ensures { λ r. ⌜ ((a : Aid) → i ≡ numberOr (layoutOf c .packages) (numberOf (layoutOf c) (decode (layoutOf c) (now (img .entry))) a)
-        → r ≡ spotOr (layoutOf c) (spotOf (layoutOf c) (decode (layoutOf c) (now (img .entry))) j (asked a t))) ⌝ }
+    ensures { λ r. ⌜ ((a : Aid) → i ≡ numberOr (layoutOf c .packages) (numberOf (layoutOf c) (tablesOf c (now (img .entry))) a)
+        → r ≡ spotOr (layoutOf c) (spotOf (layoutOf c) (tablesOf c (now (img .entry))) j (asked a t))) ⌝ }
 {
     let n = geometry::packages(c);
     let m = geometry::services(c);
@@ -210,7 +210,7 @@ fn spot_of(img: &[u8], c: Card, i: usize, j: usize, t: Tokens) -> Spot
 pub fn find_server(img: &[u8], c: Card, aid: &[u8], t: Tokens) -> Place
     requires { ⌜ Laid (layoutOf c) (now img) ⌝ }
     ensures { λ r. ⌜ r ≡ placeOr (layoutOf c)
-        (serverOf (layoutOf c) (decode (layoutOf c) (now (img .entry))) (asked (now (aid .entry)) t)) ⌝ }
+        (serverOf (layoutOf c) (tablesOf c (now (img .entry))) (asked (now (aid .entry)) t)) ⌝ }
 {
     let j = find_package(img, c, aid);
     let p = spot_of(img, c, j, j, t);
@@ -226,7 +226,7 @@ pub fn find_spot(img: &[u8], c: Card, j: usize, aid: &[u8], t: Tokens) -> Spot
     requires laid { ⌜ Laid (layoutOf c) (now img) ⌝ }
     requires inside { ⌜ j < layoutOf c .packages ⌝ }
     ensures { λ r. ⌜ r ≡ spotOr (layoutOf c)
-        (spotOf (layoutOf c) (decode (layoutOf c) (now (img .entry))) j (asked (now (aid .entry)) t)) ⌝ }
+        (spotOf (layoutOf c) (tablesOf c (now (img .entry))) j (asked (now (aid .entry)) t)) ⌝ }
 {
     let i = find_package(img, c, aid);
     spot_of(img, c, i, j, t)
@@ -235,7 +235,7 @@ pub fn find_spot(img: &[u8], c: Card, j: usize, aid: &[u8], t: Tokens) -> Spot
 // The lowest unused package number; the number of packages where all are used.
 pub fn free_number(img: &[u8], c: Card) -> usize
     requires { ⌜ Laid (layoutOf c) (now img) ⌝ }
-    ensures { λ r. ⌜ r ≡ numberOr (layoutOf c .packages) (freeNumber (layoutOf c) (decode (layoutOf c) (now (img .entry)))) ⌝ }
+    ensures { λ r. ⌜ r ≡ numberOr (layoutOf c .packages) (freeNumber (layoutOf c) (tablesOf c (now (img .entry)))) ⌝ }
 {
     let row = used_row(img, c);
     bits::lowest_clear(row)
@@ -245,7 +245,7 @@ pub fn free_number(img: &[u8], c: Card) -> usize
 pub fn free_service(img: &[u8], c: Card, j: usize) -> usize
     requires laid { ⌜ Laid (layoutOf c) (now img) ⌝ }
     requires inside { ⌜ j < layoutOf c .packages ⌝ }
-    ensures { λ r. ⌜ r ≡ numberOr (layoutOf c .services) (freeService (layoutOf c) (decode (layoutOf c) (now (img .entry))) j) ⌝ }
+    ensures { λ r. ⌜ r ≡ numberOr (layoutOf c .services) (freeService (layoutOf c) (tablesOf c (now (img .entry))) j) ⌝ }
 {
     let row = provided_row(img, c, j);
     bits::lowest_clear(row)

@@ -4,11 +4,11 @@ ghost use mathlib.Core.Bool.{true, false};
 ghost use mathlib.Core.List.{[], _∷_, _++_};
 ghost use Prim.Native.Nat.{_+_, _^_, _≤_, _<_};
 ghost use lib.ListN.{length};
-ghost use Rattle.policy.specs.Tables.{bit, writeAid, decode};
+ghost use Rattle.policy.specs.Tables.{bit, writeAid};
 ghost use Rattle.policy.specs.Draft.{put3};
 ghost use Rattle.geometry.specs.Geometry.{layoutOf, tokOf};
 ghost use Rattle.rows.specs.Area.{over, HasRoom, keepRows, appended};
-ghost use Rattle.image.specs.Laid.{Laid, tableOf, withUsed, withAid, withTok, withProvides, withTable, withEntry, withItems};
+ghost use Rattle.image.specs.Laid.{Laid, tableOf, withUsed, withAid, withTok, withProvides, withTable, withEntry, withItems, tablesOf};
 ghost use Rattle.image.specs.Read.{itemsOf, item, tailOf};
 ghost use Rattle.image.specs.Wrote.{Wrote, withoutPackage, rowIn, withoutService, withoutServices};
 use geometry::Card;
@@ -21,7 +21,7 @@ pub fn set_entry(img: &mut [u8], c: Card, tb: Table, i: usize, j: usize, row: u1
     requires laid { ⌜ Laid (layoutOf c) (now img) ⌝ }
     requires inside { ⌜ (i < layoutOf c .packages) × (j < layoutOf c .packages) ⌝ }
     requires fits { ⌜ row < 2 ^ layoutOf c .services ⌝ }
-    ensures { λ _. ⌜ Wrote (layoutOf c) (now (img .exit)) (withEntry tb i j (bit row) (decode (layoutOf c) (now (img .entry)))) ⌝ }
+    ensures { λ _. ⌜ Wrote (layoutOf c) (now (img .exit)) (withEntry tb i j (bit row) (tablesOf c (now (img .entry)))) ⌝ }
 {
     let at = geometry::entry_at(c, tb, i, j);
     geometry::put_row(img, c, at, row);
@@ -32,7 +32,7 @@ pub fn set_bit(img: &mut [u8], c: Card, tb: Table, i: usize, j: usize, k: usize)
     requires laid { ⌜ Laid (layoutOf c) (now img) ⌝ }
     requires inside { ⌜ (i < layoutOf c .packages) × (j < layoutOf c .packages) × (k < layoutOf c .services) ⌝ }
     ensures { λ _. ⌜ Wrote (layoutOf c) (now (img .exit))
-        (withTable tb (put3 i j k true (tableOf tb (decode (layoutOf c) (now (img .entry))))) (decode (layoutOf c) (now (img .entry)))) ⌝ }
+        (withTable tb (put3 i j k true (tableOf tb (tablesOf c (now (img .entry))))) (tablesOf c (now (img .entry)))) ⌝ }
 {
     let at = geometry::entry_at(c, tb, i, j);
     let row = geometry::row_at(img, c, at);
@@ -44,7 +44,7 @@ pub fn clear_bit(img: &mut [u8], c: Card, tb: Table, i: usize, j: usize, k: usiz
     requires laid { ⌜ Laid (layoutOf c) (now img) ⌝ }
     requires inside { ⌜ (i < layoutOf c .packages) × (j < layoutOf c .packages) × (k < layoutOf c .services) ⌝ }
     ensures { λ _. ⌜ Wrote (layoutOf c) (now (img .exit))
-        (withTable tb (put3 i j k false (tableOf tb (decode (layoutOf c) (now (img .entry))))) (decode (layoutOf c) (now (img .entry)))) ⌝ }
+        (withTable tb (put3 i j k false (tableOf tb (tablesOf c (now (img .entry))))) (tablesOf c (now (img .entry)))) ⌝ }
 {
     let at = geometry::entry_at(c, tb, i, j);
     let row = geometry::row_at(img, c, at);
@@ -55,7 +55,7 @@ pub fn clear_bit(img: &mut [u8], c: Card, tb: Table, i: usize, j: usize, k: usiz
 pub fn set_used(img: &mut [u8], c: Card, row: u16)
     requires laid { ⌜ Laid (layoutOf c) (now img) ⌝ }
     requires fits { ⌜ row < 2 ^ layoutOf c .packages ⌝ }
-    ensures { λ _. ⌜ Wrote (layoutOf c) (now (img .exit)) (withUsed (bit row) (decode (layoutOf c) (now (img .entry)))) ⌝ }
+    ensures { λ _. ⌜ Wrote (layoutOf c) (now (img .exit)) (withUsed (bit row) (tablesOf c (now (img .entry)))) ⌝ }
 {
     geometry::put_row(img, c, 3, row);
 }
@@ -65,7 +65,7 @@ pub fn set_provided(img: &mut [u8], c: Card, j: usize, row: u16)
     requires laid { ⌜ Laid (layoutOf c) (now img) ⌝ }
     requires inside { ⌜ j < layoutOf c .packages ⌝ }
     requires fits { ⌜ row < 2 ^ layoutOf c .services ⌝ }
-    ensures { λ _. ⌜ Wrote (layoutOf c) (now (img .exit)) (withProvides j (bit row) (decode (layoutOf c) (now (img .entry)))) ⌝ }
+    ensures { λ _. ⌜ Wrote (layoutOf c) (now (img .exit)) (withProvides j (bit row) (tablesOf c (now (img .entry)))) ⌝ }
 {
     let at = geometry::prov_at(c, j);
     geometry::put_row(img, c, at, row);
@@ -75,7 +75,7 @@ pub fn set_provided(img: &mut [u8], c: Card, j: usize, row: u16)
 pub fn put_tok(img: &mut [u8], c: Card, j: usize, k: usize, t: Tokens)
     requires laid { ⌜ Laid (layoutOf c) (now img) ⌝ }
     requires inside { ⌜ (j < layoutOf c .packages) × (k < layoutOf c .services) ⌝ }
-    ensures { λ _. ⌜ Wrote (layoutOf c) (now (img .exit)) (withTok j k (tokOf t) (decode (layoutOf c) (now (img .entry)))) ⌝ }
+    ensures { λ _. ⌜ Wrote (layoutOf c) (now (img .exit)) (withTok j k (tokOf t) (tablesOf c (now (img .entry)))) ⌝ }
 {
     let at = geometry::tok_at(c, j, k);
     img[at] = t.interface;
@@ -98,7 +98,7 @@ pub fn put_aid(img: &mut [u8], c: Card, n: usize, aid: &[u8])
     requires laid { ⌜ Laid (layoutOf c) (now img) ⌝ }
     requires inside { ⌜ n < layoutOf c .packages ⌝ }
     requires short { ⌜ length (now aid) ≤ 16 ⌝ }
-    ensures { λ _. ⌜ Wrote (layoutOf c) (now (img .exit)) (withAid n (now (aid .entry)) (decode (layoutOf c) (now (img .entry)))) ⌝ }
+    ensures { λ _. ⌜ Wrote (layoutOf c) (now (img .exit)) (withAid n (now (aid .entry)) (tablesOf c (now (img .entry)))) ⌝ }
 {
     let at = geometry::aid_at(c, n);
     put_slot(img, at, aid);
@@ -108,7 +108,7 @@ pub fn put_aid(img: &mut [u8], c: Card, n: usize, aid: &[u8])
 pub fn clear_aid(img: &mut [u8], c: Card, n: usize)
     requires laid { ⌜ Laid (layoutOf c) (now img) ⌝ }
     requires inside { ⌜ n < layoutOf c .packages ⌝ }
-    ensures { λ _. ⌜ Wrote (layoutOf c) (now (img .exit)) (withAid n [] (decode (layoutOf c) (now (img .entry)))) ⌝ }
+    ensures { λ _. ⌜ Wrote (layoutOf c) (now (img .exit)) (withAid n [] (tablesOf c (now (img .entry)))) ⌝ }
 {
     let at = geometry::aid_at(c, n);
     rows::put(img, at, &[0u8; 17]);
@@ -142,11 +142,11 @@ fn tail(l: Kept, t: Tokens, number: u8) -> [u8; 3]
 // package `aid`.
 pub fn append_row(img: &mut [u8], c: Card, l: Kept, aid: &[u8], t: Tokens, number: usize)
     requires laid { ⌜ Laid (layoutOf c) (now img) ⌝ }
-    requires room { ⌜ length (itemsOf l (decode (layoutOf c) (now img))) < layoutOf c .capacity ⌝ }
+    requires room { ⌜ length (itemsOf l (tablesOf c (now img))) < layoutOf c .capacity ⌝ }
     requires short { ⌜ length (now aid) ≤ 16 ⌝ }
     requires inside { ⌜ number < layoutOf c .packages ⌝ }
-    ensures { λ _. ⌜ Wrote (layoutOf c) (now (img .exit)) (withItems l (itemsOf l (decode (layoutOf c) (now (img .entry)))
-        ++ (item l (now (aid .entry)) (tokOf t) number ∷ [])) (decode (layoutOf c) (now (img .entry)))) ⌝ }
+    ensures { λ _. ⌜ Wrote (layoutOf c) (now (img .exit)) (withItems l (itemsOf l (tablesOf c (now (img .entry)))
+        ++ (item l (now (aid .entry)) (tokOf t) number ∷ [])) (tablesOf c (now (img .entry)))) ⌝ }
 {
     let at = geometry::list_at(c, l);
     let end = geometry::list_end(c, l);
@@ -158,7 +158,7 @@ pub fn append_row(img: &mut [u8], c: Card, l: Kept, aid: &[u8], t: Tokens, numbe
 pub fn drop_rows(img: &mut [u8], c: Card, l: Kept, mask: u32)
     requires { ⌜ Laid (layoutOf c) (now img) ⌝ }
     ensures { λ _. ⌜ Wrote (layoutOf c) (now (img .exit))
-        (withItems l (keepRows mask (itemsOf l (decode (layoutOf c) (now (img .entry))))) (decode (layoutOf c) (now (img .entry)))) ⌝ }
+        (withItems l (keepRows mask (itemsOf l (tablesOf c (now (img .entry))))) (tablesOf c (now (img .entry)))) ⌝ }
 {
     let at = geometry::list_at(c, l);
     let end = geometry::list_end(c, l);
@@ -171,7 +171,7 @@ pub fn clear_cross(img: &mut [u8], c: Card, tb: Table, n: usize)
     requires laid { ⌜ Laid (layoutOf c) (now img) ⌝ }
     requires inside { ⌜ n < layoutOf c .packages ⌝ }
     ensures { λ _. ⌜ Wrote (layoutOf c) (now (img .exit))
-        (withTable tb (withoutPackage n (tableOf tb (decode (layoutOf c) (now (img .entry))))) (decode (layoutOf c) (now (img .entry)))) ⌝ }
+        (withTable tb (withoutPackage n (tableOf tb (tablesOf c (now (img .entry))))) (tablesOf c (now (img .entry)))) ⌝ }
 {
     let size = geometry::packages(c);
     for x in 0..size {
@@ -196,8 +196,8 @@ pub fn clear_column_bit(img: &mut [u8], c: Card, tb: Table, j: usize, k: usize)
     requires laid { ⌜ Laid (layoutOf c) (now img) ⌝ }
     requires inside { ⌜ (j < layoutOf c .packages) × (k < layoutOf c .services) ⌝ }
     ensures { λ _. ⌜ Wrote (layoutOf c) (now (img .exit))
-        (withTable tb (withoutService tb j k (tableOf tb (decode (layoutOf c) (now (img .entry)))))
-        (decode (layoutOf c) (now (img .entry)))) ⌝ }
+        (withTable tb (withoutService tb j k (tableOf tb (tablesOf c (now (img .entry)))))
+        (tablesOf c (now (img .entry)))) ⌝ }
 {
     let size = geometry::packages(c);
     for x in 0..size {
@@ -211,7 +211,7 @@ pub fn clear_column_bit(img: &mut [u8], c: Card, tb: Table, j: usize, k: usize)
 pub fn clear_services(img: &mut [u8], c: Card, n: usize)
     requires laid { ⌜ Laid (layoutOf c) (now img) ⌝ }
     requires inside { ⌜ n < layoutOf c .packages ⌝ }
-    ensures { λ _. ⌜ Wrote (layoutOf c) (now (img .exit)) (withoutServices n (decode (layoutOf c) (now (img .entry)))) ⌝ }
+    ensures { λ _. ⌜ Wrote (layoutOf c) (now (img .exit)) (withoutServices n (tablesOf c (now (img .entry)))) ⌝ }
 {
     set_provided(img, c, n, 0);
     let size = geometry::services(c);

@@ -43,7 +43,8 @@ fn add_service(
 ) -> Verdict
     requires taken { ⌜ Taken (layoutOf c) (now img) (now own) (addService (tokOf t) (itemsIn aid (now rec) callers)) ⌝ }
     requires stands { ⌜ Stands aid (now rec) callers ⌝ }
-    ensures { λ v. ⌜ Gives (properly (layoutOf c) (now (img .entry)) (now (own .entry)) (addService (tokOf t) (itemsIn aid (now (rec .entry)) callers)))
+    ensures { λ v. ⌜ Gives (properly (layoutOf c) (now (img .entry)) (now (own .entry))
+        (addService (tokOf t) (itemsIn aid (now (rec .entry)) callers)))
         (v .number) (v .second) (now (img .exit)) ⌝ }
 {
     if !record::proper::callers_proper(rec, own, callers) {
@@ -67,10 +68,11 @@ fn change(img: &mut [u8], c: Card, own: &[u8], rec: &[u8], k: RowKind, r: Row) -
 }
 
 // Causes 3 to 11, and the change, of a record that was read, on a sound image.
-fn settle(img: &mut [u8], c: Card, rec: &[u8], r: Record) -> Verdict
+fn judge_read(img: &mut [u8], c: Card, rec: &[u8], r: Record) -> Verdict
     requires taken { ⌜ Taken (layoutOf c) (now img) (aidIn (now rec) (r .aid)) (kindOf (now rec) (r .kind)) ⌝ }
     requires fits { ⌜ RecordFits (now rec) r ⌝ }
-    ensures { λ v. ⌜ Gives (properly (layoutOf c) (now (img .entry)) (aidIn (now (rec .entry)) (r .aid)) (kindOf (now (rec .entry)) (r .kind)))
+    ensures { λ v. ⌜ Gives (properly (layoutOf c) (now (img .entry)) (aidIn (now (rec .entry)) (r .aid))
+        (kindOf (now (rec .entry)) (r .kind)))
         (v .number) (v .second) (now (img .exit)) ⌝ }
 {
     let own = record::aid_bytes(rec, r.aid);
@@ -94,5 +96,5 @@ pub fn judge(img: &mut [u8], c: Card, rec: &[u8]) -> Verdict
     let Read::Whole(r) = record::read_record(rec, c) else {
         return changes::refused(2);
     };
-    settle(img, c, rec, r)
+    judge_read(img, c, rec, r)
 }

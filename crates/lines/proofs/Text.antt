@@ -7,7 +7,8 @@ use native.Mathlib.Numerals.{add-one}
 use native.Mathlib.Omega.{arith}
 use lib.ListN.{length, take, drop, set, length-append}
 use lib.Seq.{set-split, take-at, drop-at, drop-drop, length-take-le}
-use Rattle.lines.specs.Lines.{over, Wrote, Printed}
+use Rattle.lines.specs.Lines.{Wrote, Printed}
+use Rattle.rows.specs.Area.{over}
 
 -- a byte stored is a text of one byte
 pub set-over : (l : List ℕ) (at b : ℕ) → at + 1 ≤ length l → set l at b ≡ over at (b ∷ []) l

@@ -7,6 +7,7 @@ use lib.Dec.{eqb, ltb}
 use lib.ListN.{length, take, drop}
 use Rattle.lines.specs.declared.Shown.{Shown}
 use Rattle.lines.specs.declared.Shown.the-variants.{Number, None}
+use Rattle.rows.specs.Area.{over}
 
 -- the decimal digits of n in ASCII, the last k of them where it has more; no zero stands in front
 abbrev pub digitsBy : ℕ → ℕ → List ℕ
@@ -35,10 +36,6 @@ abbrev pub badLine : ℕ → List ℕ
 badLine ordinal = line ordinal None 2 None
 
 -- ---- what a function that writes leaves
-
--- the text over what was lent, from index at
-abbrev pub over : ℕ → List ℕ → List ℕ → List ℕ
-over at text lent = take at lent ++ (text ++ drop (at + length text) lent)
 
 -- it wrote the text from index at, and answers where the text ends
 pub record Wrote (at : ℕ) (text lent : List ℕ) (r : ℕ) (left : List ℕ) : Type 0 where

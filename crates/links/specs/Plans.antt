@@ -87,7 +87,8 @@ pub record GrantFound (L : Layout) (t : Tables) (a : Aid) (r : Row) (s : GrantSp
 module _ (L : Layout) (t : Tables) (r : Row) where
   -- a row added to a list, where it is not there and the list has room; a row dropped from it
   abbrev pub addRow : Kept → ℕ → ℕ → Plan
-  addRow l n full = cond (eqb (rowMask l t n r) 0) (cond (ltb (length (itemsOf l t)) (L .capacity)) (Accept n (Add l)) (Refuse full)) (Refuse 6)
+  addRow l n full = cond (eqb (rowMask l t n r) 0) (cond (ltb (length (itemsOf l t)) (L .capacity)) (Accept n (Add l)) (Refuse full))
+      (Refuse 6)
 
   abbrev pub dropRow : Kept → ℕ → Plan
   dropRow l n = cond (eqb (rowMask l t n r) 0) (Refuse 6) (Accept n (Drop l (rowMask l t n r)))

@@ -1,8 +1,7 @@
 // Kinds 5 to 10: one call, grant or need of a package. A plan first, then the writes.
-ghost use Rattle.policy.specs.Tables.{decode};
 ghost use Rattle.policy.specs.Settled.{settled, Gives};
 ghost use Rattle.geometry.specs.Geometry.{layoutOf};
-ghost use Rattle.image.specs.Laid.{Laid};
+ghost use Rattle.image.specs.Laid.{Laid, tablesOf};
 ghost use Rattle.image.specs.Wrote.{Wrote};
 ghost use Rattle.image.specs.Read.{asked};
 ghost use Rattle.record.specs.Meaning.{changeOf};
@@ -22,8 +21,9 @@ pub mod spots;
 // Makes the change; a row that is added to a list has the AID `other`, and these tokens.
 fn apply(img: &mut [u8], c: Card, owner: usize, other: &[u8], t: Tokens, edit: Edit)
     requires laid { ⌜ Laid (layoutOf c) (now img) ⌝ }
-    requires inside { ⌜ Fits (layoutOf c) (decode (layoutOf c) (now img)) (asked (now other) t) owner edit ⌝ }
-    ensures { λ _. ⌜ Wrote (layoutOf c) (now (img .exit)) (edited (decode (layoutOf c) (now (img .entry))) (asked (now (other .entry)) t) owner edit) ⌝ }
+    requires inside { ⌜ Fits (layoutOf c) (tablesOf c (now img)) (asked (now other) t) owner edit ⌝ }
+    ensures { λ _. ⌜ Wrote (layoutOf c) (now (img .exit))
+        (edited (tablesOf c (now (img .entry))) (asked (now (other .entry)) t) owner edit) ⌝ }
 {
     match edit {
         Edit::Set(table, column, service) => image::write::set_bit(
@@ -54,8 +54,9 @@ fn apply(img: &mut [u8], c: Card, owner: usize, other: &[u8], t: Tokens, edit: E
 // Carries the plan out; `other` and the tokens are the record's row.
 fn perform(img: &mut [u8], c: Card, other: &[u8], t: Tokens, plan: Plan) -> Verdict
     requires laid { ⌜ Laid (layoutOf c) (now img) ⌝ }
-    requires inside { ⌜ Inside (layoutOf c) (decode (layoutOf c) (now img)) (asked (now other) t) plan ⌝ }
-    ensures { λ r. ⌜ Gives (done (layoutOf c) (now (img .entry)) (asked (now (other .entry)) t) plan) (r .number) (r .second) (now (img .exit)) ⌝ }
+    requires inside { ⌜ Inside (layoutOf c) (tablesOf c (now img)) (asked (now other) t) plan ⌝ }
+    ensures { λ r. ⌜ Gives (done (layoutOf c) (now (img .entry)) (asked (now (other .entry)) t) plan) (r .number) (r .second)
+        (now (img .exit)) ⌝ }
 {
     match plan {
         Plan::Refuse(cause) => changes::refused(cause),

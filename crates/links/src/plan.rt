@@ -1,8 +1,7 @@
 // What a record of kinds 5 to 10 comes to: found on the image, and not written yet.
 ghost use mathlib.Core.Path.{_≡_};
-ghost use Rattle.policy.specs.Tables.{decode};
 ghost use Rattle.geometry.specs.Geometry.{layoutOf};
-ghost use Rattle.image.specs.Laid.{Laid};
+ghost use Rattle.image.specs.Laid.{Laid, tablesOf};
 ghost use Rattle.image.specs.Read.{asked};
 ghost use Rattle.links.specs.Plans.{rowMask, addRow, dropRow, callPlan, grantPlan, planOf};
 ghost use Rattle.links.specs.Plans.{addCallPlan, removeCallPlan, addGrantPlan, removeGrantPlan, addNeedPlan, removeNeedPlan};
@@ -34,7 +33,7 @@ pub enum Plan {
 // Which rows of a list are that of package number n with the AID `other` and these tokens.
 fn row_mask(img: &[u8], c: Card, l: Kept, n: usize, other: &[u8], t: Tokens) -> u32
     requires { ⌜ Laid (layoutOf c) (now img) ⌝ }
-    ensures { λ m. ⌜ m ≡ rowMask l (decode (layoutOf c) (now (img .entry))) n (asked (now (other .entry)) t) ⌝ }
+    ensures { λ m. ⌜ m ≡ rowMask l (tablesOf c (now (img .entry))) n (asked (now (other .entry)) t) ⌝ }
 {
     let alike = image::lists::with_row(img, c, l, other, t);
     let own = image::lists::with_number(img, c, l, n);
@@ -44,7 +43,7 @@ fn row_mask(img: &[u8], c: Card, l: Kept, n: usize, other: &[u8], t: Tokens) -> 
 // A row of package number n more in a list, where it is not there yet; `full` is the cause where the list has no room.
 fn add_row(img: &[u8], c: Card, l: Kept, n: usize, other: &[u8], t: Tokens, full: u8) -> Plan
     requires { ⌜ Laid (layoutOf c) (now img) ⌝ }
-    ensures { λ r. ⌜ r ≡ addRow (layoutOf c) (decode (layoutOf c) (now (img .entry))) (asked (now (other .entry)) t) l n full ⌝ }
+    ensures { λ r. ⌜ r ≡ addRow (layoutOf c) (tablesOf c (now (img .entry))) (asked (now (other .entry)) t) l n full ⌝ }
 {
     if row_mask(img, c, l, n, other, t) != 0 {
         return Plan::Refuse(6);
@@ -58,7 +57,7 @@ fn add_row(img: &[u8], c: Card, l: Kept, n: usize, other: &[u8], t: Tokens, full
 // A row of package number n less, where it is there.
 fn drop_row(img: &[u8], c: Card, l: Kept, n: usize, other: &[u8], t: Tokens) -> Plan
     requires { ⌜ Laid (layoutOf c) (now img) ⌝ }
-    ensures { λ r. ⌜ r ≡ dropRow (layoutOf c) (decode (layoutOf c) (now (img .entry))) (asked (now (other .entry)) t) l n ⌝ }
+    ensures { λ r. ⌜ r ≡ dropRow (layoutOf c) (tablesOf c (now (img .entry))) (asked (now (other .entry)) t) l n ⌝ }
 {
     let mask = row_mask(img, c, l, n, other, t);
     if mask == 0 {
@@ -70,8 +69,8 @@ fn drop_row(img: &[u8], c: Card, l: Kept, n: usize, other: &[u8], t: Tokens) -> 
 // What kind 5 comes to.
 fn plan_add_call(img: &[u8], c: Card, aid: &[u8], other: &[u8], t: Tokens) -> Plan
     requires { ⌜ Laid (layoutOf c) (now img) ⌝ }
-    ensures { λ r. ⌜ r ≡ callPlan (layoutOf c) (decode (layoutOf c) (now (img .entry)))
-        (addCallPlan (layoutOf c) (decode (layoutOf c) (now (img .entry))) (asked (now (other .entry)) t))
+    ensures { λ r. ⌜ r ≡ callPlan (layoutOf c) (tablesOf c (now (img .entry)))
+        (addCallPlan (layoutOf c) (tablesOf c (now (img .entry))) (asked (now (other .entry)) t))
         (now (aid .entry)) (asked (now (other .entry)) t) ⌝ }
 {
     match crate::spots::seek_call(img, c, aid, other, t) {
@@ -92,8 +91,8 @@ fn plan_add_call(img: &[u8], c: Card, aid: &[u8], other: &[u8], t: Tokens) -> Pl
 // What kind 6 comes to.
 fn plan_remove_call(img: &[u8], c: Card, aid: &[u8], other: &[u8], t: Tokens) -> Plan
     requires { ⌜ Laid (layoutOf c) (now img) ⌝ }
-    ensures { λ r. ⌜ r ≡ callPlan (layoutOf c) (decode (layoutOf c) (now (img .entry)))
-        (removeCallPlan (layoutOf c) (decode (layoutOf c) (now (img .entry))) (asked (now (other .entry)) t))
+    ensures { λ r. ⌜ r ≡ callPlan (layoutOf c) (tablesOf c (now (img .entry)))
+        (removeCallPlan (layoutOf c) (tablesOf c (now (img .entry))) (asked (now (other .entry)) t))
         (now (aid .entry)) (asked (now (other .entry)) t) ⌝ }
 {
     match crate::spots::seek_call(img, c, aid, other, t) {
@@ -111,8 +110,8 @@ fn plan_remove_call(img: &[u8], c: Card, aid: &[u8], other: &[u8], t: Tokens) ->
 // What kind 7 comes to.
 fn plan_add_grant(img: &[u8], c: Card, aid: &[u8], other: &[u8], t: Tokens) -> Plan
     requires { ⌜ Laid (layoutOf c) (now img) ⌝ }
-    ensures { λ r. ⌜ r ≡ grantPlan (layoutOf c) (decode (layoutOf c) (now (img .entry)))
-        (addGrantPlan (layoutOf c) (decode (layoutOf c) (now (img .entry))) (asked (now (other .entry)) t))
+    ensures { λ r. ⌜ r ≡ grantPlan (layoutOf c) (tablesOf c (now (img .entry)))
+        (addGrantPlan (layoutOf c) (tablesOf c (now (img .entry))) (asked (now (other .entry)) t))
         (now (aid .entry)) (asked (now (other .entry)) t) ⌝ }
 {
     match crate::spots::seek_grant(img, c, aid, other, t) {
@@ -130,8 +129,8 @@ fn plan_add_grant(img: &[u8], c: Card, aid: &[u8], other: &[u8], t: Tokens) -> P
 // What kind 8 comes to.
 fn plan_remove_grant(img: &[u8], c: Card, aid: &[u8], other: &[u8], t: Tokens) -> Plan
     requires { ⌜ Laid (layoutOf c) (now img) ⌝ }
-    ensures { λ r. ⌜ r ≡ grantPlan (layoutOf c) (decode (layoutOf c) (now (img .entry)))
-        (removeGrantPlan (layoutOf c) (decode (layoutOf c) (now (img .entry))) (asked (now (other .entry)) t))
+    ensures { λ r. ⌜ r ≡ grantPlan (layoutOf c) (tablesOf c (now (img .entry)))
+        (removeGrantPlan (layoutOf c) (tablesOf c (now (img .entry))) (asked (now (other .entry)) t))
         (now (aid .entry)) (asked (now (other .entry)) t) ⌝ }
 {
     match crate::spots::seek_grant(img, c, aid, other, t) {
@@ -152,8 +151,8 @@ fn plan_remove_grant(img: &[u8], c: Card, aid: &[u8], other: &[u8], t: Tokens) -
 // What kind 9 comes to.
 fn plan_add_need(img: &[u8], c: Card, aid: &[u8], other: &[u8], t: Tokens) -> Plan
     requires { ⌜ Laid (layoutOf c) (now img) ⌝ }
-    ensures { λ r. ⌜ r ≡ callPlan (layoutOf c) (decode (layoutOf c) (now (img .entry)))
-        (addNeedPlan (layoutOf c) (decode (layoutOf c) (now (img .entry))) (asked (now (other .entry)) t))
+    ensures { λ r. ⌜ r ≡ callPlan (layoutOf c) (tablesOf c (now (img .entry)))
+        (addNeedPlan (layoutOf c) (tablesOf c (now (img .entry))) (asked (now (other .entry)) t))
         (now (aid .entry)) (asked (now (other .entry)) t) ⌝ }
 {
     match crate::spots::seek_call(img, c, aid, other, t) {
@@ -179,8 +178,8 @@ fn plan_add_need(img: &[u8], c: Card, aid: &[u8], other: &[u8], t: Tokens) -> Pl
 // What kind 10 comes to.
 fn plan_remove_need(img: &[u8], c: Card, aid: &[u8], other: &[u8], t: Tokens) -> Plan
     requires { ⌜ Laid (layoutOf c) (now img) ⌝ }
-    ensures { λ r. ⌜ r ≡ callPlan (layoutOf c) (decode (layoutOf c) (now (img .entry)))
-        (removeNeedPlan (layoutOf c) (decode (layoutOf c) (now (img .entry))) (asked (now (other .entry)) t))
+    ensures { λ r. ⌜ r ≡ callPlan (layoutOf c) (tablesOf c (now (img .entry)))
+        (removeNeedPlan (layoutOf c) (tablesOf c (now (img .entry))) (asked (now (other .entry)) t))
         (now (aid .entry)) (asked (now (other .entry)) t) ⌝ }
 {
     match crate::spots::seek_call(img, c, aid, other, t) {
@@ -198,7 +197,7 @@ fn plan_remove_need(img: &[u8], c: Card, aid: &[u8], other: &[u8], t: Tokens) ->
 // What a record of kinds 5 to 10 comes to: the row of the package `own` with the AID `other` and these tokens.
 pub fn plan_row(img: &[u8], c: Card, own: &[u8], other: &[u8], t: Tokens, k: RowKind) -> Plan
     requires { ⌜ Laid (layoutOf c) (now img) ⌝ }
-    ensures { λ r. ⌜ r ≡ planOf (layoutOf c) (decode (layoutOf c) (now (img .entry))) (now (own .entry)) (asked (now (other .entry)) t) k ⌝ }
+    ensures { λ r. ⌜ r ≡ planOf (layoutOf c) (tablesOf c (now (img .entry))) (now (own .entry)) (asked (now (other .entry)) t) k ⌝ }
 {
     match k {
         RowKind::AddCall => plan_add_call(img, c, own, other, t),

@@ -1,8 +1,7 @@
 // Where the row of a record of kinds 5 to 10 stands.
 ghost use mathlib.Core.Path.{_≡_};
-ghost use Rattle.policy.specs.Tables.{decode};
 ghost use Rattle.geometry.specs.Geometry.{layoutOf};
-ghost use Rattle.image.specs.Laid.{Laid, tableOf};
+ghost use Rattle.image.specs.Laid.{Laid, tableOf, tablesOf};
 ghost use Rattle.image.specs.Read.{asked};
 ghost use Rattle.links.specs.Plans.{CallFound, GrantFound, BitAt};
 use geometry::Card;
@@ -27,7 +26,7 @@ pub enum GrantSpot {
 pub fn has(img: &[u8], c: Card, tb: Table, i: usize, j: usize, k: usize) -> bool
     requires laid { ⌜ Laid (layoutOf c) (now img) ⌝ }
     requires inside { ⌜ BitAt (layoutOf c) i j k ⌝ }
-    ensures { λ r. ⌜ r ≡ tableOf tb (decode (layoutOf c) (now (img .entry))) i j k ⌝ }
+    ensures { λ r. ⌜ r ≡ tableOf tb (tablesOf c (now (img .entry))) i j k ⌝ }
 {
     let row = image::read::entry(img, c, tb, i, j);
     bits::has_bit(row, k)
@@ -36,7 +35,7 @@ pub fn has(img: &[u8], c: Card, tb: Table, i: usize, j: usize, k: usize) -> bool
 // Where the call or need of the package `aid` on the service of `other` with these tokens stands.
 pub fn seek_call(img: &[u8], c: Card, aid: &[u8], other: &[u8], t: Tokens) -> CallSpot
     requires { ⌜ Laid (layoutOf c) (now img) ⌝ }
-    ensures { λ s. ⌜ CallFound (layoutOf c) (decode (layoutOf c) (now (img .entry))) (now (aid .entry)) (asked (now (other .entry)) t) s ⌝ }
+    ensures { λ s. ⌜ CallFound (layoutOf c) (tablesOf c (now (img .entry))) (now (aid .entry)) (asked (now (other .entry)) t) s ⌝ }
 {
     let n = geometry::packages(c);
     let i = image::read::find_package(img, c, aid);
@@ -55,7 +54,7 @@ pub fn seek_call(img: &[u8], c: Card, aid: &[u8], other: &[u8], t: Tokens) -> Ca
 // Where the grant of the package `aid` of its service with these tokens to `other` stands.
 pub fn seek_grant(img: &[u8], c: Card, aid: &[u8], other: &[u8], t: Tokens) -> GrantSpot
     requires { ⌜ Laid (layoutOf c) (now img) ⌝ }
-    ensures { λ s. ⌜ GrantFound (layoutOf c) (decode (layoutOf c) (now (img .entry))) (now (aid .entry)) (asked (now (other .entry)) t) s ⌝ }
+    ensures { λ s. ⌜ GrantFound (layoutOf c) (tablesOf c (now (img .entry))) (now (aid .entry)) (asked (now (other .entry)) t) s ⌝ }
 {
     let n = geometry::packages(c);
     let j = image::read::find_package(img, c, aid);

@@ -14,8 +14,8 @@ use Rattle.policy.specs.Record.{Change, load}
 use Rattle.policy.specs.Causes.{answer}
 use Rattle.policy.specs.Tables.{Tables, Unmet, Waiting, bit, decode, encode}
 use Rattle.policy.specs.Lookup.{Place, numberOf, serviceOf, serverOf, freeNumber}
-use Rattle.policy.specs.Draft.{Look, loadAt}
-use Rattle.policy.specs.ShortCheck.{count}
+use Rattle.policy.specs.Draft.{Look, loadAt, installedAid}
+use Rattle.policy.specs.ShortCheck.{count, nowMet}
 use Rattle.policy.specs.Judge.{lookCauses, refusal}
 use Rattle.policy.specs.Settled.{settled}
 use Rattle.geometry.specs.declared.Kept.the-variants.{UnmetCalls, WaitingGrants}
@@ -26,21 +26,14 @@ use Rattle.packages.specs.declared.decide.Decided.{Decided}
 use Rattle.packages.specs.declared.decide.Called.{Called}
 use Rattle.packages.specs.declared.decide.Called.the-variants.{Granted, Refused}
 
--- an unmet call on a service of the package a with the services p
-abbrev pub meets : Aid → List Tok → Unmet → Bool
-meets a p u = eqAid (u .callee) a && hasTok (u .tok) p
-
 module _ (L : Layout) (t : Tables) where
-  abbrev pub present : Aid → Bool
-  present a = isSome (numberOf L t a)
-
   -- a grant that waits for the package a alone: its service is provided
   abbrev pub comesDue : Aid → Waiting → Bool
   comesDue a w = eqAid (w .caller) a && isSome (serviceOf L t (w .callee) (w .tok))
 
   -- a grant of a package with the services p is a bit: caller and service are both there
   abbrev pub bothThere : List Tok → Row → Bool
-  bothThere p r = present (r .aid) && hasTok (r .tok) p
+  bothThere p r = installedAid L t (r .aid) && hasTok (r .tok) p
 
   -- one of the rows of the mask is a grant, by the package of the place, of its service with the tokens s
   abbrev pub waitsAt : ℕ → Tok → Place → Bool
@@ -91,7 +84,7 @@ module _ (L : Layout) (t : Tables) where
 -- the cause at number m, and the masks that it is by
 pub record Found (L : Layout) (t : Tables) (k : Contract) (m : ℕ) (r : Decided) : Type 0 where
   pub at-is : r .at ≡ m
-  pub met-is : r .met ≡ maskOf (meets (k .aid) (k .provides)) (t .unmet)
+  pub met-is : r .met ≡ maskOf (nowMet L t k) (t .unmet)
   pub due-is : r .due ≡ maskOf (comesDue L t (k .aid)) (t .waiting)
   pub cause-is : r .number ≡ loadCause L t k (r .met) (r .due)
 
@@ -99,12 +92,14 @@ pub record Found (L : Layout) (t : Tables) (k : Contract) (m : ℕ) (r : Decided
 abbrev pub loadOf : Contract → Change
 loadOf k = load (k .provides) (k .calls) (k .grants) (k .needs)
 
--- it is accepted: the number that the package takes, and the masks of the unmet calls that it meets and of the grants that wait for it alone
+-- it is accepted: the number that the package takes, and the masks of the unmet calls that it meets and of the grants that wait for it
+-- alone
 pub record Accepts (L : Layout) (img : List ℕ) (k : Contract) (r : Decided) : Type 0 where
-  pub outcome : settled L img (k .aid) (loadOf k) ≡ record { answered = 0; second = r .at; bytes = encode L (loadAt L (decode L img) (r .at) k .tables) }
+  pub outcome : settled L img (k .aid) (loadOf k) ≡ record
+      { answered = 0; second = r .at; bytes = encode L (loadAt L (decode L img) (r .at) k .tables) }
   pub away : numberOf L (decode L img) (k .aid) ≡ none
   pub free : freeNumber L (decode L img) ≡ some (r .at)
-  pub met-is : r .met ≡ maskOf (meets (k .aid) (k .provides)) (decode L img .unmet)
+  pub met-is : r .met ≡ maskOf (nowMet L (decode L img) k) (decode L img .unmet)
   pub due-is : r .due ≡ maskOf (comesDue L (decode L img) (k .aid)) (decode L img .waiting)
 
 pub record Decides (L : Layout) (img : List ℕ) (k : Contract) (r : Decided) : Type 0 where

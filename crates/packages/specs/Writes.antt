@@ -12,7 +12,8 @@ use Rattle.policy.specs.Draft.{callRow, hasUnmet, hasWaiting, put, loadedNames,
 use Rattle.image.specs.Laid.{withUsed, withAid}
 use Rattle.changes.specs.Places.{opened}
 use Rattle.changes.specs.Joins.{takenIn}
-use Rattle.packages.specs.Loads.{meets, comesDue}
+use Rattle.packages.specs.Loads.{comesDue}
+use Rattle.policy.specs.ShortCheck.{nowMet}
 
 -- package n is used, with the AID a
 abbrev pub named : ℕ → Aid → Tables → Tables
@@ -29,7 +30,8 @@ module _ (L : Layout) where
     abbrev pub onCard : Tables → Tables
     onCard t = takenIn L n met due (openedAll n 0 (c .provides) (named n (c .aid) t))
 
-  -- ---- the package with its services, known to the others: 'loading turns fitting unmet calls and waiting grants into bits'. Its own rows are not written yet
+  -- ---- the package with its services, known to the others: 'loading turns fitting unmet calls and waiting grants into bits'. Its own
+  -- rows are not written yet
   module _ (t : Tables) (n : ℕ) (c : Contract) where
     abbrev pub joined : Tables
     joined = record {
@@ -38,10 +40,12 @@ module _ (L : Layout) where
       tok = loadedNames L t n c .tok;
       provides = loadedNames L t n c .provides;
       calls = λ x y z. cond (eqb x n) false
-          (cond (eqb y n) (loadedProvides L t n c n z && hasUnmet (callRow x (serviceAt (loadedNames L t n c) n z)) (t .unmet)) (t .calls x y z));
+          (cond (eqb y n) (loadedProvides L t n c n z && hasUnmet (callRow x (serviceAt (loadedNames L t n c) n z)) (t .unmet))
+          (t .calls x y z));
       grants = λ x y z. cond (eqb x n) false
-          (cond (eqb y n) (t .provides x z && hasWaiting (record { caller = c .aid; callee = x; tok = t .tok x z }) (t .waiting)) (t .grants x y z));
+          (cond (eqb y n) (t .provides x z && hasWaiting (record { caller = c .aid; callee = x; tok = t .tok x z }) (t .waiting))
+          (t .grants x y z));
       needs = λ x y z. cond (eqb x n) false (t .needs x y z);
-      unmet = keep (λ u. not (meets (c .aid) (c .provides) u)) (t .unmet);
+      unmet = keep (λ u. not (nowMet L t c u)) (t .unmet);
       waiting = keep (λ w. not (comesDue L t (c .aid) w)) (t .waiting);
     }

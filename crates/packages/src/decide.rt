@@ -8,17 +8,18 @@ ghost use Rattle.policy.specs.Lists.{implies, every, exists};
 ghost use Rattle.policy.specs.Contract.{Aid as Bytes};
 ghost use Rattle.policy.specs.Record.{tokens, aRow};
 ghost use Rattle.policy.specs.Sound.{sound};
-ghost use Rattle.policy.specs.Tables.{bit, decode};
+ghost use Rattle.policy.specs.Tables.{bit};
 ghost use Rattle.policy.specs.Lookup.{numberOf, freeNumber};
-ghost use Rattle.policy.specs.ShortCheck.{count};
+ghost use Rattle.policy.specs.Draft.{installedAid};
+ghost use Rattle.policy.specs.ShortCheck.{count, nowMet};
 ghost use Rattle.geometry.specs.Geometry.{layoutOf};
-ghost use Rattle.image.specs.Laid.{Laid};
+ghost use Rattle.image.specs.Laid.{Laid, tablesOf};
 ghost use Rattle.image.specs.Read.{maskOf, unmetRow, waitingRow};
 ghost use Rattle.record.specs.Meaning.{AidFits, Stands, ListsStand, aidIn, rowIn, itemsIn, loadIn, contractIn};
 ghost use Rattle.changes.specs.Asked.{Asked};
 ghost use Rattle.changes.specs.Joins.{GivenIn};
 ghost use Rattle.changes.specs.Own.{served};
-ghost use Rattle.packages.specs.Loads.{meets, present, bothThere, comesDue, grantFits, CallsCome, othersGranted, limitCause, loadCause};
+ghost use Rattle.packages.specs.Loads.{bothThere, comesDue, grantFits, CallsCome, othersGranted, limitCause, loadCause};
 ghost use Rattle.packages.specs.Loads.{Found, Decides};
 use geometry::Card;
 use geometry::Kept;
@@ -46,7 +47,7 @@ pub enum Called {
 fn is_served(img: &[u8], c: Card, rec: &[u8], r: Row) -> bool
     requires laid { ⌜ Laid (layoutOf c) (now img) ⌝ }
     requires fits { ⌜ AidFits (now rec) (r .other) ⌝ }
-    ensures { λ b. ⌜ b ≡ served (layoutOf c) (decode (layoutOf c) (now (img .entry))) (rowIn (now (rec .entry)) r) ⌝ }
+    ensures { λ b. ⌜ b ≡ served (layoutOf c) (tablesOf c (now (img .entry))) (rowIn (now (rec .entry)) r) ⌝ }
 {
     let n = geometry::packages(c);
     let p = changes::find::server(img, c, rec, r);
@@ -57,7 +58,7 @@ fn is_served(img: &[u8], c: Card, rec: &[u8], r: Row) -> bool
 fn is_present(img: &[u8], c: Card, rec: &[u8], a: Aid) -> bool
     requires laid { ⌜ Laid (layoutOf c) (now img) ⌝ }
     requires fits { ⌜ AidFits (now rec) a ⌝ }
-    ensures { λ b. ⌜ b ≡ present (layoutOf c) (decode (layoutOf c) (now (img .entry))) (aidIn (now (rec .entry)) a) ⌝ }
+    ensures { λ b. ⌜ b ≡ installedAid (layoutOf c) (tablesOf c (now (img .entry))) (aidIn (now (rec .entry)) a) ⌝ }
 {
     let n = geometry::packages(c);
     let i = changes::find::find_caller(img, c, rec, a);
@@ -69,7 +70,7 @@ fn is_present(img: &[u8], c: Card, rec: &[u8], a: Aid) -> bool
 fn calls_granted(img: &[u8], c: Card, due: u32, rec: &[u8], calls: Items) -> Called
     requires laid { ⌜ Laid (layoutOf c) (now img) ⌝ }
     requires stands { ⌜ Stands aRow (now rec) calls ⌝ }
-    ensures { λ r. ⌜ CallsCome (layoutOf c) (decode (layoutOf c) (now (img .entry))) due (itemsIn aRow (now (rec .entry)) calls) r ⌝ }
+    ensures { λ r. ⌜ CallsCome (layoutOf c) (tablesOf c (now (img .entry))) due (itemsIn aRow (now (rec .entry)) calls) r ⌝ }
 {
     let n = geometry::packages(c);
     let mut todo = calls;
@@ -94,7 +95,7 @@ fn calls_granted(img: &[u8], c: Card, due: u32, rec: &[u8], calls: Items) -> Cal
 fn needs_served(img: &[u8], c: Card, rec: &[u8], needs: Items) -> bool
     requires laid { ⌜ Laid (layoutOf c) (now img) ⌝ }
     requires stands { ⌜ Stands aRow (now rec) needs ⌝ }
-    ensures { λ b. ⌜ b ≡ every (served (layoutOf c) (decode (layoutOf c) (now (img .entry)))) (itemsIn aRow (now (rec .entry)) needs) ⌝ }
+    ensures { λ b. ⌜ b ≡ every (served (layoutOf c) (tablesOf c (now (img .entry)))) (itemsIn aRow (now (rec .entry)) needs) ⌝ }
 {
     let mut todo = needs;
     while 0 < todo.count {
@@ -113,7 +114,7 @@ fn waits(img: &[u8], c: Card, rec: &[u8], provides: Items, r: Row) -> bool
     requires laid { ⌜ Laid (layoutOf c) (now img) ⌝ }
     requires listed { ⌜ Stands tokens (now rec) provides ⌝ }
     requires fits { ⌜ AidFits (now rec) (r .other) ⌝ }
-    ensures { λ b. ⌜ b ≡ not (bothThere (layoutOf c) (decode (layoutOf c) (now (img .entry))) (itemsIn tokens (now (rec .entry)) provides)
+    ensures { λ b. ⌜ b ≡ not (bothThere (layoutOf c) (tablesOf c (now (img .entry))) (itemsIn tokens (now (rec .entry)) provides)
         (rowIn (now (rec .entry)) r)) ⌝ }
 {
     if !record::proper::has_tokens(rec, r.tokens, provides) {
@@ -127,7 +128,7 @@ fn waiters_fit(img: &[u8], c: Card, rec: &[u8], provides: Items, grants: Items, 
     requires laid { ⌜ Laid (layoutOf c) (now img) ⌝ }
     requires listed { ⌜ Stands tokens (now rec) provides ⌝ }
     requires stands { ⌜ Stands aRow (now rec) grants ⌝ }
-    ensures { λ b. ⌜ b ≡ leb (count (λ x. not (bothThere (layoutOf c) (decode (layoutOf c) (now (img .entry)))
+    ensures { λ b. ⌜ b ≡ leb (count (λ x. not (bothThere (layoutOf c) (tablesOf c (now (img .entry)))
         (itemsIn tokens (now (rec .entry)) provides) x)) (itemsIn aRow (now (rec .entry)) grants)) room ⌝ }
 {
     let mut todo = grants;
@@ -145,32 +146,32 @@ fn waiters_fit(img: &[u8], c: Card, rec: &[u8], provides: Items, grants: Items, 
 }
 
 // Unmet call r is on a service of the package `aid` with the services of the record.
-fn is_met(img: &[u8], c: Card, r: usize, aid: &[u8], rec: &[u8], provides: Items) -> bool
+fn is_met(img: &[u8], c: Card, r: usize, aid: &[u8], rec: &[u8], l: Lists) -> bool
     requires laid { ⌜ Laid (layoutOf c) (now img) ⌝ }
-    requires inside { ⌜ r < length (decode (layoutOf c) (now img) .unmet) ⌝ }
-    requires stands { ⌜ Stands tokens (now rec) provides ⌝ }
-    ensures { λ b. ⌜ b ≡ meets (now (aid .entry)) (itemsIn tokens (now (rec .entry)) provides)
-        (unmetRow (decode (layoutOf c) (now (img .entry))) r) ⌝ }
+    requires inside { ⌜ r < length (tablesOf c (now img) .unmet) ⌝ }
+    requires stands { ⌜ Stands tokens (now rec) (l .provides) ⌝ }
+    ensures { λ b. ⌜ b ≡ nowMet (layoutOf c) (tablesOf c (now (img .entry))) (contractIn (now (rec .entry)) (now (aid .entry)) l)
+        (unmetRow (tablesOf c (now (img .entry))) r) ⌝ }
 {
     if !image::lists::has_aid(img, c, Kept::UnmetCalls, r, aid) {
         return false;
     }
     let t = image::lists::tokens(img, c, Kept::UnmetCalls, r);
-    record::proper::has_tokens(rec, t, provides)
+    record::proper::has_tokens(rec, t, l.provides)
 }
 
 // Which unmet calls are on services of the package `aid` with the services of the record.
-fn met_rows(img: &[u8], c: Card, aid: &[u8], rec: &[u8], provides: Items) -> u32
+fn met_rows(img: &[u8], c: Card, aid: &[u8], rec: &[u8], l: Lists) -> u32
     requires laid { ⌜ Laid (layoutOf c) (now img) ⌝ }
-    requires stands { ⌜ Stands tokens (now rec) provides ⌝ }
-    ensures { λ m. ⌜ m ≡ maskOf (meets (now (aid .entry)) (itemsIn tokens (now (rec .entry)) provides))
-        (decode (layoutOf c) (now (img .entry)) .unmet) ⌝ }
+    requires stands { ⌜ Stands tokens (now rec) (l .provides) ⌝ }
+    ensures { λ m. ⌜ m ≡ maskOf (nowMet (layoutOf c) (tablesOf c (now (img .entry))) (contractIn (now (rec .entry)) (now (aid .entry)) l))
+        (tablesOf c (now (img .entry)) .unmet) ⌝ }
 {
     let mut r = image::lists::count(img, c, Kept::UnmetCalls);
     let mut mask: u32 = 0;
     while r > 0 {
         r -= 1;
-        let passes = is_met(img, c, r, aid, rec, provides);
+        let passes = is_met(img, c, r, aid, rec, l);
         mask = mask * 2 + (passes as u32);
     }
     mask
@@ -179,10 +180,10 @@ fn met_rows(img: &[u8], c: Card, aid: &[u8], rec: &[u8], provides: Items) -> u32
 // Waiting grant r is one to the package `aid`, of a service that is provided.
 fn is_due(img: &[u8], c: Card, r: usize, aid: &[u8]) -> bool
     requires laid { ⌜ Laid (layoutOf c) (now img) ⌝ }
-    requires inside { ⌜ r < length (decode (layoutOf c) (now img) .waiting) ⌝ }
-    requires giver { ⌜ waitingRow (decode (layoutOf c) (now img)) r .callee < layoutOf c .packages ⌝ }
-    ensures { λ b. ⌜ b ≡ comesDue (layoutOf c) (decode (layoutOf c) (now (img .entry))) (now (aid .entry))
-        (waitingRow (decode (layoutOf c) (now (img .entry))) r) ⌝ }
+    requires inside { ⌜ r < length (tablesOf c (now img) .waiting) ⌝ }
+    requires giver { ⌜ waitingRow (tablesOf c (now img)) r .callee < layoutOf c .packages ⌝ }
+    ensures { λ b. ⌜ b ≡ comesDue (layoutOf c) (tablesOf c (now (img .entry))) (now (aid .entry))
+        (waitingRow (tablesOf c (now (img .entry))) r) ⌝ }
 {
     if !image::lists::has_aid(img, c, Kept::WaitingGrants, r, aid) {
         return false;
@@ -195,9 +196,9 @@ fn is_due(img: &[u8], c: Card, r: usize, aid: &[u8]) -> bool
 // Which waiting grants are those that wait for the package `aid` alone.
 fn due_rows(img: &[u8], c: Card, aid: &[u8]) -> u32
     requires laid { ⌜ Laid (layoutOf c) (now img) ⌝ }
-    requires by { ⌜ GivenIn (layoutOf c) (decode (layoutOf c) (now img) .waiting) ⌝ }
-    ensures { λ m. ⌜ m ≡ maskOf (comesDue (layoutOf c) (decode (layoutOf c) (now (img .entry))) (now (aid .entry)))
-        (decode (layoutOf c) (now (img .entry)) .waiting) ⌝ }
+    requires by { ⌜ GivenIn (layoutOf c) (tablesOf c (now img) .waiting) ⌝ }
+    ensures { λ m. ⌜ m ≡ maskOf (comesDue (layoutOf c) (tablesOf c (now (img .entry))) (now (aid .entry)))
+        (tablesOf c (now (img .entry)) .waiting) ⌝ }
 {
     let mut r = image::lists::count(img, c, Kept::WaitingGrants);
     let mut mask: u32 = 0;
@@ -212,11 +213,11 @@ fn due_rows(img: &[u8], c: Card, aid: &[u8]) -> u32
 // A grant of the record is of the tokens that unmet call r asks for, and to its caller.
 fn grant_fits(img: &[u8], c: Card, r: usize, rec: &[u8], g: Row) -> bool
     requires laid { ⌜ Laid (layoutOf c) (now img) ⌝ }
-    requires inside { ⌜ r < length (decode (layoutOf c) (now img) .unmet) ⌝ }
-    requires caller { ⌜ unmetRow (decode (layoutOf c) (now img)) r .caller < layoutOf c .packages ⌝ }
+    requires inside { ⌜ r < length (tablesOf c (now img) .unmet) ⌝ }
+    requires caller { ⌜ unmetRow (tablesOf c (now img)) r .caller < layoutOf c .packages ⌝ }
     requires fits { ⌜ AidFits (now rec) (g .other) ⌝ }
-    ensures { λ b. ⌜ b ≡ grantFits (layoutOf c) (decode (layoutOf c) (now (img .entry)))
-        (unmetRow (decode (layoutOf c) (now (img .entry))) r) (rowIn (now (rec .entry)) g) ⌝ }
+    ensures { λ b. ⌜ b ≡ grantFits (layoutOf c) (tablesOf c (now (img .entry)))
+        (unmetRow (tablesOf c (now (img .entry))) r) (rowIn (now (rec .entry)) g) ⌝ }
 {
     if !image::lists::has_tokens(img, c, Kept::UnmetCalls, r, g.tokens) {
         return false;
@@ -229,11 +230,11 @@ fn grant_fits(img: &[u8], c: Card, r: usize, rec: &[u8], g: Row) -> bool
 // Some grant of the record is what unmet call r needs.
 fn row_granted(img: &[u8], c: Card, r: usize, rec: &[u8], grants: Items) -> bool
     requires laid { ⌜ Laid (layoutOf c) (now img) ⌝ }
-    requires inside { ⌜ r < length (decode (layoutOf c) (now img) .unmet) ⌝ }
-    requires caller { ⌜ unmetRow (decode (layoutOf c) (now img)) r .caller < layoutOf c .packages ⌝ }
+    requires inside { ⌜ r < length (tablesOf c (now img) .unmet) ⌝ }
+    requires caller { ⌜ unmetRow (tablesOf c (now img)) r .caller < layoutOf c .packages ⌝ }
     requires stands { ⌜ Stands aRow (now rec) grants ⌝ }
-    ensures { λ b. ⌜ b ≡ exists (grantFits (layoutOf c) (decode (layoutOf c) (now (img .entry)))
-        (unmetRow (decode (layoutOf c) (now (img .entry))) r)) (itemsIn aRow (now (rec .entry)) grants) ⌝ }
+    ensures { λ b. ⌜ b ≡ exists (grantFits (layoutOf c) (tablesOf c (now (img .entry)))
+        (unmetRow (tablesOf c (now (img .entry))) r)) (itemsIn aRow (now (rec .entry)) grants) ⌝ }
 {
     let mut todo = grants;
     while 0 < todo.count {
@@ -249,11 +250,11 @@ fn row_granted(img: &[u8], c: Card, r: usize, rec: &[u8], grants: Items) -> bool
 // Unmet call r is granted by the record, where the mask names it.
 fn named_granted(img: &[u8], c: Card, r: usize, rec: &[u8], grants: Items, met: u32) -> bool
     requires laid { ⌜ Laid (layoutOf c) (now img) ⌝ }
-    requires inside { ⌜ r < length (decode (layoutOf c) (now img) .unmet) ⌝ }
-    requires caller { ⌜ unmetRow (decode (layoutOf c) (now img)) r .caller < layoutOf c .packages ⌝ }
+    requires inside { ⌜ r < length (tablesOf c (now img) .unmet) ⌝ }
+    requires caller { ⌜ unmetRow (tablesOf c (now img)) r .caller < layoutOf c .packages ⌝ }
     requires stands { ⌜ Stands aRow (now rec) grants ⌝ }
-    ensures { λ b. ⌜ b ≡ implies (bit met r) (exists (grantFits (layoutOf c) (decode (layoutOf c) (now (img .entry)))
-        (unmetRow (decode (layoutOf c) (now (img .entry))) r)) (itemsIn aRow (now (rec .entry)) grants)) ⌝ }
+    ensures { λ b. ⌜ b ≡ implies (bit met r) (exists (grantFits (layoutOf c) (tablesOf c (now (img .entry)))
+        (unmetRow (tablesOf c (now (img .entry))) r)) (itemsIn aRow (now (rec .entry)) grants)) ⌝ }
 {
     if !changes::find::has_row(met, r) {
         return true;
@@ -265,7 +266,7 @@ fn named_granted(img: &[u8], c: Card, r: usize, rec: &[u8], grants: Items, met: 
 fn others_granted(img: &[u8], c: Card, rec: &[u8], grants: Items, met: u32) -> bool
     requires sound { ⌜ T (sound (layoutOf c) (now img)) ⌝ }
     requires stands { ⌜ Stands aRow (now rec) grants ⌝ }
-    ensures { λ b. ⌜ b ≡ othersGranted (layoutOf c) (decode (layoutOf c) (now (img .entry))) (itemsIn aRow (now (rec .entry)) grants) met ⌝ }
+    ensures { λ b. ⌜ b ≡ othersGranted (layoutOf c) (tablesOf c (now (img .entry))) (itemsIn aRow (now (rec .entry)) grants) met ⌝ }
 {
     let n = image::lists::count(img, c, Kept::UnmetCalls);
     for r in 0..n {
@@ -280,7 +281,7 @@ fn others_granted(img: &[u8], c: Card, rec: &[u8], grants: Items, met: u32) -> b
 fn limits(img: &[u8], c: Card, rec: &[u8], l: Lists, unserved: usize, met: u32, due: u32) -> u8
     requires laid { ⌜ Laid (layoutOf c) (now img) ⌝ }
     requires stands { ⌜ ListsStand (now rec) l ⌝ }
-    ensures { λ r. ⌜ r ≡ limitCause (layoutOf c) (decode (layoutOf c) (now (img .entry))) met due unserved
+    ensures { λ r. ⌜ r ≡ limitCause (layoutOf c) (tablesOf c (now (img .entry))) met due unserved
         (itemsIn tokens (now (rec .entry)) (l .provides)) (itemsIn aRow (now (rec .entry)) (l .grants)) ⌝ }
 {
     if changes::lists::room_after(img, c, Kept::UnmetCalls, met) < unserved {
@@ -297,7 +298,8 @@ fn limits(img: &[u8], c: Card, rec: &[u8], l: Lists, unserved: usize, met: u32, 
 fn cause(img: &[u8], c: Card, rec: &[u8], l: Lists, met: u32, due: u32) -> u8
     requires sound { ⌜ T (sound (layoutOf c) (now img)) ⌝ }
     requires stands { ⌜ ListsStand (now rec) l ⌝ }
-    ensures { λ r. ⌜ ((a : Bytes) → r ≡ loadCause (layoutOf c) (decode (layoutOf c) (now (img .entry))) (contractIn (now (rec .entry)) a l) met due) ⌝ }
+    ensures { λ r. ⌜ ((a : Bytes) → r ≡ loadCause (layoutOf c) (tablesOf c (now (img .entry))) (contractIn (now (rec .entry)) a l) met
+        due) ⌝ }
 {
     let Called::Granted { unserved } = calls_granted(img, c, due, rec, l.calls) else {
         return 8;
@@ -315,9 +317,9 @@ fn cause(img: &[u8], c: Card, rec: &[u8], l: Lists, met: u32, due: u32) -> u8
 fn decide_at(img: &[u8], c: Card, aid: &[u8], rec: &[u8], l: Lists, at: usize) -> Decided
     requires sound { ⌜ T (sound (layoutOf c) (now img)) ⌝ }
     requires stands { ⌜ ListsStand (now rec) l ⌝ }
-    ensures { λ r. ⌜ Found (layoutOf c) (decode (layoutOf c) (now (img .entry))) (contractIn (now (rec .entry)) (now (aid .entry)) l) at r ⌝ }
+    ensures { λ r. ⌜ Found (layoutOf c) (tablesOf c (now (img .entry))) (contractIn (now (rec .entry)) (now (aid .entry)) l) at r ⌝ }
 {
-    let met = met_rows(img, c, aid, rec, l.provides);
+    let met = met_rows(img, c, aid, rec, l);
     let due = due_rows(img, c, aid);
     let number = cause(img, c, rec, l, met, due);
     Decided {

@@ -4,12 +4,11 @@ ghost use Prim.Native.Nat.{_≤_, _<_};
 ghost use lib.ListN.{length};
 ghost use Rattle.policy.specs.Record.{remove as removal};
 ghost use Rattle.policy.specs.Causes.{answer};
-ghost use Rattle.policy.specs.Tables.{decode};
 ghost use Rattle.policy.specs.ShortCheck.{count, ones, shortRemove};
 ghost use Rattle.policy.specs.Judge.{lookCauses};
 ghost use Rattle.policy.specs.Settled.{settled, Gives};
 ghost use Rattle.geometry.specs.Geometry.{layoutOf};
-ghost use Rattle.image.specs.Laid.{Laid, tableOf};
+ghost use Rattle.image.specs.Laid.{Laid, tableOf, tablesOf};
 ghost use Rattle.image.specs.Wrote.{Wrote};
 ghost use Rattle.changes.specs.Asked.{Asked};
 ghost use Rattle.changes.specs.Left.{behind, RoomBehind};
@@ -24,7 +23,8 @@ use geometry::Table;
 fn column(img: &[u8], c: Card, tb: Table, n: usize) -> usize
     requires laid { ⌜ Laid (layoutOf c) (now img) ⌝ }
     requires inside { ⌜ n < layoutOf c .packages ⌝ }
-    ensures { λ r. ⌜ (r ≡ ones (layoutOf c) (decode (layoutOf c) (now (img .entry))) (λ i k. tableOf tb (decode (layoutOf c) (now (img .entry))) i n k)) × (r ≤ 256) ⌝ }
+    ensures { λ r. ⌜ (r ≡ ones (layoutOf c) (tablesOf c (now (img .entry))) (λ i k. tableOf tb (tablesOf c (now (img .entry))) i n k)) ×
+        (r ≤ 256) ⌝ }
 {
     let size = geometry::packages(c);
     let mut total: usize = 0;
@@ -39,7 +39,7 @@ fn column(img: &[u8], c: Card, tb: Table, n: usize) -> usize
 fn rows_after(img: &[u8], c: Card, l: Kept, tb: Table, n: usize) -> usize
     requires laid { ⌜ Laid (layoutOf c) (now img) ⌝ }
     requires inside { ⌜ n < layoutOf c .packages ⌝ }
-    ensures { λ r. ⌜ r ≡ rowsWithout (layoutOf c) l (decode (layoutOf c) (now (img .entry))) tb n ⌝ }
+    ensures { λ r. ⌜ r ≡ rowsWithout (layoutOf c) l (tablesOf c (now (img .entry))) tb n ⌝ }
 {
     let all = image::lists::count(img, c, l);
     let mask = image::lists::with_number(img, c, l, n);
@@ -54,7 +54,7 @@ fn rows_after(img: &[u8], c: Card, l: Kept, tb: Table, n: usize) -> usize
 fn remove_cause(img: &[u8], c: Card, n: usize) -> u8
     requires laid { ⌜ Laid (layoutOf c) (now img) ⌝ }
     requires inside { ⌜ n < layoutOf c .packages ⌝ }
-    ensures { λ r. ⌜ r ≡ answer (lookCauses (shortRemove (layoutOf c) (decode (layoutOf c) (now (img .entry))) n)) ⌝ }
+    ensures { λ r. ⌜ r ≡ answer (lookCauses (shortRemove (layoutOf c) (tablesOf c (now (img .entry))) n)) ⌝ }
 {
     let most = geometry::capacity(c);
     let needed = column(img, c, Table::Needs, n);
@@ -63,14 +63,15 @@ fn remove_cause(img: &[u8], c: Card, n: usize) -> u8
     changes::left::first_cause(most, needed, unmet, waiting)
 }
 
-// The rows of the others for column n of the table, by package number then service number: calls on package n, whose AID this is, or grants to it.
+// The rows of the others for column n of the table, by package number then service number: calls on package n, whose AID this is, or
+// grants to it.
 fn leave_rows(img: &mut [u8], c: Card, l: Kept, tb: Table, aid: &[u8], n: usize)
     requires laid { ⌜ Laid (layoutOf c) (now img) ⌝ }
     requires inside { ⌜ n < layoutOf c .packages ⌝ }
     requires short { ⌜ length (now aid) ≤ 16 ⌝ }
-    requires room { ⌜ RoomBehind l (layoutOf c) (leftRows (layoutOf c) l (decode (layoutOf c) (now img)) tb (now aid) n) (decode (layoutOf c) (now img)) ⌝ }
+    requires room { ⌜ RoomBehind l (layoutOf c) (leftRows (layoutOf c) l (tablesOf c (now img)) tb (now aid) n) (tablesOf c (now img)) ⌝ }
     ensures { λ _. ⌜ Wrote (layoutOf c) (now (img .exit))
-        (behind l (leftRows (layoutOf c) l (decode (layoutOf c) (now (img .entry))) tb (now (aid .entry)) n) (decode (layoutOf c) (now (img .entry)))) ⌝ }
+        (behind l (leftRows (layoutOf c) l (tablesOf c (now (img .entry))) tb (now (aid .entry)) n) (tablesOf c (now (img .entry)))) ⌝ }
 {
     let size = geometry::packages(c);
     for i in 0..size {
@@ -85,8 +86,9 @@ fn leave_list(img: &mut [u8], c: Card, l: Kept, tb: Table, aid: &[u8], n: usize)
     requires laid { ⌜ Laid (layoutOf c) (now img) ⌝ }
     requires inside { ⌜ n < layoutOf c .packages ⌝ }
     requires short { ⌜ length (now aid) ≤ 16 ⌝ }
-    requires room { ⌜ rowsWithout (layoutOf c) l (decode (layoutOf c) (now img)) tb n ≤ layoutOf c .capacity ⌝ }
-    ensures { λ _. ⌜ Wrote (layoutOf c) (now (img .exit)) (listWithout (layoutOf c) l (decode (layoutOf c) (now (img .entry))) tb (now (aid .entry)) n) ⌝ }
+    requires room { ⌜ rowsWithout (layoutOf c) l (tablesOf c (now img)) tb n ≤ layoutOf c .capacity ⌝ }
+    ensures { λ _. ⌜ Wrote (layoutOf c) (now (img .exit))
+        (listWithout (layoutOf c) l (tablesOf c (now (img .entry))) tb (now (aid .entry)) n) ⌝ }
 {
     let own = image::lists::with_number(img, c, l, n);
     image::write::drop_rows(img, c, l, own);
@@ -98,8 +100,9 @@ fn leave_lists(img: &mut [u8], c: Card, aid: &[u8], n: usize)
     requires laid { ⌜ Laid (layoutOf c) (now img) ⌝ }
     requires inside { ⌜ n < layoutOf c .packages ⌝ }
     requires short { ⌜ length (now aid) ≤ 16 ⌝ }
-    requires room { ⌜ RoomWithout (layoutOf c) (decode (layoutOf c) (now img)) n ⌝ }
-    ensures { λ _. ⌜ Wrote (layoutOf c) (now (img .exit)) (listsWithout (layoutOf c) (decode (layoutOf c) (now (img .entry))) (now (aid .entry)) n) ⌝ }
+    requires room { ⌜ RoomWithout (layoutOf c) (tablesOf c (now img)) n ⌝ }
+    ensures { λ _. ⌜ Wrote (layoutOf c) (now (img .exit))
+        (listsWithout (layoutOf c) (tablesOf c (now (img .entry))) (now (aid .entry)) n) ⌝ }
 {
     leave_list(img, c, Kept::UnmetCalls, Table::Calls, aid, n);
     leave_list(img, c, Kept::WaitingGrants, Table::Grants, aid, n);
@@ -109,7 +112,7 @@ fn leave_lists(img: &mut [u8], c: Card, aid: &[u8], n: usize)
 fn clear_package(img: &mut [u8], c: Card, n: usize)
     requires laid { ⌜ Laid (layoutOf c) (now img) ⌝ }
     requires inside { ⌜ n < layoutOf c .packages ⌝ }
-    ensures { λ _. ⌜ Wrote (layoutOf c) (now (img .exit)) (tablesWithout n (decode (layoutOf c) (now (img .entry)))) ⌝ }
+    ensures { λ _. ⌜ Wrote (layoutOf c) (now (img .exit)) (tablesWithout n (tablesOf c (now (img .entry)))) ⌝ }
 {
     image::write::clear_cross(img, c, Table::Calls, n);
     image::write::clear_cross(img, c, Table::Grants, n);
@@ -124,7 +127,8 @@ fn clear_package(img: &mut [u8], c: Card, n: usize)
 // Kind 2: the package with this AID goes.
 pub fn remove(img: &mut [u8], c: Card, aid: &[u8]) -> Verdict
     requires { ⌜ Asked (layoutOf c) (now img) (now aid) removal ⌝ }
-    ensures { λ r. ⌜ Gives (settled (layoutOf c) (now (img .entry)) (now (aid .entry)) removal) (r .number) (r .second) (now (img .exit)) ⌝ }
+    ensures { λ r. ⌜ Gives (settled (layoutOf c) (now (img .entry)) (now (aid .entry)) removal) (r .number) (r .second)
+        (now (img .exit)) ⌝ }
 {
     let n = image::read::find_package(img, c, aid);
     let most = geometry::packages(c);

@@ -2,10 +2,9 @@
 ghost use Prim.Native.Nat.{_≤_, _<_};
 ghost use lib.ListN.{length};
 ghost use Rattle.policy.specs.Record.{tokens};
-ghost use Rattle.policy.specs.Tables.{decode};
 ghost use Rattle.policy.specs.Draft.{loadAt};
 ghost use Rattle.geometry.specs.Geometry.{layoutOf};
-ghost use Rattle.image.specs.Laid.{Laid};
+ghost use Rattle.image.specs.Laid.{Laid, tablesOf};
 ghost use Rattle.image.specs.Wrote.{Wrote};
 ghost use Rattle.record.specs.Meaning.{Stands, ListsStand, itemsIn, loadIn, contractIn};
 ghost use Rattle.changes.specs.Asked.{Asked};
@@ -21,7 +20,7 @@ fn name(img: &mut [u8], c: Card, n: usize, aid: &[u8])
     requires laid { ⌜ Laid (layoutOf c) (now img) ⌝ }
     requires inside { ⌜ n < layoutOf c .packages ⌝ }
     requires short { ⌜ length (now aid) ≤ 16 ⌝ }
-    ensures { λ _. ⌜ Wrote (layoutOf c) (now (img .exit)) (named n (now (aid .entry)) (decode (layoutOf c) (now (img .entry)))) ⌝ }
+    ensures { λ _. ⌜ Wrote (layoutOf c) (now (img .exit)) (named n (now (aid .entry)) (tablesOf c (now (img .entry)))) ⌝ }
 {
     let row = image::read::used_row(img, c);
     let with = bits::with_bit(row, n);
@@ -34,7 +33,8 @@ fn open_all(img: &mut [u8], c: Card, n: usize, rec: &[u8], provides: Items)
     requires laid { ⌜ Laid (layoutOf c) (now img) ⌝ }
     requires stands { ⌜ Stands tokens (now rec) provides ⌝ }
     requires numbers { ⌜ (n < layoutOf c .packages) × (length (itemsIn tokens (now rec) provides) ≤ layoutOf c .services) ⌝ }
-    ensures { λ _. ⌜ Wrote (layoutOf c) (now (img .exit)) (openedAll n 0 (itemsIn tokens (now (rec .entry)) provides) (decode (layoutOf c) (now (img .entry)))) ⌝ }
+    ensures { λ _. ⌜ Wrote (layoutOf c) (now (img .exit))
+        (openedAll n 0 (itemsIn tokens (now (rec .entry)) provides) (tablesOf c (now (img .entry)))) ⌝ }
 {
     let mut todo = provides;
     let mut k = 0;
@@ -51,7 +51,7 @@ pub fn put(img: &mut [u8], c: Card, d: Decided, aid: &[u8], rec: &[u8], l: Lists
     requires asked { ⌜ Asked (layoutOf c) (now img) (now aid) (loadIn (now rec) l) ⌝ }
     requires stands { ⌜ ListsStand (now rec) l ⌝ }
     requires accepts { ⌜ Accepts (layoutOf c) (now img) (contractIn (now rec) (now aid) l) d ⌝ }
-    ensures { λ _. ⌜ Wrote (layoutOf c) (now (img .exit)) (loadAt (layoutOf c) (decode (layoutOf c) (now (img .entry))) (d .at)
+    ensures { λ _. ⌜ Wrote (layoutOf c) (now (img .exit)) (loadAt (layoutOf c) (tablesOf c (now (img .entry))) (d .at)
         (contractIn (now (rec .entry)) (now (aid .entry)) l) .tables) ⌝ }
 {
     let n = d.at;

@@ -5,12 +5,11 @@ ghost use mathlib.Core.List.{_++_};
 ghost use Prim.Native.Nat.{_≤_, _<_};
 ghost use lib.Dec.{ltb};
 ghost use lib.ListN.{length, drop};
-ghost use Rattle.policy.specs.Tables.{decode};
 ghost use Rattle.policy.specs.Lookup.{contractAt};
 ghost use Rattle.policy.specs.Judge.{loadRecord, readOut};
 ghost use Rattle.policy.specs.Settled.{Gives};
 ghost use Rattle.geometry.specs.Geometry.{layoutOf};
-ghost use Rattle.image.specs.Laid.{Laid};
+ghost use Rattle.image.specs.Laid.{Laid, tablesOf};
 ghost use Rattle.readout.specs.Parts.{Put, Short, rowLists, bodyBytes};
 use geometry::Card;
 use geometry::Kept;
@@ -29,7 +28,7 @@ pub struct Outcome {
 // Whether n is the number of an installed package.
 fn is_used(img: &[u8], c: Card, n: usize) -> bool
     requires { ⌜ Laid (layoutOf c) (now img) ⌝ }
-    ensures { λ r. ⌜ r ≡ ltb n (layoutOf c .packages) && decode (layoutOf c) (now (img .entry)) .used n ⌝ }
+    ensures { λ r. ⌜ r ≡ ltb n (layoutOf c .packages) && tablesOf c (now (img .entry)) .used n ⌝ }
 {
     if n >= geometry::packages(c) {
         return false;
@@ -42,8 +41,8 @@ fn is_used(img: &[u8], c: Card, n: usize) -> bool
 fn put_lists(img: &[u8], c: Card, n: usize, out: &mut [u8], at: usize) -> usize
     requires laid { ⌜ Laid (layoutOf c) (now img) ⌝ }
     requires inside { ⌜ n < layoutOf c .packages ⌝ }
-    requires short { ⌜ Short at (rowLists (layoutOf c) (decode (layoutOf c) (now img)) n) ⌝ }
-    ensures { λ r. ⌜ Put at (rowLists (layoutOf c) (decode (layoutOf c) (now (img .entry))) n) (now (out .entry)) r (now (out .exit)) ⌝ }
+    requires short { ⌜ Short at (rowLists (layoutOf c) (tablesOf c (now img)) n) ⌝ }
+    ensures { λ r. ⌜ Put at (rowLists (layoutOf c) (tablesOf c (now (img .entry))) n) (now (out .entry)) r (now (out .exit)) ⌝ }
 {
     let grants = sections::put_rows(img, c, Kept::UnmetCalls, n, out, at);
     let needs = sections::put_rows(img, c, Kept::WaitingGrants, n, out, grants);
@@ -54,8 +53,8 @@ fn put_lists(img: &[u8], c: Card, n: usize, out: &mut [u8], at: usize) -> usize
 fn put_body(img: &[u8], c: Card, n: usize, out: &mut [u8], at: usize) -> usize
     requires laid { ⌜ Laid (layoutOf c) (now img) ⌝ }
     requires inside { ⌜ n < layoutOf c .packages ⌝ }
-    requires short { ⌜ Short at (bodyBytes (layoutOf c) (decode (layoutOf c) (now img)) n) ⌝ }
-    ensures { λ r. ⌜ Put at (bodyBytes (layoutOf c) (decode (layoutOf c) (now (img .entry))) n) (now (out .entry)) r (now (out .exit)) ⌝ }
+    requires short { ⌜ Short at (bodyBytes (layoutOf c) (tablesOf c (now img)) n) ⌝ }
+    ensures { λ r. ⌜ Put at (bodyBytes (layoutOf c) (tablesOf c (now (img .entry))) n) (now (out .entry)) r (now (out .exit)) ⌝ }
 {
     let from = geometry::aid_at(c, n);
     let provides = pen::put_aid(img, from, out, at);
@@ -67,7 +66,7 @@ fn put_body(img: &[u8], c: Card, n: usize, out: &mut [u8], at: usize) -> usize
 fn measure(img: &[u8], c: Card, n: usize) -> usize
     requires laid { ⌜ Laid (layoutOf c) (now img) ⌝ }
     requires inside { ⌜ n < layoutOf c .packages ⌝ }
-    ensures { λ r. ⌜ (r ≡ length (loadRecord (layoutOf c) (contractAt (layoutOf c) (decode (layoutOf c) (now (img .entry))) n))) × (r < 65536) ⌝ }
+    ensures { λ r. ⌜ (r ≡ length (loadRecord (layoutOf c) (contractAt (layoutOf c) (tablesOf c (now (img .entry))) n))) × (r < 65536) ⌝ }
 {
     let mut nowhere = [0];
     put_body(img, c, n, &mut nowhere, 4)
@@ -77,8 +76,10 @@ fn measure(img: &[u8], c: Card, n: usize) -> usize
 fn write_record(img: &[u8], c: Card, n: usize, len: usize, out: &mut [u8])
     requires laid { ⌜ Laid (layoutOf c) (now img) ⌝ }
     requires inside { ⌜ n < layoutOf c .packages ⌝ }
-    requires room { ⌜ (len ≡ length (loadRecord (layoutOf c) (contractAt (layoutOf c) (decode (layoutOf c) (now img)) n))) × (len ≤ length (now out)) ⌝ }
-    ensures { λ _. ⌜ now (out .exit) ≡ loadRecord (layoutOf c) (contractAt (layoutOf c) (decode (layoutOf c) (now (img .entry))) n) ++ drop len (now (out .entry)) ⌝ }
+    requires room { ⌜ (len ≡ length (loadRecord (layoutOf c) (contractAt (layoutOf c) (tablesOf c (now img)) n))) ×
+        (len ≤ length (now out)) ⌝ }
+    ensures { λ _. ⌜ now (out .exit) ≡ loadRecord (layoutOf c) (contractAt (layoutOf c) (tablesOf c (now (img .entry))) n) ++ drop len
+        (now (out .entry)) ⌝ }
 {
     let version = geometry::version(c);
     let front = [(len / 256 % 256) as u8, (len % 256) as u8, version, 1];

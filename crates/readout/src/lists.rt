@@ -2,9 +2,8 @@
 ghost use Prim.Native.Nat.{_<_};
 ghost use lib.ListN.{length};
 ghost use Rattle.policy.specs.Lists.{flat, upto};
-ghost use Rattle.policy.specs.Tables.{decode};
 ghost use Rattle.geometry.specs.Geometry.{layoutOf};
-ghost use Rattle.image.specs.Laid.{Laid};
+ghost use Rattle.image.specs.Laid.{Laid, tablesOf};
 ghost use Rattle.image.specs.Read.{itemsOf};
 ghost use Rattle.readout.specs.Parts.{Put, Short, itemBytes, listBytes, tokBytes};
 use geometry::Card;
@@ -13,9 +12,9 @@ use geometry::Kept;
 // Row r of a list, where it is package n's: its AID and its tokens.
 fn put_item(img: &[u8], c: Card, l: Kept, n: usize, r: usize, out: &mut [u8], at: usize) -> usize
     requires laid { ⌜ Laid (layoutOf c) (now img) ⌝ }
-    requires inside { ⌜ r < length (itemsOf l (decode (layoutOf c) (now img))) ⌝ }
-    requires short { ⌜ Short at (itemBytes (layoutOf c) (decode (layoutOf c) (now img)) n l r) ⌝ }
-    ensures { λ e. ⌜ Put at (itemBytes (layoutOf c) (decode (layoutOf c) (now (img .entry))) n l r) (now (out .entry)) e (now (out .exit)) ⌝ }
+    requires inside { ⌜ r < length (itemsOf l (tablesOf c (now img))) ⌝ }
+    requires short { ⌜ Short at (itemBytes (layoutOf c) (tablesOf c (now img)) n l r) ⌝ }
+    ensures { λ e. ⌜ Put at (itemBytes (layoutOf c) (tablesOf c (now (img .entry))) n l r) (now (out .entry)) e (now (out .exit)) ⌝ }
 {
     let number = image::lists::number(img, c, l, r);
     if number != n {
@@ -29,8 +28,8 @@ fn put_item(img: &[u8], c: Card, l: Kept, n: usize, r: usize, out: &mut [u8], at
 // The rows of a list that are package n's: its unmet calls, or the waiting grants that it gives.
 pub fn put_list(img: &[u8], c: Card, l: Kept, n: usize, out: &mut [u8], start: usize) -> usize
     requires laid { ⌜ Laid (layoutOf c) (now img) ⌝ }
-    requires short { ⌜ Short start (listBytes (layoutOf c) (decode (layoutOf c) (now img)) n l) ⌝ }
-    ensures { λ r. ⌜ Put start (listBytes (layoutOf c) (decode (layoutOf c) (now (img .entry))) n l) (now (out .entry)) r (now (out .exit)) ⌝ }
+    requires short { ⌜ Short start (listBytes (layoutOf c) (tablesOf c (now img)) n l) ⌝ }
+    ensures { λ r. ⌜ Put start (listBytes (layoutOf c) (tablesOf c (now (img .entry))) n l) (now (out .entry)) r (now (out .exit)) ⌝ }
 {
     let m = image::lists::count(img, c, l);
     let mut at = start;
@@ -44,8 +43,8 @@ pub fn put_list(img: &[u8], c: Card, l: Kept, n: usize, out: &mut [u8], start: u
 fn put_service(img: &[u8], c: Card, n: usize, k: usize, out: &mut [u8], at: usize) -> usize
     requires laid { ⌜ Laid (layoutOf c) (now img) ⌝ }
     requires inside { ⌜ (n < layoutOf c .packages) × (k < layoutOf c .services) ⌝ }
-    requires short { ⌜ Short at (tokBytes (layoutOf c) (decode (layoutOf c) (now img)) n k) ⌝ }
-    ensures { λ e. ⌜ Put at (tokBytes (layoutOf c) (decode (layoutOf c) (now (img .entry))) n k) (now (out .entry)) e (now (out .exit)) ⌝ }
+    requires short { ⌜ Short at (tokBytes (layoutOf c) (tablesOf c (now img)) n k) ⌝ }
+    ensures { λ e. ⌜ Put at (tokBytes (layoutOf c) (tablesOf c (now (img .entry))) n k) (now (out .entry)) e (now (out .exit)) ⌝ }
 {
     let row = image::read::provided_row(img, c, n);
     if !bits::has_bit(row, k) {
@@ -59,8 +58,9 @@ fn put_service(img: &[u8], c: Card, n: usize, k: usize, out: &mut [u8], at: usiz
 pub fn put_services(img: &[u8], c: Card, n: usize, out: &mut [u8], start: usize) -> usize
     requires laid { ⌜ Laid (layoutOf c) (now img) ⌝ }
     requires inside { ⌜ n < layoutOf c .packages ⌝ }
-    requires short { ⌜ Short start (flat (tokBytes (layoutOf c) (decode (layoutOf c) (now img)) n) (upto (layoutOf c .services))) ⌝ }
-    ensures { λ r. ⌜ Put start (flat (tokBytes (layoutOf c) (decode (layoutOf c) (now (img .entry))) n) (upto (layoutOf c .services))) (now (out .entry)) r (now (out .exit)) ⌝ }
+    requires short { ⌜ Short start (flat (tokBytes (layoutOf c) (tablesOf c (now img)) n) (upto (layoutOf c .services))) ⌝ }
+    ensures { λ r. ⌜ Put start (flat (tokBytes (layoutOf c) (tablesOf c (now (img .entry))) n) (upto (layoutOf c .services)))
+        (now (out .entry)) r (now (out .exit)) ⌝ }
 {
     let m = geometry::services(c);
     let mut at = start;

@@ -48,7 +48,8 @@ pub fn put_tokens(img: &[u8], from: usize, out: &mut [u8], at: usize) -> usize
 pub fn put_row(img: &[u8], from: usize, tok: usize, out: &mut [u8], at: usize) -> usize
     requires inside { ⌜ (from + aidSize ≤ length (now img)) × (getD (now img) from 0 ≤ 16) × (tok + 2 ≤ length (now img)) ⌝ }
     requires short { ⌜ Short at (aidBytes (aidIn (now img) from) ++ writeTok (tokensIn (now img) tok)) ⌝ }
-    ensures { λ r. ⌜ Put at (aidBytes (aidIn (now (img .entry)) from) ++ writeTok (tokensIn (now (img .entry)) tok)) (now (out .entry)) r (now (out .exit)) ⌝ }
+    ensures { λ r. ⌜ Put at (aidBytes (aidIn (now (img .entry)) from) ++ writeTok (tokensIn (now (img .entry)) tok)) (now (out .entry)) r
+        (now (out .exit)) ⌝ }
 {
     let next = put_aid(img, from, out, at);
     put_tokens(img, tok, out, next)

@@ -2,9 +2,8 @@
 ghost use mathlib.Core.Path.{_≡_};
 ghost use Prim.Native.Nat.{_<_};
 ghost use lib.ListN.{length};
-ghost use Rattle.policy.specs.Tables.{decode};
 ghost use Rattle.geometry.specs.Geometry.{layoutOf};
-ghost use Rattle.image.specs.Laid.{Laid};
+ghost use Rattle.image.specs.Laid.{Laid, tablesOf};
 ghost use Rattle.readout.specs.Parts.{Put, Short, beside, keptRows, keptBytes, provideBytes, needBytes};
 use geometry::Card;
 use geometry::Kept;
@@ -24,7 +23,7 @@ fn table_beside(l: Kept) -> Table
 fn count_rows(img: &[u8], c: Card, l: Kept, n: usize) -> usize
     requires laid { ⌜ Laid (layoutOf c) (now img) ⌝ }
     requires inside { ⌜ n < layoutOf c .packages ⌝ }
-    ensures { λ r. ⌜ r ≡ length (keptRows (layoutOf c) (decode (layoutOf c) (now (img .entry))) n l) ⌝ }
+    ensures { λ r. ⌜ r ≡ length (keptRows (layoutOf c) (tablesOf c (now (img .entry))) n l) ⌝ }
 {
     let tb = table_beside(l);
     let rows = crate::tables::count_rows(img, c, tb, n);
@@ -38,8 +37,8 @@ fn count_rows(img: &[u8], c: Card, l: Kept, n: usize) -> usize
 pub fn put_provides(img: &[u8], c: Card, n: usize, out: &mut [u8], at: usize) -> usize
     requires laid { ⌜ Laid (layoutOf c) (now img) ⌝ }
     requires inside { ⌜ n < layoutOf c .packages ⌝ }
-    requires short { ⌜ Short at (provideBytes (layoutOf c) (decode (layoutOf c) (now img)) n) ⌝ }
-    ensures { λ r. ⌜ Put at (provideBytes (layoutOf c) (decode (layoutOf c) (now (img .entry))) n) (now (out .entry)) r (now (out .exit)) ⌝ }
+    requires short { ⌜ Short at (provideBytes (layoutOf c) (tablesOf c (now img)) n) ⌝ }
+    ensures { λ r. ⌜ Put at (provideBytes (layoutOf c) (tablesOf c (now (img .entry))) n) (now (out .entry)) r (now (out .exit)) ⌝ }
 {
     let row = image::read::provided_row(img, c, n);
     let count = bits::count(row);
@@ -52,8 +51,8 @@ pub fn put_provides(img: &[u8], c: Card, n: usize, out: &mut [u8], at: usize) ->
 pub fn put_rows(img: &[u8], c: Card, l: Kept, n: usize, out: &mut [u8], at: usize) -> usize
     requires laid { ⌜ Laid (layoutOf c) (now img) ⌝ }
     requires inside { ⌜ n < layoutOf c .packages ⌝ }
-    requires short { ⌜ Short at (keptBytes (layoutOf c) (decode (layoutOf c) (now img)) n l) ⌝ }
-    ensures { λ r. ⌜ Put at (keptBytes (layoutOf c) (decode (layoutOf c) (now (img .entry))) n l) (now (out .entry)) r (now (out .exit)) ⌝ }
+    requires short { ⌜ Short at (keptBytes (layoutOf c) (tablesOf c (now img)) n l) ⌝ }
+    ensures { λ r. ⌜ Put at (keptBytes (layoutOf c) (tablesOf c (now (img .entry))) n l) (now (out .entry)) r (now (out .exit)) ⌝ }
 {
     let tb = table_beside(l);
     let count = count_rows(img, c, l, n);
@@ -66,8 +65,8 @@ pub fn put_rows(img: &[u8], c: Card, l: Kept, n: usize, out: &mut [u8], at: usiz
 pub fn put_needs(img: &[u8], c: Card, n: usize, out: &mut [u8], at: usize) -> usize
     requires laid { ⌜ Laid (layoutOf c) (now img) ⌝ }
     requires inside { ⌜ n < layoutOf c .packages ⌝ }
-    requires short { ⌜ Short at (needBytes (layoutOf c) (decode (layoutOf c) (now img)) n) ⌝ }
-    ensures { λ r. ⌜ Put at (needBytes (layoutOf c) (decode (layoutOf c) (now (img .entry))) n) (now (out .entry)) r (now (out .exit)) ⌝ }
+    requires short { ⌜ Short at (needBytes (layoutOf c) (tablesOf c (now img)) n) ⌝ }
+    ensures { λ r. ⌜ Put at (needBytes (layoutOf c) (tablesOf c (now (img .entry))) n) (now (out .entry)) r (now (out .exit)) ⌝ }
 {
     let count = crate::tables::count_rows(img, c, Table::Needs, n);
     let rows = crate::pen::put_count(c, count, out, at);

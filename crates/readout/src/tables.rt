@@ -2,9 +2,8 @@
 ghost use mathlib.Core.Path.{_≡_};
 ghost use Prim.Native.Nat.{_<_};
 ghost use lib.ListN.{length};
-ghost use Rattle.policy.specs.Tables.{decode};
 ghost use Rattle.geometry.specs.Geometry.{layoutOf};
-ghost use Rattle.image.specs.Laid.{Laid};
+ghost use Rattle.image.specs.Laid.{Laid, tablesOf};
 ghost use Rattle.readout.specs.Parts.{Put, Short, server, bitBytes, columnBytes, tableBytes, tableRows};
 use geometry::Card;
 use geometry::Table;
@@ -33,8 +32,8 @@ fn put_bit(
 ) -> usize
     requires laid { ⌜ Laid (layoutOf c) (now img) ⌝ }
     requires inside { ⌜ (n < layoutOf c .packages) × (j < layoutOf c .packages) × (k < layoutOf c .services) ⌝ }
-    requires short { ⌜ Short at (bitBytes (layoutOf c) (decode (layoutOf c) (now img)) n tb j k) ⌝ }
-    ensures { λ r. ⌜ Put at (bitBytes (layoutOf c) (decode (layoutOf c) (now (img .entry))) n tb j k) (now (out .entry)) r (now (out .exit)) ⌝ }
+    requires short { ⌜ Short at (bitBytes (layoutOf c) (tablesOf c (now img)) n tb j k) ⌝ }
+    ensures { λ r. ⌜ Put at (bitBytes (layoutOf c) (tablesOf c (now (img .entry))) n tb j k) (now (out .entry)) r (now (out .exit)) ⌝ }
 {
     let row = image::read::entry(img, c, tb, n, j);
     if !bits::has_bit(row, k) {
@@ -58,8 +57,8 @@ fn put_column(
 ) -> usize
     requires laid { ⌜ Laid (layoutOf c) (now img) ⌝ }
     requires inside { ⌜ (n < layoutOf c .packages) × (j < layoutOf c .packages) ⌝ }
-    requires short { ⌜ Short start (columnBytes (layoutOf c) (decode (layoutOf c) (now img)) n tb j) ⌝ }
-    ensures { λ r. ⌜ Put start (columnBytes (layoutOf c) (decode (layoutOf c) (now (img .entry))) n tb j) (now (out .entry)) r (now (out .exit)) ⌝ }
+    requires short { ⌜ Short start (columnBytes (layoutOf c) (tablesOf c (now img)) n tb j) ⌝ }
+    ensures { λ r. ⌜ Put start (columnBytes (layoutOf c) (tablesOf c (now (img .entry))) n tb j) (now (out .entry)) r (now (out .exit)) ⌝ }
 {
     let m = geometry::services(c);
     let mut at = start;
@@ -73,8 +72,8 @@ fn put_column(
 pub fn put_table(img: &[u8], c: Card, tb: Table, n: usize, out: &mut [u8], start: usize) -> usize
     requires laid { ⌜ Laid (layoutOf c) (now img) ⌝ }
     requires inside { ⌜ n < layoutOf c .packages ⌝ }
-    requires short { ⌜ Short start (tableBytes (layoutOf c) (decode (layoutOf c) (now img)) n tb) ⌝ }
-    ensures { λ r. ⌜ Put start (tableBytes (layoutOf c) (decode (layoutOf c) (now (img .entry))) n tb) (now (out .entry)) r (now (out .exit)) ⌝ }
+    requires short { ⌜ Short start (tableBytes (layoutOf c) (tablesOf c (now img)) n tb) ⌝ }
+    ensures { λ r. ⌜ Put start (tableBytes (layoutOf c) (tablesOf c (now (img .entry))) n tb) (now (out .entry)) r (now (out .exit)) ⌝ }
 {
     let m = geometry::packages(c);
     let mut at = start;
@@ -88,7 +87,7 @@ pub fn put_table(img: &[u8], c: Card, tb: Table, n: usize, out: &mut [u8], start
 pub fn count_rows(img: &[u8], c: Card, tb: Table, n: usize) -> usize
     requires laid { ⌜ Laid (layoutOf c) (now img) ⌝ }
     requires inside { ⌜ n < layoutOf c .packages ⌝ }
-    ensures { λ r. ⌜ (r ≡ length (tableRows (layoutOf c) (decode (layoutOf c) (now (img .entry))) n tb)) × (r < 1024) ⌝ }
+    ensures { λ r. ⌜ (r ≡ length (tableRows (layoutOf c) (tablesOf c (now (img .entry))) n tb)) × (r < 1024) ⌝ }
 {
     let m = geometry::packages(c);
     let mut total: usize = 0;

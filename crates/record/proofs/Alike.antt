@@ -8,10 +8,7 @@ use lib.Dec.{eqb}
 use lib.ListN.{take, length, drop}
 use lib.Seq.{take-all}
 use Rattle.policy.specs.Lists.{eqBytes}
-use Rattle.policy.specs.Contract.{eqAid, eqTok, eqRow}
-use Rattle.geometry.specs.Geometry.{tokOf}
-use Rattle.record.specs.Meaning.{aidIn, rowIn}
-use Rattle.record.specs.declared.Row.{Row}
+use Rattle.policy.specs.Contract.{Row, eqAid, eqTok, eqRow}
 
 pub unequal-lengths : (a b : List ℕ) → (length a ≡ length b → ⊥) → eqBytes a b ≡ false
 unequal-lengths [] [] h = absurd (h refl)
@@ -24,9 +21,9 @@ pub all-alike : (a b : List ℕ) {r : Bool} → length a ≡ length b → r ≡ 
 all-alike a b h e = e ∙ ap (λ (z : List ℕ). eqBytes z b) (take-all (length b) a (omega arith))
 
 -- two rows: their tokens, and then their AIDs
-module _ (s : List ℕ) (x y : Row) {e : Bool} (q : e ≡ eqTok (tokOf (x .tokens)) (tokOf (y .tokens))) where
-  pub row-differs : e ≡ false → false ≡ eqRow (rowIn s x) (rowIn s y)
-  row-differs f = sym (rw (sym q ∙ f) (and-false (eqAid (aidIn s (x .other)) (aidIn s (y .other)))))
+module _ (x y : Row) {e : Bool} (q : e ≡ eqTok (x .tok) (y .tok)) where
+  pub row-differs : e ≡ false → false ≡ eqRow x y
+  row-differs f = sym (rw (sym q ∙ f) (and-false (eqAid (x .aid) (y .aid))))
 
-  pub row-by-aids : {r : Bool} → e ≡ true → r ≡ eqAid (aidIn s (x .other)) (aidIn s (y .other)) → r ≡ eqRow (rowIn s x) (rowIn s y)
-  row-by-aids f h = h ∙ sym (rw (sym q ∙ f) (and-true (eqAid (aidIn s (x .other)) (aidIn s (y .other)))))
+  pub row-by-aids : {r : Bool} → e ≡ true → r ≡ eqAid (x .aid) (y .aid) → r ≡ eqRow x y
+  row-by-aids f h = h ∙ sym (rw (sym q ∙ f) (and-true (eqAid (x .aid) (y .aid))))

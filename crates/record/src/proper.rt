@@ -7,11 +7,10 @@ ghost use Rattle.policy.specs.Record.{aid, tokens, aRow, addService, notOwn, pr
 ghost use Rattle.geometry.specs.declared.Card.{Card};
 ghost use Rattle.geometry.specs.Geometry.{layoutOf, tokOf};
 ghost use Rattle.record.specs.declared.RowKind.{RowKind};
-ghost use Rattle.record.specs.Meaning.{AidFits, Stands, ListsStand, aidIn, rowIn, itemsIn, loadIn, changeOf};
+ghost use Rattle.record.specs.Meaning.{AidFits, Stands, ListsStand, aidIn, itemsIn, loadIn, changeOf};
 use crate::Aid;
 use crate::Items;
 use crate::Lists;
-use crate::Row;
 use geometry::Tokens;
 
 // Whether tokens are among those of a list.
@@ -47,17 +46,19 @@ pub fn has_aid(rec: &[u8], a: Aid, of: Items) -> bool
 }
 
 // Whether a row is among those of a list.
-pub fn has_row(rec: &[u8], r: Row, of: Items) -> bool
-    requires { ⌜ AidFits (now rec) (r .other) × Stands aRow (now rec) of ⌝ }
-    ensures { λ b. ⌜ b ≡ hasRow (rowIn (now (rec .entry)) r) (itemsIn aRow (now (rec .entry)) of) ⌝ }
+pub fn has_row(rec: &[u8], a: Aid, t: Tokens, of: Items) -> bool
+    requires { ⌜ AidFits (now rec) a × Stands aRow (now rec) of ⌝ }
+    ensures { λ b. ⌜ b ≡ hasRow (record { aid = aidIn (now (rec .entry)) a; tok = tokOf t }) (itemsIn aRow (now (rec .entry)) of) ⌝ }
 {
     let mut todo = of;
     while 0 < todo.count {
-        let next = crate::steps::take_row(rec, todo);
-        if crate::same::same_row(rec, r, next.row) {
+        let r = crate::steps::take_row(rec, todo);
+        let b = r.row.other;
+        let u = r.row.tokens;
+        if crate::same::same_row(rec, a, t, b, u) {
             return true;
         }
-        todo = next.rest;
+        todo = r.rest;
     }
     false
 }
@@ -110,7 +111,7 @@ fn rows_proper(rec: &[u8], own: &[u8], of: Items) -> bool
         if crate::same::aid_is(rec, r.row.other, own) {
             return false;
         }
-        if has_row(rec, r.row, r.rest) {
+        if has_row(rec, r.row.other, r.row.tokens, r.rest) {
             return false;
         }
         todo = r.rest;
@@ -126,7 +127,7 @@ fn all_called(rec: &[u8], needs: Items, calls: Items) -> bool
     let mut todo = needs;
     while 0 < todo.count {
         let r = crate::steps::take_row(rec, todo);
-        if has_row(rec, r.row, calls) {
+        if has_row(rec, r.row.other, r.row.tokens, calls) {
             todo = r.rest;
         } else {
             return false;

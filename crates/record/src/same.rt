@@ -3,9 +3,8 @@ ghost use mathlib.Core.Path.{_≡_};
 ghost use Rattle.policy.specs.Lists.{eqBytes};
 ghost use Rattle.policy.specs.Contract.{eqAid, eqTok, eqRow};
 ghost use Rattle.geometry.specs.Geometry.{tokOf};
-ghost use Rattle.record.specs.Meaning.{AidFits, aidIn, rowIn};
+ghost use Rattle.record.specs.Meaning.{AidFits, aidIn};
 use crate::Aid;
-use crate::Row;
 use geometry::Tokens;
 
 pub fn same_bytes(a: &[u8], b: &[u8]) -> bool
@@ -42,12 +41,13 @@ pub fn same_tokens(t: Tokens, u: Tokens) -> bool
 }
 
 // Two rows of one record.
-pub fn same_row(rec: &[u8], r: Row, s: Row) -> bool
-    requires { ⌜ AidFits (now rec) (r .other) × AidFits (now rec) (s .other) ⌝ }
-    ensures { λ b. ⌜ b ≡ eqRow (rowIn (now (rec .entry)) r) (rowIn (now (rec .entry)) s) ⌝ }
+pub fn same_row(rec: &[u8], a: Aid, t: Tokens, b: Aid, u: Tokens) -> bool
+    requires { ⌜ AidFits (now rec) a × AidFits (now rec) b ⌝ }
+    ensures { λ r. ⌜ r ≡ eqRow (record { aid = aidIn (now (rec .entry)) a; tok = tokOf t })
+        (record { aid = aidIn (now (rec .entry)) b; tok = tokOf u }) ⌝ }
 {
-    if same_tokens(r.tokens, s.tokens) {
-        return same_aid(rec, r.other, s.other);
+    if same_tokens(t, u) {
+        return same_aid(rec, a, b);
     }
     false
 }

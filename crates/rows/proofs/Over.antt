@@ -5,7 +5,7 @@ use native.Mathlib.Numerals.{add-one}
 use native.Mathlib.Omega.{arith}
 use mathlib.Core.Path.{_≡_, refl, sym, ap, _∙_}
 use mathlib.Core.List.{List, _++_, append-assoc}
-use lib.ListN.{length, getD, take, drop, set, length-append, length-drop, length-set}
+use lib.ListN.{length, getD, take, drop, take-append-drop, set, length-append, length-drop, length-set}
 use lib.Seq.{paste, paste-zero, paste-suc, length-paste-head, take-length, length-take-le, take-at, drop-at, drop-append-add, drop-drop, getD-append-add, getD-take, getD-drop}
 use Rattle.rows.specs.Area.{part, over}
 
@@ -94,3 +94,11 @@ module _ (at : ℕ) (x l : List ℕ) (room : at + length x ≤ length l) where
 
   pub length-over : length (over at x l) ≡ length l
   length-over = ap length regroup ∙ length-append (take at l ++ x) (drop (at + length x) l) ∙ rw (head-length, length-drop) (omega arith)
+
+-- bytes put where they stand change nothing
+pub over-where-it-stands : (a : List ℕ) (to from n : ℕ) → from + n ≤ length a → to ≡ from → a ≡ over to (part from n a) a
+over-where-it-stands a to from n h e =
+    sym (ap (λ (m : ℕ). over m (part from n a) a) e
+    ∙ ap (λ (m : ℕ). take from a ++ (part from n a ++ drop (from + m) a)) (length-part from n a h)
+    ∙ ap (λ (l : List ℕ). take from a ++ (part from n a ++ l)) (sym (drop-drop n from a))
+    ∙ ap (λ (l : List ℕ). take from a ++ l) (take-append-drop n (drop from a)) ∙ take-append-drop from a)

@@ -41,6 +41,9 @@ fn slide(a: &mut [u8], to: usize, from: usize, n: usize)
     requires { ⌜ (to ≤ from) × (from + n ≤ length (now a)) ⌝ }
     ensures { λ _. ⌜ now (a .exit) ≡ over to (part from n (now (a .entry))) (now (a .entry)) ⌝ }
 {
+    if to == from {
+        return;
+    }
     for j in 0..n {
         let b = a[from + j];
         a[to + j] = b;

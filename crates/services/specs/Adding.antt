@@ -10,7 +10,7 @@ use Rattle.policy.specs.Contract.{Aid, eqAid, Tok, eqTok}
 use Rattle.policy.specs.Layout.{Layout}
 use Rattle.policy.specs.Tables.{Tables, Unmet, Waiting, bit, decode, encode}
 use Rattle.policy.specs.Lookup.{numberOf, serviceOf, freeService}
-use Rattle.policy.specs.Draft.{Look, put3, withCalls, withGrants, nowGranted, addServiceAt}
+use Rattle.policy.specs.Draft.{Look, put3, withCalls, withGrants, nowGranted, addServiceAt, asksFor}
 use Rattle.policy.specs.ShortCheck.{count, shortAddService}
 use Rattle.policy.specs.Judge.{Out, refusal}
 use Rattle.image.specs.Laid.{withWaiting}
@@ -20,10 +20,6 @@ use Rattle.changes.specs.Places.{opened}
 use Rattle.changes.specs.Joins.{holder, takenIn, TakesIn}
 use Rattle.services.specs.declared.adding.Adding.{Adding}
 use Rattle.services.specs.declared.adding.Adding.the-variants.{Refuse, Add}
-
--- an unmet call asks for the service of the AID a with tokens s
-abbrev pub asks : Aid → Tok → Unmet → Bool
-asks a s u = eqAid (u .callee) a && eqTok (u .tok) s
 
 -- a waiting grant is of package j's service with tokens s
 abbrev pub ofService : ℕ → Tok → Waiting → Bool
@@ -36,7 +32,8 @@ waitsIn mask t a = someListed (λ w. eqAid (w .caller) a) mask 0 (t .waiting)
 
 -- a grant by package j of its service with tokens s to the AID a waits, if it does not yet
 abbrev pub waitedAt : ℕ → ℕ → Tok → Aid → Tables → Tables
-waitedAt mask j s a t = withWaiting (cond (waitsIn mask t a) (t .waiting) (t .waiting ++ (record { caller = a; callee = j; tok = s } ∷ []))) t
+waitedAt mask j s a t = withWaiting (cond (waitsIn mask t a) (t .waiting)
+    (t .waiting ++ (record { caller = a; callee = j; tok = s } ∷ []))) t
 
 module _ (L : Layout) where
   -- no package has the AID, and no such grant waits
@@ -81,7 +78,7 @@ module _ (L : Layout) where
 
   -- the unmet calls on package j's service with tokens s, and the waiting grants of it that are due
   abbrev pub askMask : Tables → Tok → ℕ → ℕ
-  askMask t s j = maskOf (asks (t .aid j) s) (t .unmet)
+  askMask t s j = maskOf (asksFor L t (t .aid j) s) (t .unmet)
 
   abbrev pub dueMask : Tables → Tok → ℕ → ℕ
   dueMask t s j = maskOf (nowGranted L t j s) (t .waiting)
@@ -96,7 +93,8 @@ module _ (L : Layout) where
 
     abbrev pub addingPlan : Aid → Adding
     addingPlan a =
-        orElse (numberOf L t a) (Refuse 5) (λ j. orElse (serviceOf L t j s) (orElse (freeService L t j) (Refuse 7) (addingAt j)) (λ k. Refuse 6))
+        orElse (numberOf L t a) (Refuse 5) (λ j. orElse (serviceOf L t j s) (orElse (freeService L t j) (Refuse 7) (addingAt j))
+        (λ k. Refuse 6))
 
   -- ---- the outcome of a plan
   module _ (img : List ℕ) (s : Tok) (l : List Aid) where

@@ -38,4 +38,5 @@ module _ (L : Layout) (t : Tables) where
   RoomWithoutService j k = (rowsWithBits L UnmetCalls t Calls j k ≤ L .capacity) × (rowsWithBits L WaitingGrants t Grants j k ≤ L .capacity)
 
   abbrev pub listsWithoutService : ℕ → ℕ → Tables
-  listsWithoutService j k = behind WaitingGrants (leftBits L WaitingGrants t Grants j k) (behind UnmetCalls (leftBits L UnmetCalls t Calls j k) t)
+  listsWithoutService j k = behind WaitingGrants (leftBits L WaitingGrants t Grants j k)
+      (behind UnmetCalls (leftBits L UnmetCalls t Calls j k) t)

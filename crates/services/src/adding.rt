@@ -1,4 +1,5 @@
-// Kind 3: a service with its grants. Unmet calls on it and waiting grants of it become bits; a grant waits, once, where its caller is not installed.
+// Kind 3: a service with its grants. Unmet calls on it and waiting grants of it become bits; a grant waits, once, where its caller is not
+// installed.
 ghost use mathlib.Core.Path.{_≡_};
 ghost use mathlib.Core.Bool.{Bool, true, false, not, _&&_, _||_};
 ghost use Prim.Native.Nat.{_+_, _<_};
@@ -7,19 +8,20 @@ ghost use lib.ListN.{length};
 ghost use Rattle.policy.specs.Lists.{implies, every, exists};
 ghost use Rattle.policy.specs.Contract.{eqAid};
 ghost use Rattle.policy.specs.Record.{aid, addService};
-ghost use Rattle.policy.specs.Tables.{Unmet, Waiting, bit, decode};
+ghost use Rattle.policy.specs.Tables.{Unmet, Waiting, bit};
 ghost use Rattle.policy.specs.Lookup.{numberOf};
 ghost use Rattle.policy.specs.Sound.{sound};
 ghost use Rattle.policy.specs.Draft.{installedAid};
 ghost use Rattle.policy.specs.ShortCheck.{count};
 ghost use Rattle.policy.specs.Settled.{settled, Gives};
 ghost use Rattle.geometry.specs.Geometry.{layoutOf, tokOf};
-ghost use Rattle.image.specs.Laid.{Laid};
+ghost use Rattle.image.specs.Laid.{Laid, tablesOf};
 ghost use Rattle.image.specs.Wrote.{Wrote};
 ghost use Rattle.image.specs.Read.{maskOf, unmetRow, waitingRow};
 ghost use Rattle.record.specs.Meaning.{AidFits, Stands, aidIn, itemsIn};
 ghost use Rattle.changes.specs.Asked.{Asked};
-ghost use Rattle.services.specs.Adding.{waitsIn, waitedAt, isLone, grantedAt, grantedAll, RoomFor, added, AddFits, dueTo, byCallers, addingAt, addingPlan};
+ghost use Rattle.services.specs.Adding.{waitsIn, waitedAt, isLone, grantedAt, grantedAll, RoomFor, added, AddFits, dueTo};
+ghost use Rattle.services.specs.Adding.{byCallers, addingAt, addingPlan};
 ghost use Rattle.changes.specs.Masks.{Named};
 ghost use Rattle.changes.specs.Joins.{holder};
 use changes::Verdict;
@@ -46,9 +48,9 @@ pub enum Adding {
 // Whether package n, a used one, has an AID of the record.
 fn is_caller(img: &[u8], c: Card, n: usize, rec: &[u8], a: Aid) -> bool
     requires laid { ⌜ Laid (layoutOf c) (now img) ⌝ }
-    requires used { ⌜ (n < layoutOf c .packages) × T (decode (layoutOf c) (now img) .used n) ⌝ }
+    requires used { ⌜ (n < layoutOf c .packages) × T (tablesOf c (now img) .used n) ⌝ }
     requires fits { ⌜ AidFits (now rec) a ⌝ }
-    ensures { λ r. ⌜ r ≡ eqAid (decode (layoutOf c) (now (img .entry)) .aid n) (aidIn (now (rec .entry)) a) ⌝ }
+    ensures { λ r. ⌜ r ≡ eqAid (tablesOf c (now (img .entry)) .aid n) (aidIn (now (rec .entry)) a) ⌝ }
 {
     let other = record::aid_bytes(rec, a);
     image::read::is_package(img, c, n, other)
@@ -57,9 +59,9 @@ fn is_caller(img: &[u8], c: Card, n: usize, rec: &[u8], a: Aid) -> bool
 // Whether package n, a used one, is among the callers.
 fn is_among(img: &[u8], c: Card, n: usize, rec: &[u8], callers: Items) -> bool
     requires laid { ⌜ Laid (layoutOf c) (now img) ⌝ }
-    requires used { ⌜ (n < layoutOf c .packages) × T (decode (layoutOf c) (now img) .used n) ⌝ }
+    requires used { ⌜ (n < layoutOf c .packages) × T (tablesOf c (now img) .used n) ⌝ }
     requires stands { ⌜ Stands aid (now rec) callers ⌝ }
-    ensures { λ r. ⌜ r ≡ exists (eqAid (decode (layoutOf c) (now (img .entry)) .aid n)) (itemsIn aid (now (rec .entry)) callers) ⌝ }
+    ensures { λ r. ⌜ r ≡ exists (eqAid (tablesOf c (now (img .entry)) .aid n)) (itemsIn aid (now (rec .entry)) callers) ⌝ }
 {
     let mut todo = callers;
     while 0 < todo.count {
@@ -75,8 +77,9 @@ fn is_among(img: &[u8], c: Card, n: usize, rec: &[u8], callers: Items) -> bool
 // Waiting grant r is one of the mask, and its caller is installed.
 fn is_due(img: &[u8], c: Card, granting: u32, r: usize) -> bool
     requires laid { ⌜ Laid (layoutOf c) (now img) ⌝ }
-    requires inside { ⌜ r < length (decode (layoutOf c) (now img) .waiting) ⌝ }
-    ensures { λ b. ⌜ b ≡ bit granting r && installedAid (layoutOf c) (decode (layoutOf c) (now (img .entry))) (waitingRow (decode (layoutOf c) (now (img .entry))) r .caller) ⌝ }
+    requires inside { ⌜ r < length (tablesOf c (now img) .waiting) ⌝ }
+    ensures { λ b. ⌜ b ≡ bit granting r && installedAid (layoutOf c) (tablesOf c (now (img .entry)))
+        (waitingRow (tablesOf c (now (img .entry))) r .caller) ⌝ }
 {
     if !changes::find::has_row(granting, r) {
         return false;
@@ -88,9 +91,10 @@ fn is_due(img: &[u8], c: Card, granting: u32, r: usize) -> bool
 // Which waiting grants of the mask are to installed packages.
 fn due_rows(img: &[u8], c: Card, granting: u32) -> u32
     requires laid { ⌜ Laid (layoutOf c) (now img) ⌝ }
-    requires named { ⌜ Named granting (decode (layoutOf c) (now img) .waiting) ⌝ }
-    ensures { λ m. ⌜ ((f : Waiting → Bool) → granting ≡ maskOf f (decode (layoutOf c) (now (img .entry)) .waiting)
-        → m ≡ maskOf (λ w. f w && installedAid (layoutOf c) (decode (layoutOf c) (now (img .entry))) (w .caller)) (decode (layoutOf c) (now (img .entry)) .waiting)) ⌝ }
+    requires named { ⌜ Named granting (tablesOf c (now img) .waiting) ⌝ }
+    ensures { λ m. ⌜ ((f : Waiting → Bool) → granting ≡ maskOf f (tablesOf c (now (img .entry)) .waiting)
+        → m ≡ maskOf (λ w. f w && installedAid (layoutOf c) (tablesOf c (now (img .entry))) (w .caller))
+        (tablesOf c (now (img .entry)) .waiting)) ⌝ }
 {
     let mut r = image::lists::count(img, c, Kept::WaitingGrants);
     let mut mask: u32 = 0;
@@ -105,8 +109,9 @@ fn due_rows(img: &[u8], c: Card, granting: u32) -> u32
 // Waiting grant r is one of the mask, and to package n.
 fn row_to(img: &[u8], c: Card, due: u32, r: usize, n: usize) -> bool
     requires laid { ⌜ Laid (layoutOf c) (now img) ⌝ }
-    requires inside { ⌜ r < length (decode (layoutOf c) (now img) .waiting) ⌝ }
-    ensures { λ b. ⌜ b ≡ bit due r && eqb (holder (layoutOf c) (decode (layoutOf c) (now (img .entry))) (waitingRow (decode (layoutOf c) (now (img .entry))) r .caller)) n ⌝ }
+    requires inside { ⌜ r < length (tablesOf c (now img) .waiting) ⌝ }
+    ensures { λ b. ⌜ b ≡ bit due r && eqb (holder (layoutOf c) (tablesOf c (now (img .entry)))
+        (waitingRow (tablesOf c (now (img .entry))) r .caller)) n ⌝ }
 {
     if !changes::find::has_row(due, r) {
         return false;
@@ -117,7 +122,7 @@ fn row_to(img: &[u8], c: Card, due: u32, r: usize, n: usize) -> bool
 // Whether a waiting grant of the mask is to package n.
 fn is_due_to(img: &[u8], c: Card, due: u32, n: usize) -> bool
     requires { ⌜ Laid (layoutOf c) (now img) ⌝ }
-    ensures { λ b. ⌜ b ≡ dueTo (layoutOf c) due (decode (layoutOf c) (now (img .entry))) n ⌝ }
+    ensures { λ b. ⌜ b ≡ dueTo (layoutOf c) due (tablesOf c (now (img .entry))) n ⌝ }
 {
     let size = image::lists::count(img, c, Kept::WaitingGrants);
     for r in 0..size {
@@ -139,11 +144,12 @@ fn row_granted(
     callers: Items,
 ) -> bool
     requires is_sound { ⌜ T (sound (layoutOf c) (now img)) ⌝ }
-    requires inside { ⌜ r < length (decode (layoutOf c) (now img) .unmet) ⌝ }
+    requires inside { ⌜ r < length (tablesOf c (now img) .unmet) ⌝ }
     requires stands { ⌜ Stands aid (now rec) callers ⌝ }
-    ensures { λ b. ⌜ b ≡ implies (bit asking r) (exists (eqAid (decode (layoutOf c) (now (img .entry)) .aid (unmetRow (decode (layoutOf c) (now (img .entry))) r .caller)))
+    ensures { λ b. ⌜ b ≡ implies (bit asking r)
+        (exists (eqAid (tablesOf c (now (img .entry)) .aid (unmetRow (tablesOf c (now (img .entry))) r .caller)))
         (itemsIn aid (now (rec .entry)) callers)
-        || dueTo (layoutOf c) due (decode (layoutOf c) (now (img .entry))) (unmetRow (decode (layoutOf c) (now (img .entry))) r .caller)) ⌝ }
+        || dueTo (layoutOf c) due (tablesOf c (now (img .entry))) (unmetRow (tablesOf c (now (img .entry))) r .caller)) ⌝ }
 {
     if !changes::find::has_row(asking, r) {
         return true;
@@ -159,8 +165,9 @@ fn row_granted(
 fn all_granted(img: &[u8], c: Card, asking: u32, due: u32, rec: &[u8], callers: Items) -> bool
     requires is_sound { ⌜ T (sound (layoutOf c) (now img)) ⌝ }
     requires stands { ⌜ Stands aid (now rec) callers ⌝ }
-    ensures { λ b. ⌜ ((f : Unmet → Bool) → asking ≡ maskOf f (decode (layoutOf c) (now (img .entry)) .unmet)
-        → b ≡ every (byCallers (layoutOf c) (decode (layoutOf c) (now (img .entry))) (itemsIn aid (now (rec .entry)) callers) due f) (decode (layoutOf c) (now (img .entry)) .unmet)) ⌝ }
+    ensures { λ b. ⌜ ((f : Unmet → Bool) → asking ≡ maskOf f (tablesOf c (now (img .entry)) .unmet)
+        → b ≡ every (byCallers (layoutOf c) (tablesOf c (now (img .entry))) (itemsIn aid (now (rec .entry)) callers) due f)
+        (tablesOf c (now (img .entry)) .unmet)) ⌝ }
 {
     let n = image::lists::count(img, c, Kept::UnmetCalls);
     for r in 0..n {
@@ -174,8 +181,8 @@ fn all_granted(img: &[u8], c: Card, asking: u32, due: u32, rec: &[u8], callers: 
 // Waiting grant r is one of the mask, and to this AID.
 fn row_for(img: &[u8], c: Card, mask: u32, r: usize, other: &[u8]) -> bool
     requires laid { ⌜ Laid (layoutOf c) (now img) ⌝ }
-    requires inside { ⌜ r < length (decode (layoutOf c) (now img) .waiting) ⌝ }
-    ensures { λ b. ⌜ b ≡ bit mask r && eqAid (waitingRow (decode (layoutOf c) (now (img .entry))) r .caller) (now (other .entry)) ⌝ }
+    requires inside { ⌜ r < length (tablesOf c (now img) .waiting) ⌝ }
+    ensures { λ b. ⌜ b ≡ bit mask r && eqAid (waitingRow (tablesOf c (now (img .entry))) r .caller) (now (other .entry)) ⌝ }
 {
     if !changes::find::has_row(mask, r) {
         return false;
@@ -187,7 +194,7 @@ fn row_for(img: &[u8], c: Card, mask: u32, r: usize, other: &[u8]) -> bool
 fn waits(img: &[u8], c: Card, mask: u32, rec: &[u8], a: Aid) -> bool
     requires laid { ⌜ Laid (layoutOf c) (now img) ⌝ }
     requires fits { ⌜ AidFits (now rec) a ⌝ }
-    ensures { λ b. ⌜ b ≡ waitsIn mask (decode (layoutOf c) (now (img .entry))) (aidIn (now (rec .entry)) a) ⌝ }
+    ensures { λ b. ⌜ b ≡ waitsIn mask (tablesOf c (now (img .entry))) (aidIn (now (rec .entry)) a) ⌝ }
 {
     let other = record::aid_bytes(rec, a);
     let n = image::lists::count(img, c, Kept::WaitingGrants);
@@ -203,7 +210,7 @@ fn waits(img: &[u8], c: Card, mask: u32, rec: &[u8], a: Aid) -> bool
 fn is_lone(img: &[u8], c: Card, mask: u32, rec: &[u8], a: Aid) -> bool
     requires laid { ⌜ Laid (layoutOf c) (now img) ⌝ }
     requires fits { ⌜ AidFits (now rec) a ⌝ }
-    ensures { λ r. ⌜ r ≡ isLone (layoutOf c) mask (decode (layoutOf c) (now (img .entry))) (aidIn (now (rec .entry)) a) ⌝ }
+    ensures { λ r. ⌜ r ≡ isLone (layoutOf c) mask (tablesOf c (now (img .entry))) (aidIn (now (rec .entry)) a) ⌝ }
 {
     let n = geometry::packages(c);
     let i = changes::find::find_caller(img, c, rec, a);
@@ -217,7 +224,8 @@ fn is_lone(img: &[u8], c: Card, mask: u32, rec: &[u8], a: Aid) -> bool
 fn callers_fit(img: &[u8], c: Card, granting: u32, room: usize, rec: &[u8], callers: Items) -> bool
     requires laid { ⌜ Laid (layoutOf c) (now img) ⌝ }
     requires stands { ⌜ Stands aid (now rec) callers ⌝ }
-    ensures { λ r. ⌜ r ≡ leb (count (isLone (layoutOf c) granting (decode (layoutOf c) (now (img .entry)))) (itemsIn aid (now (rec .entry)) callers)) room ⌝ }
+    ensures { λ r. ⌜ r ≡ leb (count (isLone (layoutOf c) granting (tablesOf c (now (img .entry))))
+        (itemsIn aid (now (rec .entry)) callers)) room ⌝ }
 {
     let mut left = room;
     let mut todo = callers;
@@ -246,8 +254,8 @@ fn plan_lists(
 ) -> Adding
     requires is_sound { ⌜ T (sound (layoutOf c) (now img)) ⌝ }
     requires stands { ⌜ Stands aid (now rec) callers ⌝ }
-    requires is_own { ⌜ decode (layoutOf c) (now img) .aid j ≡ now own ⌝ }
-    ensures { λ r. ⌜ r ≡ addingAt (layoutOf c) (decode (layoutOf c) (now (img .entry))) (tokOf t) (itemsIn aid (now (rec .entry)) callers) j k ⌝ }
+    requires is_own { ⌜ tablesOf c (now img) .aid j ≡ now own ⌝ }
+    ensures { λ r. ⌜ r ≡ addingAt (layoutOf c) (tablesOf c (now (img .entry))) (tokOf t) (itemsIn aid (now (rec .entry)) callers) j k ⌝ }
 {
     let met = image::lists::with_row(img, c, Kept::UnmetCalls, own, t);
     let granting = image::lists::with_service(img, c, Kept::WaitingGrants, j, t);
@@ -271,7 +279,7 @@ fn plan_lists(
 fn plan_adding(img: &[u8], c: Card, own: &[u8], t: Tokens, rec: &[u8], callers: Items) -> Adding
     requires is_sound { ⌜ T (sound (layoutOf c) (now img)) ⌝ }
     requires stands { ⌜ Stands aid (now rec) callers ⌝ }
-    ensures { λ r. ⌜ r ≡ addingPlan (layoutOf c) (decode (layoutOf c) (now (img .entry))) (tokOf t) (itemsIn aid (now (rec .entry)) callers)
+    ensures { λ r. ⌜ r ≡ addingPlan (layoutOf c) (tablesOf c (now (img .entry))) (tokOf t) (itemsIn aid (now (rec .entry)) callers)
         (now (own .entry)) ⌝ }
 {
     let n = geometry::packages(c);
@@ -296,8 +304,10 @@ fn wait(img: &mut [u8], c: Card, mask: u32, rec: &[u8], a: Aid, j: usize, t: Tok
     requires laid { ⌜ Laid (layoutOf c) (now img) ⌝ }
     requires fits { ⌜ AidFits (now rec) a ⌝ }
     requires inside { ⌜ j < layoutOf c .packages ⌝ }
-    requires room { ⌜ (waitsIn mask (decode (layoutOf c) (now img)) (aidIn (now rec) a) ≡ false → length (decode (layoutOf c) (now img) .waiting) < layoutOf c .capacity) ⌝ }
-    ensures { λ _. ⌜ Wrote (layoutOf c) (now (img .exit)) (waitedAt mask j (tokOf t) (aidIn (now (rec .entry)) a) (decode (layoutOf c) (now (img .entry)))) ⌝ }
+    requires room { ⌜ (waitsIn mask (tablesOf c (now img)) (aidIn (now rec) a) ≡ false
+        → length (tablesOf c (now img) .waiting) < layoutOf c .capacity) ⌝ }
+    ensures { λ _. ⌜ Wrote (layoutOf c) (now (img .exit))
+        (waitedAt mask j (tokOf t) (aidIn (now (rec .entry)) a) (tablesOf c (now (img .entry)))) ⌝ }
 {
     if waits(img, c, mask, rec, a) {
         return;
@@ -311,9 +321,11 @@ fn grant(img: &mut [u8], c: Card, mask: u32, rec: &[u8], a: Aid, j: usize, k: us
     requires laid { ⌜ Laid (layoutOf c) (now img) ⌝ }
     requires fits { ⌜ AidFits (now rec) a ⌝ }
     requires numbers { ⌜ (j < layoutOf c .packages) × (k < layoutOf c .services) ⌝ }
-    requires room { ⌜ (isLone (layoutOf c) mask (decode (layoutOf c) (now img)) (aidIn (now rec) a) ≡ true → length (decode (layoutOf c) (now img) .waiting) < layoutOf c .capacity) ⌝ }
-    ensures { λ _. ⌜ Wrote (layoutOf c) (now (img .exit)) (grantedAt (layoutOf c) mask j k (tokOf t) (aidIn (now (rec .entry)) a) (decode (layoutOf c) (now (img .entry)))
-        (numberOf (layoutOf c) (decode (layoutOf c) (now (img .entry))) (aidIn (now (rec .entry)) a))) ⌝ }
+    requires room { ⌜ (isLone (layoutOf c) mask (tablesOf c (now img)) (aidIn (now rec) a) ≡ true → length (tablesOf c (now img) .waiting)
+        < layoutOf c .capacity) ⌝ }
+    ensures { λ _. ⌜ Wrote (layoutOf c) (now (img .exit))
+        (grantedAt (layoutOf c) mask j k (tokOf t) (aidIn (now (rec .entry)) a) (tablesOf c (now (img .entry)))
+        (numberOf (layoutOf c) (tablesOf c (now (img .entry))) (aidIn (now (rec .entry)) a))) ⌝ }
 {
     let n = geometry::packages(c);
     let i = changes::find::find_caller(img, c, rec, a);
@@ -329,8 +341,9 @@ fn grant_all(img: &mut [u8], c: Card, rec: &[u8], callers: Items, j: usize, k: u
     requires laid { ⌜ Laid (layoutOf c) (now img) ⌝ }
     requires stands { ⌜ Stands aid (now rec) callers ⌝ }
     requires numbers { ⌜ (j < layoutOf c .packages) × (k < layoutOf c .services) ⌝ }
-    requires room { ⌜ RoomFor (layoutOf c) j (tokOf t) (itemsIn aid (now rec) callers) (decode (layoutOf c) (now img)) ⌝ }
-    ensures { λ _. ⌜ Wrote (layoutOf c) (now (img .exit)) (grantedAll (layoutOf c) j k (tokOf t) (itemsIn aid (now (rec .entry)) callers) (decode (layoutOf c) (now (img .entry)))) ⌝ }
+    requires room { ⌜ RoomFor (layoutOf c) j (tokOf t) (itemsIn aid (now rec) callers) (tablesOf c (now img)) ⌝ }
+    ensures { λ _. ⌜ Wrote (layoutOf c) (now (img .exit))
+        (grantedAll (layoutOf c) j k (tokOf t) (itemsIn aid (now (rec .entry)) callers) (tablesOf c (now (img .entry)))) ⌝ }
 {
     let still = image::lists::with_service(img, c, Kept::WaitingGrants, j, t);
     let mut todo = callers;
@@ -355,9 +368,9 @@ fn serve(
 )
     requires laid { ⌜ Laid (layoutOf c) (now img) ⌝ }
     requires stands { ⌜ Stands aid (now rec) callers ⌝ }
-    requires fit { ⌜ AddFits (layoutOf c) met due j k (tokOf t) (itemsIn aid (now rec) callers) (decode (layoutOf c) (now img)) ⌝ }
+    requires fit { ⌜ AddFits (layoutOf c) met due j k (tokOf t) (itemsIn aid (now rec) callers) (tablesOf c (now img)) ⌝ }
     ensures { λ _. ⌜ Wrote (layoutOf c) (now (img .exit)) (added (layoutOf c) met due j k (tokOf t) (itemsIn aid (now (rec .entry)) callers)
-        (decode (layoutOf c) (now (img .entry)))) ⌝ }
+        (tablesOf c (now (img .entry)))) ⌝ }
 {
     changes::service::open_service(img, c, j, k, t);
     changes::lists::take_in(img, c, j, met, due);
@@ -375,7 +388,8 @@ pub fn add_service(
 ) -> Verdict
     requires asked { ⌜ Asked (layoutOf c) (now img) (now own) (addService (tokOf t) (itemsIn aid (now rec) callers)) ⌝ }
     requires stands { ⌜ Stands aid (now rec) callers ⌝ }
-    ensures { λ r. ⌜ Gives (settled (layoutOf c) (now (img .entry)) (now (own .entry)) (addService (tokOf t) (itemsIn aid (now (rec .entry)) callers)))
+    ensures { λ r. ⌜ Gives (settled (layoutOf c) (now (img .entry)) (now (own .entry))
+        (addService (tokOf t) (itemsIn aid (now (rec .entry)) callers)))
         (r .number) (r .second) (now (img .exit)) ⌝ }
 {
     match plan_adding(img, c, own, t, rec, callers) {

@@ -3,17 +3,18 @@ ghost use mathlib.Core.Path.{_≡_};
 ghost use Prim.Native.Nat.{_<_};
 ghost use Rattle.policy.specs.Record.{removeService};
 ghost use Rattle.policy.specs.Causes.{answer};
-ghost use Rattle.policy.specs.Tables.{bit, rowOf, decode};
+ghost use Rattle.policy.specs.Tables.{bit, rowOf};
 ghost use Rattle.policy.specs.Lookup.{numbers};
 ghost use Rattle.policy.specs.ShortCheck.{count, shortRemoveService};
 ghost use Rattle.policy.specs.Judge.{lookCauses};
 ghost use Rattle.policy.specs.Settled.{settled, Gives};
 ghost use Rattle.geometry.specs.Geometry.{layoutOf, tokOf};
-ghost use Rattle.image.specs.Laid.{Laid};
+ghost use Rattle.image.specs.Laid.{Laid, tablesOf};
 ghost use Rattle.image.specs.Wrote.{Wrote};
 ghost use Rattle.changes.specs.Asked.{Asked};
 ghost use Rattle.changes.specs.Left.{behind, RoomBehind, leftOne};
-ghost use Rattle.services.specs.Removal.{between as bitsBetween, leftBit, leftBits, rowsWithBits, RoomWithoutService, listsWithoutService};
+ghost use Rattle.services.specs.Removal.{between as bitsBetween, leftBit, leftBits, rowsWithBits, RoomWithoutService};
+ghost use Rattle.services.specs.Removal.{listsWithoutService};
 use changes::Verdict;
 use geometry::Card;
 use geometry::Kept;
@@ -25,7 +26,7 @@ use geometry::Tokens;
 fn between(img: &[u8], c: Card, tb: Table, j: usize, i: usize) -> u16
     requires laid { ⌜ Laid (layoutOf c) (now img) ⌝ }
     requires inside { ⌜ (j < layoutOf c .packages) × (i < layoutOf c .packages) ⌝ }
-    ensures { λ r. ⌜ r ≡ rowOf (layoutOf c .services) (bitsBetween tb (decode (layoutOf c) (now (img .entry))) j i) ⌝ }
+    ensures { λ r. ⌜ r ≡ rowOf (layoutOf c .services) (bitsBetween tb (tablesOf c (now (img .entry))) j i) ⌝ }
 {
     match tb {
         Table::Calls => image::read::entry(img, c, tb, i, j),
@@ -38,7 +39,7 @@ fn between(img: &[u8], c: Card, tb: Table, j: usize, i: usize) -> u16
 fn holders(img: &[u8], c: Card, tb: Table, j: usize, k: usize) -> usize
     requires laid { ⌜ Laid (layoutOf c) (now img) ⌝ }
     requires inside { ⌜ (j < layoutOf c .packages) × (k < layoutOf c .services) ⌝ }
-    ensures { λ r. ⌜ r ≡ count (λ i. bitsBetween tb (decode (layoutOf c) (now (img .entry))) j i k) (numbers (layoutOf c)) ⌝ }
+    ensures { λ r. ⌜ r ≡ count (λ i. bitsBetween tb (tablesOf c (now (img .entry))) j i k) (numbers (layoutOf c)) ⌝ }
 {
     let size = geometry::packages(c);
     let mut total: usize = 0;
@@ -53,7 +54,7 @@ fn holders(img: &[u8], c: Card, tb: Table, j: usize, k: usize) -> usize
 fn rows_with(img: &[u8], c: Card, l: Kept, tb: Table, j: usize, k: usize) -> usize
     requires laid { ⌜ Laid (layoutOf c) (now img) ⌝ }
     requires inside { ⌜ (j < layoutOf c .packages) × (k < layoutOf c .services) ⌝ }
-    ensures { λ r. ⌜ r ≡ rowsWithBits (layoutOf c) l (decode (layoutOf c) (now (img .entry))) tb j k ⌝ }
+    ensures { λ r. ⌜ r ≡ rowsWithBits (layoutOf c) l (tablesOf c (now (img .entry))) tb j k ⌝ }
 {
     let all = image::lists::count(img, c, l);
     let more = holders(img, c, tb, j, k);
@@ -65,7 +66,7 @@ fn rows_with(img: &[u8], c: Card, l: Kept, tb: Table, j: usize, k: usize) -> usi
 fn service_cause(img: &[u8], c: Card, j: usize, k: usize) -> u8
     requires laid { ⌜ Laid (layoutOf c) (now img) ⌝ }
     requires inside { ⌜ (j < layoutOf c .packages) × (k < layoutOf c .services) ⌝ }
-    ensures { λ r. ⌜ r ≡ answer (lookCauses (shortRemoveService (layoutOf c) (decode (layoutOf c) (now (img .entry))) j k)) ⌝ }
+    ensures { λ r. ⌜ r ≡ answer (lookCauses (shortRemoveService (layoutOf c) (tablesOf c (now (img .entry))) j k)) ⌝ }
 {
     let most = geometry::capacity(c);
     let needed = holders(img, c, Table::Needs, j, k);
@@ -79,9 +80,11 @@ fn leave_named(img: &mut [u8], c: Card, l: Kept, m: usize, j: usize, i: usize, r
     requires laid { ⌜ Laid (layoutOf c) (now img) ⌝ }
     requires inside { ⌜ (j < layoutOf c .packages) × (i < layoutOf c .packages) × (k < layoutOf c .services) ⌝ }
     requires named { ⌜ m < layoutOf c .packages ⌝ }
-    requires room { ⌜ RoomBehind l (layoutOf c) (leftOne l (decode (layoutOf c) (now img)) (decode (layoutOf c) (now img) .aid m) j i (bit row) k) (decode (layoutOf c) (now img)) ⌝ }
+    requires room { ⌜ RoomBehind l (layoutOf c) (leftOne l (tablesOf c (now img)) (tablesOf c (now img) .aid m) j i (bit row) k)
+        (tablesOf c (now img)) ⌝ }
     ensures { λ _. ⌜ Wrote (layoutOf c) (now (img .exit))
-        (behind l (leftOne l (decode (layoutOf c) (now (img .entry))) (decode (layoutOf c) (now (img .entry)) .aid m) j i (bit row) k) (decode (layoutOf c) (now (img .entry)))) ⌝ }
+        (behind l (leftOne l (tablesOf c (now (img .entry))) (tablesOf c (now (img .entry)) .aid m) j i (bit row) k)
+        (tablesOf c (now (img .entry)))) ⌝ }
 {
     let place = image::read::aid_place(img, c, m);
     let n = place[0] as usize;
@@ -92,8 +95,9 @@ fn leave_named(img: &mut [u8], c: Card, l: Kept, m: usize, j: usize, i: usize, r
 fn leave_bit(img: &mut [u8], c: Card, l: Kept, tb: Table, j: usize, k: usize, i: usize)
     requires laid { ⌜ Laid (layoutOf c) (now img) ⌝ }
     requires inside { ⌜ (j < layoutOf c .packages) × (i < layoutOf c .packages) × (k < layoutOf c .services) ⌝ }
-    requires room { ⌜ RoomBehind l (layoutOf c) (leftBit (layoutOf c) l (decode (layoutOf c) (now img)) tb j k i) (decode (layoutOf c) (now img)) ⌝ }
-    ensures { λ _. ⌜ Wrote (layoutOf c) (now (img .exit)) (behind l (leftBit (layoutOf c) l (decode (layoutOf c) (now (img .entry))) tb j k i) (decode (layoutOf c) (now (img .entry)))) ⌝ }
+    requires room { ⌜ RoomBehind l (layoutOf c) (leftBit (layoutOf c) l (tablesOf c (now img)) tb j k i) (tablesOf c (now img)) ⌝ }
+    ensures { λ _. ⌜ Wrote (layoutOf c) (now (img .exit))
+        (behind l (leftBit (layoutOf c) l (tablesOf c (now (img .entry))) tb j k i) (tablesOf c (now (img .entry)))) ⌝ }
 {
     let row = between(img, c, tb, j, i);
     let named = changes::left::by_list(l, j, i);
@@ -105,8 +109,9 @@ fn leave_bit(img: &mut [u8], c: Card, l: Kept, tb: Table, j: usize, k: usize, i:
 fn leave_bits(img: &mut [u8], c: Card, l: Kept, tb: Table, j: usize, k: usize)
     requires laid { ⌜ Laid (layoutOf c) (now img) ⌝ }
     requires inside { ⌜ (j < layoutOf c .packages) × (k < layoutOf c .services) ⌝ }
-    requires room { ⌜ RoomBehind l (layoutOf c) (leftBits (layoutOf c) l (decode (layoutOf c) (now img)) tb j k) (decode (layoutOf c) (now img)) ⌝ }
-    ensures { λ _. ⌜ Wrote (layoutOf c) (now (img .exit)) (behind l (leftBits (layoutOf c) l (decode (layoutOf c) (now (img .entry))) tb j k) (decode (layoutOf c) (now (img .entry)))) ⌝ }
+    requires room { ⌜ RoomBehind l (layoutOf c) (leftBits (layoutOf c) l (tablesOf c (now img)) tb j k) (tablesOf c (now img)) ⌝ }
+    ensures { λ _. ⌜ Wrote (layoutOf c) (now (img .exit))
+        (behind l (leftBits (layoutOf c) l (tablesOf c (now (img .entry))) tb j k) (tablesOf c (now (img .entry)))) ⌝ }
 {
     let callers = geometry::packages(c);
     for i in 0..callers {
@@ -118,8 +123,8 @@ fn leave_bits(img: &mut [u8], c: Card, l: Kept, tb: Table, j: usize, k: usize)
 fn leave_service(img: &mut [u8], c: Card, j: usize, k: usize)
     requires laid { ⌜ Laid (layoutOf c) (now img) ⌝ }
     requires inside { ⌜ (j < layoutOf c .packages) × (k < layoutOf c .services) ⌝ }
-    requires room { ⌜ RoomWithoutService (layoutOf c) (decode (layoutOf c) (now img)) j k ⌝ }
-    ensures { λ _. ⌜ Wrote (layoutOf c) (now (img .exit)) (listsWithoutService (layoutOf c) (decode (layoutOf c) (now (img .entry))) j k) ⌝ }
+    requires room { ⌜ RoomWithoutService (layoutOf c) (tablesOf c (now img)) j k ⌝ }
+    ensures { λ _. ⌜ Wrote (layoutOf c) (now (img .exit)) (listsWithoutService (layoutOf c) (tablesOf c (now (img .entry))) j k) ⌝ }
 {
     leave_bits(img, c, Kept::UnmetCalls, Table::Calls, j, k);
     leave_bits(img, c, Kept::WaitingGrants, Table::Grants, j, k);

@@ -46,13 +46,21 @@ tookIn p want got = record { ordinal = p .ordinal; have = p .have + got; ended =
 
 -- a line was taken or not: the next frame begins, and a turn follows a line that was taken, while an ordinal is left
 abbrev pub gaveOut : Progress → Bool → Progress
-gaveOut p taken = record { ordinal = p .ordinal + 1; have = 0; ended = p .ended; going = taken && ltb (p .ordinal + 1) lastOrdinal; closed = not taken }
+gaveOut p taken = record {
+  ordinal = p .ordinal + 1;
+  have = 0;
+  ended = p .ended;
+  going = taken && ltb (p .ordinal + 1) lastOrdinal;
+  closed
+      = not taken;
+}
 
 -- no turn follows
 abbrev pub stopped : Progress → Progress
 stopped p = record { ordinal = p .ordinal; have = p .have; ended = p .ended; going = false; closed = false }
 
--- by what the turn calls for: a read keeps what is held and brings no more than was called for, a line leaves the image after it, all else leaves it
+-- by what the turn calls for: a read keeps what is held and brings no more than was called for, a line leaves the image after it, all
+-- else leaves it
 abbrev pub AdvancedBy : lines.Turn → Progress → Progress → List ℕ → List ℕ → List ℕ → List ℕ → Type 0
 AdvancedBy (reads k) p q image left lent buf =
     (got : ℕ) × (got ≤ k - p .have) × (q ≡ tookIn p (k - p .have) got) × (take (p .have) buf ≡ take (p .have) lent) × (left ≡ image)

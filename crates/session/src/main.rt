@@ -147,7 +147,8 @@ fn advance(image: &mut [u8], buf: &mut [u8], p: Progress) -> Progress
     }
 }
 
-// The run, from the empty image on. A proved loop has to end, and nothing says that the input does: so it stops at an ordinal that no run reaches, 2^64 - 1.
+// The run, from the empty image on. A proved loop has to end, and nothing says that the input does: so it stops at an ordinal that no run
+// reaches, 2^64 - 1.
 fn run(image: &mut [u8], buf: &mut [u8]) -> Progress
     requires image_size { ⌜ length (now image) ≡ size small ⌝ }
     requires buf_size { ⌜ length (now buf) ≡ longest ⌝ }

@@ -4,12 +4,12 @@ ghost use Prim.Native.Nat.{_≤_};
 ghost use lib.ListN.{length, take};
 ghost use Rattle.policy.specs.Lists.{eqBytes};
 ghost use Rattle.policy.specs.Layout.{narrow, size as sizeOf};
-ghost use Rattle.policy.specs.Tables.{decode};
 ghost use Rattle.policy.specs.Lookup.{usedNumbers};
 ghost use Rattle.policy.specs.Sound.{sound};
 ghost use Rattle.geometry.specs.Geometry.{layoutOf};
 ghost use Rattle.geometry.specs.declared.Kept.the-variants.{WaitingGrants};
 ghost use Rattle.soundness.specs.Check.{listEnd, checkBy, sizedOk};
+ghost use Rattle.image.specs.Laid.{tablesOf};
 use geometry::Card;
 use geometry::Kept;
 
@@ -80,7 +80,7 @@ pub fn is_sound_old(img: &[u8]) -> bool
 // How many package numbers are used.
 pub fn count_used(img: &[u8], c: Card) -> usize
     requires { ⌜ length (now img) ≡ sizeOf (layoutOf c) ⌝ }
-    ensures { λ r. ⌜ r ≡ length (usedNumbers (layoutOf c) (decode (layoutOf c) (now (img .entry)))) ⌝ }
+    ensures { λ r. ⌜ r ≡ length (usedNumbers (layoutOf c) (tablesOf c (now (img .entry)))) ⌝ }
 {
     bits::count(geometry::row_at(img, c, 3))
 }

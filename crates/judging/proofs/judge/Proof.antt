@@ -13,8 +13,8 @@ returns-2 c =
     let d = c .before .before .before in
     malformed _ _ _ (d .before .before .is-sound .ensures) (d .before .if1 .left) (d .read-record .ensures) (c .before .enum-told .given .1) (c .refused2 .ensures)
 
-settle-requires : tie.Need-settle-requires
-settle-requires c κs =
+judge-read-requires : tie.Need-judge-read-requires
+judge-read-requires c κs =
     let e = c .before .before in
     let d = e .before .before in
     (taken _ _ _ (d .before .before .is-sound .ensures) (d .before .if1 .left) (d .read-record .ensures) (e .r .given .1), parsed-fits (d .read-record .ensures) (e .r .given .1))
@@ -23,7 +23,7 @@ returns-3 : tie.Need-returns-3
 returns-3 c =
     let e = c .before .before .before .before .before in
     let d = e .before .before in
-    judges _ _ _ (d .before .before .is-sound .ensures) (d .before .if1 .left) (d .read-record .ensures) (e .r .given .1) (c .before .before .settle .ensures)
+    judges _ _ _ (d .before .before .is-sound .ensures) (d .before .if1 .left) (d .read-record .ensures) (e .r .given .1) (c .before .before .judge-read .ensures)
 
 pub judge-spec : {M : Type 1} → statement M
 judge-spec =
@@ -39,6 +39,6 @@ judge-spec =
     (λ c κs. search needs)
     (λ c. search needs)
     returns-2
-    settle-requires
+    judge-read-requires
     (λ c. search needs)
     returns-3)

@@ -20,7 +20,7 @@ use Rattle.policy.specs.Record.{Reader, aRow}
 use Rattle.policy.specs.Tables.{Tables, Unmet, Waiting, bit}
 use Rattle.policy.specs.Lookup.{Place as Found, numberOf, serviceOf, serverOf}
 use Rattle.policy.specs.Sound.{sound}
-use Rattle.policy.specs.ShortCheck.{count}
+use Rattle.policy.specs.ShortCheck.{count, nowMet}
 use Rattle.policy.proofs.Sets.{length-keep}
 use Rattle.image.specs.declared.read.Place.{Place}
 use Rattle.image.specs.Read.{numberOr, placeOr, maskOf}
@@ -32,20 +32,21 @@ use Rattle.record.specs.declared.Items.{Items}
 use Rattle.record.proofs.Loops.{Todo, Left, todo-start, todo-end, todo-cons, todo-next, every-stop, every-next, count-yes, count-no}
 use Rattle.bits.proofs.Tests.{unnamed, named-so, not-asking, asking-by}
 use Rattle.changes.proofs.Tests.{found-below, served-is}
-use Rattle.packages.specs.Loads.{meets, present, comesDue, waitsAt, callGranted, CallsCome, grantFits, othersGranted, unmetFit, waitingFit, limitCause, loadCause, bothThere}
+use Rattle.packages.specs.Loads.{comesDue, waitsAt, callGranted, CallsCome, grantFits, othersGranted, unmetFit, waitingFit, limitCause, loadCause, bothThere}
 use Rattle.changes.specs.Own.{served}
 use Rattle.packages.specs.declared.decide.Called.{Called}
 use Rattle.packages.specs.declared.decide.Called.the-variants.{Granted, Refused}
 use Rattle.changes.specs.Joins.{roomAfter, serviceNumber}
 use Rattle.geometry.specs.declared.Kept.the-variants.{UnmetCalls, WaitingGrants}
+use Rattle.policy.specs.Draft.{installedAid}
 
--- ---- an unmet call u on a service of the package a with the services p, its callee compared first
-module _ (a : Aid) (p : List Tok) (u : Unmet) (b : Bool) (e : b ≡ eqAid (u .callee) a) where
-  pub met-other : not b ≡ true → false ≡ meets a p u
-  met-other h = unnamed b (eqAid (u .callee) a) (hasTok (u .tok) p) e h
+-- ---- an unmet call u on a service of the contract k, its callee compared first
+module _ (L : Layout) (t : Tables) (k : Contract) (u : Unmet) (b : Bool) (e : b ≡ eqAid (u .callee) (k .aid)) where
+  pub met-other : not b ≡ true → false ≡ nowMet L t k u
+  met-other h = unnamed b (eqAid (u .callee) (k .aid)) (hasTok (u .tok) (k .provides)) e h
 
-  pub met-has : (r : Bool) (s : Tok) → not b ≡ false → s ≡ u .tok → r ≡ hasTok s p → r ≡ meets a p u
-  met-has r s h x q = named-so b (eqAid (u .callee) a) (hasTok (u .tok) p) r e h (q ∙ ap (λ (z : Tok). hasTok z p) x)
+  pub met-has : (r : Bool) (s : Tok) → not b ≡ false → s ≡ u .tok → r ≡ hasTok s (k .provides) → r ≡ nowMet L t k u
+  met-has r s h x q = named-so b (eqAid (u .callee) (k .aid)) (hasTok (u .tok) (k .provides)) r e h (q ∙ ap (λ (z : Tok). hasTok z (k .provides)) x)
 
 -- ---- a waiting grant to the package a, of a service that is provided, its caller compared first
 module _ (L : Layout) (t : Tables) (a : Aid) (w : Waiting) (b : Bool) (e : b ≡ eqAid (w .caller) a) where
@@ -58,7 +59,7 @@ module _ (L : Layout) (t : Tables) (a : Aid) (w : Waiting) (b : Bool) (e : b ≡
 
 module _ (L : Layout) (t : Tables) where
   -- ---- a package with the AID a
-  pub present-is : (a : Aid) (n i : ℕ) → n ≡ L .packages → i ≡ numberOr (L .packages) (numberOf L t a) → ltb i n ≡ present L t a
+  pub present-is : (a : Aid) (n i : ℕ) → n ≡ L .packages → i ≡ numberOr (L .packages) (numberOf L t a) → ltb i n ≡ installedAid L t a
   present-is a n i e q = found-below (L .packages) n i (numberOf L t a) (package-below L t a) e q
 
   -- ---- a grant g for the unmet call u, its tokens compared first: i is the caller of u, and o the AID of the grant

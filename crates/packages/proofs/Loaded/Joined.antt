@@ -25,9 +25,10 @@ use Rattle.changes.specs.Places.{opened}
 use Rattle.changes.specs.Masks.{listed}
 use Rattle.changes.specs.Joins.{holder, serviceNumber, settledAll, DueAt, withoutRows, metAll, CallOn}
 use Rattle.changes.proofs.MaskedRows.{named as named-row, listed-is}
-use Rattle.packages.specs.Loads.{meets, comesDue}
+use Rattle.packages.specs.Loads.{comesDue}
 use Rattle.packages.specs.Writes.{named, openedAll, onCard, joined}
 use Rattle.packages.proofs.Loaded.Folds.{each, put-rows}
+use Rattle.policy.specs.ShortCheck.{nowMet}
 
 -- ---- the services, one after another, table by table
 opened-all : (n k : ℕ) (l : List Tok) (t : Tables) → openedAll n k l t ≡ record {
@@ -140,18 +141,18 @@ module _ (L : Layout) (t : Tables) (n : ℕ) (k : Contract) (new : Newcomer L t 
   there : {s : Tok} → In s p → T (isSome (serviceOf L on n s))
   there {s} m = let q = in-tok L t n k new m in found-at L on names n s (q .0) (q .1) (q .2)
 
-  pub calls-there : (met : ℕ) → met ≡ maskOf (meets (k .aid) (k .provides)) (t .unmet) → (r : ℕ) → r < length (t .unmet) → CallOn L met n (loadedNames L t n k) r
+  pub calls-there : (met : ℕ) → met ≡ maskOf (nowMet L t k) (t .unmet) → (r : ℕ) → r < length (t .unmet) → CallOn L met n (loadedNames L t n k) r
   calls-there met e r h q =
       let u = unmetRow t r in
-      there (has-tok (u .tok) p (and-r (eqAid (u .callee) a) (hasTok (u .tok) p) (subst T (named-row (meets a p) (t .unmet) met r _ e h) q)))
+      there (has-tok (u .tok) p (and-r (eqAid (u .callee) a) (hasTok (u .tok) p) (subst T (named-row (nowMet L t k) (t .unmet) met r _ e h) q)))
 
   abbrev number : Unmet → ℕ
   number u = serviceNumber L on n (u .tok)
 
   -- one has the number z exactly where it is on service z
-  call-is : (x y z : ℕ) (u : Unmet) → meets a p u && (eqb x (u .caller) && eqb y n && eqb z (number u)) ≡ eqb y n && (on .provides n z && eqUnmet (callRow x (serviceAt on n z)) u)
-  call-is x y z u = T-eq (meets a p u && (c && q && m)) (q && (on .provides n z && (d && e && c)))
-      (λ h. let i = and-r (meets a p u) (c && q && m) h in to (and-l (meets a p u) (c && q && m) h) (and-l c q (and-l (c && q) m i)) (and-r c q (and-l (c && q) m i)) (and-r (c && q) m i))
+  call-is : (x y z : ℕ) (u : Unmet) → nowMet L t k u && (eqb x (u .caller) && eqb y n && eqb z (number u)) ≡ eqb y n && (on .provides n z && eqUnmet (callRow x (serviceAt on n z)) u)
+  call-is x y z u = T-eq (nowMet L t k u && (c && q && m)) (q && (on .provides n z && (d && e && c)))
+      (λ h. let i = and-r (nowMet L t k u) (c && q && m) h in to (and-l (nowMet L t k u) (c && q && m) h) (and-l c q (and-l (c && q) m i)) (and-r c q (and-l (c && q) m i)) (and-r (c && q) m i))
       (λ h. let i = and-r q (on .provides n z && (d && e && c)) h in back (and-l q (on .provides n z && (d && e && c)) h) (and-l (on .provides n z) (d && e && c) i) (and-r (on .provides n z) (d && e && c) i))
     where
       c : Bool
@@ -169,7 +170,7 @@ module _ (L : Layout) (t : Tables) (n : ℕ) (k : Contract) (new : Newcomer L t 
       e : Bool
       e = eqTok (on .tok n z) (u .tok)
 
-      to : T (meets a p u) → T c → T q → T m → T (q && (on .provides n z && (d && e && c)))
+      to : T (nowMet L t k u) → T c → T q → T m → T (q && (on .provides n z && (d && e && c)))
       to h f g i =
           let s = has-tok (u .tok) p (and-r (eqAid (u .callee) a) (hasTok (u .tok) p) h) in
           let w : T (on .provides n z && e) = subst T (found-is L on names n (u .tok) z (there s)) i in
@@ -177,17 +178,17 @@ module _ (L : Layout) (t : Tables) (n : ℕ) (k : Contract) (new : Newcomer L t 
           (and-i (on .provides n z) (d && e && c) (and-l (on .provides n z) e w)
           (and-i (d && e) c (and-i d e (eqAid-of (l .aid-new ∙ sym (eqAid→ (u .callee) a (and-l (eqAid (u .callee) a) (hasTok (u .tok) p) h)))) (and-r (on .provides n z) e w)) f))
 
-      back : T q → T (on .provides n z) → T (d && e && c) → T (meets a p u && (c && q && m))
+      back : T q → T (on .provides n z) → T (d && e && c) → T (nowMet L t k u && (c && q && m))
       back g w h =
           let f = and-l (d && e) c h in
           let s : In (u .tok) p = in-cast (sym (eqTok→ (on .tok n z) (u .tok) (and-r d e f))) (tok-in L t n k new z w) in
-          and-i (meets a p u) (c && q && m)
+          and-i (nowMet L t k u) (c && q && m)
           (and-i (eqAid (u .callee) a) (hasTok (u .tok) p) (eqAid-of (sym (eqAid→ (on .aid n) (u .callee) (and-l d e f)) ∙ l .aid-new)) (tok-has s))
           (and-i (c && q) m (and-i c q (and-r (d && e) c h) g) (subst T (sym (found-is L on names n (u .tok) z (there s))) (and-i (on .provides n z) e w (and-r d e f))))
 
-  calls : (met : ℕ) → met ≡ maskOf (meets a p) (t .unmet) → (x y z : ℕ) → listed (λ u. u .caller) (λ u. n) number met 0 (t .unmet) (t .calls) x y z ≡ joined L t n k .calls x y z
+  calls : (met : ℕ) → met ≡ maskOf (nowMet L t k) (t .unmet) → (x y z : ℕ) → listed (λ u. u .caller) (λ u. n) number met 0 (t .unmet) (t .calls) x y z ≡ joined L t n k .calls x y z
   calls met e x y z =
-      listed-is (meets a p) (λ u. u .caller) (λ u. n) number met (t .unmet) e (t .calls) x y z
+      listed-is (nowMet L t k) (λ u. u .caller) (λ u. n) number met (t .unmet) e (t .calls) x y z
       ∙ ap (λ (v : Bool). t .calls x y z || v) ((λ i. exists (λ u. call-is x y z u i) (t .unmet)) ∙ exists-both (eqb y n) (on .provides n z) (eqUnmet v) (t .unmet))
       ∙ in-column (eqb x n) (eqb y n) (t .calls x y z) (on .provides n z && hasUnmet v (t .unmet))
       (λ e h. l .old-ne x (new .formed .calls .by-used x y z h) (eqb→eq x n e))
@@ -309,7 +310,7 @@ module _ (L : Layout) (t : Tables) (n : ℕ) (k : Contract) (new : Newcomer L t 
       go false h = refl
 
   -- the writes give the tables
-  pub on-card : (met due : ℕ) → met ≡ maskOf (meets (k .aid) (k .provides)) (t .unmet) → due ≡ maskOf (comesDue L t (k .aid)) (t .waiting) → onCard L n k met due t ≡ joined L t n k
+  pub on-card : (met due : ℕ) → met ≡ maskOf (nowMet L t k) (t .unmet) → due ≡ maskOf (comesDue L t (k .aid)) (t .waiting) → onCard L n k met due t ≡ joined L t n k
   unfolding numberOf serviceOf
   on-card met due e f = ap (λ (v : Tables). withoutRows met due (settledAll L due (metAll L met n v))) services-on ∙ (λ i. record {
     used = on .used;
@@ -319,6 +320,6 @@ module _ (L : Layout) (t : Tables) (n : ℕ) (k : Contract) (new : Newcomer L t 
     calls = λ x y z. calls met e x y z i;
     grants = λ x y z. grants due f x y z i;
     needs = λ x y z. needs x y z i;
-    unmet = (ap (λ (m : ℕ). keepRows m (t .unmet)) e ∙ keep-mask (meets a p) (t .unmet)) i;
+    unmet = (ap (λ (m : ℕ). keepRows m (t .unmet)) e ∙ keep-mask (nowMet L t k) (t .unmet)) i;
     waiting = (ap (λ (m : ℕ). keepRows m (t .waiting)) f ∙ keep-mask (comesDue L t a) (t .waiting)) i;
   })

@@ -11,7 +11,7 @@ use Rattle.policy.specs.Contract.{Tok, Row, Contract, hasTok, hasRow, validAid}
 use Rattle.policy.specs.Layout.{Layout}
 use Rattle.policy.specs.Tables.{Tables}
 use Rattle.policy.specs.Lookup.{Spot, serviceAt, numberOf, serviceOf, serverOf, spotOf}
-use Rattle.policy.specs.Draft.{callRow, grantRow, hasUnmet, hasWaiting, withCalls, withGrants, withNeeds, namedIn, loadAt}
+use Rattle.policy.specs.Draft.{callRow, grantRow, hasUnmet, hasWaiting, withCalls, withGrants, withNeeds, namedIn, loadAt, installedAid}
 use Rattle.policy.proofs.Sets.{T-eq, T-false, and-l, and-r, and-i, keep-ext, T-true, is-nil}
 use Rattle.policy.proofs.Equal.{has-tok, tok-has, has-row}
 use Rattle.policy.proofs.Put.{at-old, by-number}
@@ -19,7 +19,7 @@ use Rattle.policy.proofs.Formed.{Names, Fitting}
 use Rattle.policy.proofs.Found.{NumberIs, SpotIs, number-is, spot-is}
 use Rattle.policy.proofs.LoadNames.{Newcomer, Loaded, loaded, tok-in, in-tok, names-loaded}
 use Rattle.changes.specs.Own.{calledAll, grantedAll, neededAll, NoRows, ownRows, OwnFits, served}
-use Rattle.packages.specs.Loads.{present, bothThere}
+use Rattle.packages.specs.Loads.{bothThere}
 use Rattle.packages.specs.Writes.{joined}
 use Rattle.changes.proofs.OwnRows.{own-rows}
 use Rattle.policy.proofs.ShortLoad.{length-kept, none-kept}
@@ -42,8 +42,8 @@ module _ (L : Layout) (t : Tables) (n : ℕ) (k : Contract) (new : Newcomer L t 
   pub there-same : (r : Row) → In r (k .grants) → isSome (spotOf L on n r) ≡ bothThere L t (k .provides) r
   there-same r m = T-eq (isSome (spotOf L on n r)) (bothThere L t (k .provides) r)
       (to (spotOf L on n r) (spot-is L on names-joined n r))
-      (λ h. back (numberOf L t (r .aid)) (number-is L t (new .formed .names) (r .aid)) (and-l (present L t (r .aid)) (hasTok (r .tok) (k .provides)) h)
-      (in-tok L t n k new (has-tok (r .tok) (k .provides) (and-r (present L t (r .aid)) (hasTok (r .tok) (k .provides)) h))) (spotOf L on n r) (spot-is L on names-joined n r))
+      (λ h. back (numberOf L t (r .aid)) (number-is L t (new .formed .names) (r .aid)) (and-l (installedAid L t (r .aid)) (hasTok (r .tok) (k .provides)) h)
+      (in-tok L t n k new (has-tok (r .tok) (k .provides) (and-r (installedAid L t (r .aid)) (hasTok (r .tok) (k .provides)) h))) (spotOf L on n r) (spot-is L on names-joined n r))
     where
       installed : (i : ℕ) → T (on .used i) → on .aid i ≡ r .aid → (o : Option ℕ) → NumberIs t (r .aid) o → T (isSome o)
       installed i u e none h = by-number n (λ (x : ℕ). T (on .used x) → on .aid x ≡ r .aid → ⊥) i
@@ -52,7 +52,7 @@ module _ (L : Layout) (t : Tables) (n : ℕ) (k : Contract) (new : Newcomer L t 
 
       to : (o : Option Spot) → SpotIs on n r o → T (isSome o) → T (bothThere L t (k .provides) r)
       to none h q = absurd q
-      to (some p) h q = and-i (present L t (r .aid)) (hasTok (r .tok) (k .provides))
+      to (some p) h q = and-i (installedAid L t (r .aid)) (hasTok (r .tok) (k .provides))
           (installed (p .caller) (h .0) (h .1) (numberOf L t (r .aid)) (number-is L t (new .formed .names) (r .aid)))
           (tok-has (in-cast (sym (h .3)) (tok-in L t n k new (p .service) (h .2))))
 

@@ -18,7 +18,7 @@ use Rattle.policy.specs.Tables.{Tables, Waiting, noTok, bit, decode}
 use Rattle.policy.specs.Lookup.{Place, serviceOf, serverOf}
 use Rattle.policy.specs.Sound.{sound, eqWaiting}
 use Rattle.policy.specs.Draft.{Look, hasWaiting}
-use Rattle.policy.specs.ShortCheck.{newcomerRights, othersRights, shortLoad, shortLook}
+use Rattle.policy.specs.ShortCheck.{newcomerRights, othersRights, shortLoad, shortLook, nowMet}
 use Rattle.policy.specs.Judge.{lookCauses}
 use Rattle.policy.proofs.Sets.{T-eq, T-true, true-T, false-T, and-l, and-r, and-i, in-row}
 use Rattle.policy.proofs.Equal.{eqAid→, eqAid-of, eqTok→, eqTok-of, eqb-of}
@@ -28,7 +28,7 @@ use Rattle.policy.proofs.SoundFacts.{sound-formed, sound-fitting}
 use Rattle.geometry.specs.declared.Kept.the-variants.{UnmetCalls}
 use Rattle.image.specs.Read.{maskOf, item, unmetRow}
 use Rattle.image.proofs.Masks.{mask-bit, mask-zero, zero-mask, mask-and, mask-count}
-use Rattle.packages.specs.Loads.{meets, bothThere, comesDue, waitsAt, callGranted, grantFits, othersGranted, loadLook, loadCause, loadOf}
+use Rattle.packages.specs.Loads.{bothThere, comesDue, waitsAt, callGranted, grantFits, othersGranted, loadLook, loadCause, loadOf}
 use Rattle.changes.specs.Own.{served}
 use Rattle.bits.proofs.Gathered.{count-others}
 
@@ -67,7 +67,7 @@ granted-same x u tk ad gs e = ap (λ (f : Row → Bool). implies x (exists f gs)
 
 module _ (L : Layout) (t : Tables) (f : Formed L t) (fit : Fitting L t) (low : L .capacity ≤ 32) (c : Contract) where
   abbrev met : ℕ
-  met = maskOf (meets (c .aid) (c .provides)) (t .unmet)
+  met = maskOf (nowMet L t c) (t .unmet)
 
   abbrev due : ℕ
   due = maskOf (comesDue L t (c .aid)) (t .waiting)
@@ -122,30 +122,30 @@ module _ (L : Layout) (t : Tables) (f : Formed L t) (fit : Fitting L t) (low : L
 
   others-same : othersGranted L t (c .grants) met ≡ othersRights L t c
   others-same =
-      every-rows (item UnmetCalls [] noTok 0) (λ u. implies (meets (c .aid) (c .provides) u) (hasRow (record { aid = t .aid (u .caller); tok = u .tok }) (c .grants)))
+      every-rows (item UnmetCalls [] noTok 0) (λ u. implies (nowMet L t c u) (hasRow (record { aid = t .aid (u .caller); tok = u .tok }) (c .grants)))
       (λ r. implies (bit met r) (exists (grantFits L t (unmetRow t r)) (c .grants))) 0 (t .unmet) (λ r h. at r h)
     where
       at : (r : ℕ) → r < length (t .unmet)
           → implies (bit met (0 + r)) (exists (grantFits L t (unmetRow t (0 + r))) (c .grants))
-          ≡ implies (meets (c .aid) (c .provides) (unmetRow t r)) (hasRow (record { aid = t .aid (unmetRow t r .caller); tok = unmetRow t r .tok }) (c .grants))
+          ≡ implies (nowMet L t c (unmetRow t r)) (hasRow (record { aid = t .aid (unmetRow t r .caller); tok = unmetRow t r .tok }) (c .grants))
       at r h =
           let u = unmetRow t r in
           ap (λ (k : ℕ). implies (bit met k) (exists (grantFits L t (unmetRow t k)) (c .grants))) (zero-add r)
-          ∙ ap (λ (b : Bool). implies b (exists (grantFits L t u) (c .grants))) (mask-bit (meets (c .aid) (c .provides)) (t .unmet) r _ h)
-          ∙ granted-same (meets (c .aid) (c .provides) u) (t .used (u .caller)) (λ g. eqTok (u .tok) (g .tok)) (λ g. eqAid (t .aid (u .caller)) (g .aid)) (c .grants)
+          ∙ ap (λ (b : Bool). implies b (exists (grantFits L t u) (c .grants))) (mask-bit (nowMet L t c) (t .unmet) r _ h)
+          ∙ granted-same (nowMet L t c u) (t .used (u .caller)) (λ g. eqTok (u .tok) (g .tok)) (λ g. eqAid (t .aid (u .caller)) (g .aid)) (c .grants)
           (T-true (t .used (u .caller)) (f .unmet .off .off-used u (in-row (t .unmet) r _ h)))
 
   look-same : loadLook L t c met due ≡ shortLoad L t c
   look-same =
       let u = fit .unmet-fits in
       let w = fit .waiting-fits in
-      let e = list-room (meets (c .aid) (c .provides)) (t .unmet) (length (keep (λ r. not (served L t r)) (c .calls))) (L .capacity) u (omega arith) in
+      let e = list-room (nowMet L t c) (t .unmet) (length (keep (λ r. not (served L t r)) (c .calls))) (L .capacity) u (omega arith) in
       let q = list-room (comesDue L t (c .aid)) (t .waiting) (length (keep (λ r. not (bothThere L t (c .provides) r)) (c .grants))) (L .capacity) w (omega arith) in
       λ i. record { granted = rights-same i && others-same i; needed = every (served L t) (c .needs); unmetFits = e i; waitingFits = q i }
 
 -- causes 8 to 11 by masks are those of the short check
 pub cause-same : (L : Layout) (img : List ℕ) → T (sound L img) → L .capacity ≤ 32 → (k : Contract)
-    → loadCause L (decode L img) k (maskOf (meets (k .aid) (k .provides)) (decode L img .unmet)) (maskOf (comesDue L (decode L img) (k .aid)) (decode L img .waiting))
+    → loadCause L (decode L img) k (maskOf (nowMet L (decode L img) k) (decode L img .unmet)) (maskOf (comesDue L (decode L img) (k .aid)) (decode L img .waiting))
     ≡ answer (lookCauses (shortLook L (decode L img) (k .aid) (loadOf k)))
 unfolding shortLook
 cause-same L img ok low k = ap (λ (l : Look). answer (lookCauses l)) (look-same L (decode L img) (sound-formed L img ok) (sound-fitting L img ok) low k)

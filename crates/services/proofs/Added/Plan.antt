@@ -15,7 +15,7 @@ use Rattle.policy.specs.Layout.{Layout}
 use Rattle.policy.specs.Tables.{Tables, Unmet, Waiting, decode}
 use Rattle.policy.specs.Lookup.{numberOf, serviceOf, freeService}
 use Rattle.policy.specs.Sound.{sound}
-use Rattle.policy.specs.Draft.{installedAid, nowGranted}
+use Rattle.policy.specs.Draft.{installedAid, nowGranted, asksFor}
 use Rattle.policy.specs.ShortCheck.{count, shortAddService}
 use Rattle.policy.proofs.Formed.{Formed}
 use Rattle.policy.proofs.Found.{NumberIs, number-is}
@@ -26,7 +26,7 @@ use Rattle.changes.specs.Joins.{roomAfter}
 use Rattle.changes.proofs.ListRoom.{room-beside}
 use Rattle.image.proofs.Laid.{sound-laid}
 use Rattle.image.proofs.Numbers.{package-none, package-some, service-none, service-some, free-service-none, free-service-some}
-use Rattle.services.specs.Adding.{asks, ofService, isLone, byCallers, askMask, dueMask, addingAt, addingPlan}
+use Rattle.services.specs.Adding.{ofService, isLone, byCallers, askMask, dueMask, addingAt, addingPlan}
 use Rattle.services.specs.declared.adding.Adding.{Adding}
 use Rattle.services.specs.declared.adding.Adding.the-variants.{Refuse, Add}
 use Rattle.changes.proofs.Verdicts.{in-range}
@@ -71,7 +71,7 @@ own-aid L img a ok n j en p h =
 pub ruleset adding = (sound-laid, in-range, own-aid, plan-absent, plan-had, plan-full, plan-at, needs)
 
 -- ---- the checks, on package j with its new service number k
-module _ (L : Layout) (img : List ℕ) (ok : T (sound L img)) (j k : ℕ) (s : Tok) (l : List Aid) (asking granting due : ℕ) (a : Aid) (own : decode L img .aid j ≡ a) (ea : asking ≡ maskOf (asks a s) (decode L img .unmet))
+module _ (L : Layout) (img : List ℕ) (ok : T (sound L img)) (j k : ℕ) (s : Tok) (l : List Aid) (asking granting due : ℕ) (a : Aid) (own : decode L img .aid j ≡ a) (ea : asking ≡ maskOf (asksFor L (decode L img) a s) (decode L img .unmet))
     (eg : granting ≡ maskOf (ofService j s) (decode L img .waiting))
     (ed : (f : Waiting → Bool) → granting ≡ maskOf f (decode L img .waiting) → due ≡ maskOf (λ w. f w && installedAid L (decode L img) (w .caller)) (decode L img .waiting))
     (b : Bool) (eb : (f : Unmet → Bool) → asking ≡ maskOf f (decode L img .unmet) → b ≡ every (byCallers L (decode L img) l due f) (decode L img .unmet)) where
@@ -85,13 +85,13 @@ module _ (L : Layout) (img : List ℕ) (ok : T (sound L img)) (j k : ℕ) (s : T
   due-is = ed (ofService j s) eg
 
   ask-is : asking ≡ askMask L t s j
-  ask-is = ea ∙ ap (λ (b : Aid). maskOf (asks b s) (t .unmet)) (sym own)
+  ask-is = ea ∙ ap (λ (b : Aid). maskOf (asksFor L (decode L img) b s) (t .unmet)) (sym own)
 
   abbrev byLook : Bool → Bool → ℕ → ℕ → Adding
   byLook g f m d = cond g (cond f (Add j k m d) (Refuse 11)) (Refuse 8)
 
   rights-are : b ≡ shortAddService L t j s l .granted
-  rights-are = eb (asks (t .aid j) s) ask-is ∙ granted-is L t formed j s due due-is l
+  rights-are = eb (asksFor L (decode L img) (t .aid j) s) ask-is ∙ granted-is L t formed j s due due-is l
 
   pub lists-ungranted : not b ≡ true → Refuse 8 ≡ addingAt L (decode L img) s l j k
   lists-ungranted h = ap (λ (g : Bool). byLook g (shortAddService L t j s l .waitingFits) (askMask L t s j) (dueMask L t s j)) (sym (not-true b h) ∙ rights-are)

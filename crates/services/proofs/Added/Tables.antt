@@ -14,7 +14,7 @@ use Rattle.policy.specs.Layout.{Layout}
 use Rattle.policy.specs.Tables.{Tables, Unmet, Waiting, bit}
 use Rattle.policy.specs.Lookup.{Spot, places, numberOf, serviceOf, spotOf}
 use Rattle.policy.specs.Sound.{eqWaiting}
-use Rattle.policy.specs.Draft.{put2, put3, withGrants, hasUnmet, hasWaiting, installedAid, nowGranted, addServiceAt}
+use Rattle.policy.specs.Draft.{put2, put3, withGrants, hasUnmet, hasWaiting, installedAid, nowGranted, addServiceAt, asksFor}
 use Rattle.policy.specs.ShortCheck.{count, shortAddService}
 use Rattle.policy.proofs.Sets.{T-eq, T-false, false-T, and-l, and-r, and-i, not-i, every-in, in-every, exists-in, in-exists, keep-in, in-keep, same-has, found, in-upto, length-snoc, Found}
 use Rattle.policy.proofs.Equal.{eqAid→, eqAid-of, eqAid-refl, eqb-of, eqTok→, eqTok-of, eqTok-refl, eqWaiting→, eqWaiting-refl, has-unmet, unmet-has, has-waiting, waiting-has}
@@ -24,7 +24,7 @@ use Rattle.policy.proofs.Found.{NumberIs, ServiceIs, number-is}
 use Rattle.rows.specs.Area.{keepRows}
 use Rattle.image.specs.Read.{maskOf, numberOr, unmetRow, waitingRow}
 use Rattle.image.proofs.Masks.{keep-mask}
-use Rattle.services.specs.Adding.{asks, ofService, waitsIn, isLone, grantedAt, grantedTo, RoomFor, added, dueTo, byCallers, askMask, dueMask}
+use Rattle.services.specs.Adding.{ofService, waitsIn, isLone, grantedAt, grantedTo, RoomFor, added, dueTo, byCallers, askMask, dueMask}
 use Rattle.changes.specs.Masks.{someListed}
 use Rattle.changes.specs.Joins.{holder, serviceNumber, metAll, settledAll, takenIn, CallOn, DueAt}
 use Rattle.changes.specs.Places.{opened}
@@ -151,10 +151,10 @@ module _ (L : Layout) (t : Tables) (formed : Formed L t) (j : ℕ) (s : Tok) whe
         in-exists (λ w. nowGranted L t j s w && eqb (holder L t (w .caller)) n) (has-waiting (waits (t .aid n)) (t .waiting) h)
         (and-i (nowGranted L t j s (waits (t .aid n))) (eqb (holder L t (t .aid n)) n) (q .0) (eqb-of (q .1))))
 
-    pub granted-is : (l : List Aid) → every (byCallers L t l due (asks (t .aid j) s)) (t .unmet) ≡ shortAddService L t j s l .granted
-    granted-is l = every-ext (byCallers L t l due (asks (t .aid j) s))
-        (λ u. implies (asks (t .aid j) s u) (exists (eqAid (t .aid (u .caller))) l || hasWaiting (waits (t .aid (u .caller))) (t .waiting))) (t .unmet)
-        (λ u m. ap (λ (b : Bool). implies (asks (t .aid j) s u) (exists (eqAid (t .aid (u .caller))) l || b)) (due-to (u .caller) (formed .unmet .off .off-used u m)))
+    pub granted-is : (l : List Aid) → every (byCallers L t l due (asksFor L t (t .aid j) s)) (t .unmet) ≡ shortAddService L t j s l .granted
+    granted-is l = every-ext (byCallers L t l due (asksFor L t (t .aid j) s))
+        (λ u. implies (asksFor L t (t .aid j) s u) (exists (eqAid (t .aid (u .caller))) l || hasWaiting (waits (t .aid (u .caller))) (t .waiting))) (t .unmet)
+        (λ u m. ap (λ (b : Bool). implies (asksFor L t (t .aid j) s u) (exists (eqAid (t .aid (u .caller))) l || b)) (due-to (u .caller) (formed .unmet .off .off-used u m)))
 
   -- ---- cause 11
   lone-is : (granting : ℕ) → granting ≡ maskOf (ofService j s) (t .waiting) → (a : Aid) → isLone L granting t a ≡ lone a
@@ -193,14 +193,14 @@ module _ (L : Layout) (t : Tables) (formed : Formed L t) (j : ℕ) (s : Tok) whe
     number = ap (numberOr (L .services)) service-found
 
     -- an unmet call on the service, by its caller
-    asked-so : (u : Unmet) → T (asks (t .aid j) s u) → (u .callee ≡ t .aid j) × (u .tok ≡ s)
+    asked-so : (u : Unmet) → T (asksFor L t (t .aid j) s u) → (u .callee ≡ t .aid j) × (u .tok ≡ s)
     asked-so u h = (eqAid→ (u .callee) (t .aid j) (and-l (eqAid (u .callee) (t .aid j)) (eqTok (u .tok) s) h), eqTok→ (u .tok) s (and-r (eqAid (u .callee) (t .aid j)) (eqTok (u .tok) s) h))
 
     -- the service of each row of the mask is on the card
     pub rows-met : (r : ℕ) → r < length (t .unmet) → CallOn L asking j (opened j k s t) r
     rows-met r h b =
         let u = unmetRow t r in
-        let e = asked-so u (subst T (named (asks (t .aid j) s) (t .unmet) asking r _ ea h) b) in
+        let e = asked-so u (subst T (named (asksFor L t (t .aid j) s) (t .unmet) asking r _ ea h) b) in
         subst (λ (o : Option ℕ). T (isSome o)) (sym (ap (serviceOf L on j) (e .1) ∙ service-found)) tt
 
     -- each row of the mask stands as a bit
@@ -264,18 +264,18 @@ module _ (L : Layout) (t : Tables) (formed : Formed L t) (j : ℕ) (s : Tok) whe
 
     met-bits : (x y z : ℕ) → metAll L asking j on .calls x y z ≡ t .calls x y z || (eqb y j && eqb z k && hasUnmet (record { callee = t .aid j; tok = s; caller = x }) (t .unmet))
     met-bits x y z =
-        listed-is (asks (t .aid j) s) (λ u. u .caller) (λ u. j) (λ u. serviceNumber L on j (u .tok)) asking (t .unmet) ea (t .calls) x y z
-        ∙ ap (λ (b : Bool). t .calls x y z || b) (T-eq (exists (λ u. asks (t .aid j) s u && callAt x y z u) (t .unmet)) (eqb y j && eqb z k && hasUnmet call (t .unmet)) there back)
+        listed-is (asksFor L t (t .aid j) s) (λ u. u .caller) (λ u. j) (λ u. serviceNumber L on j (u .tok)) asking (t .unmet) ea (t .calls) x y z
+        ∙ ap (λ (b : Bool). t .calls x y z || b) (T-eq (exists (λ u. asksFor L t (t .aid j) s u && callAt x y z u) (t .unmet)) (eqb y j && eqb z k && hasUnmet call (t .unmet)) there back)
       where
         call : Unmet
         call = record { callee = t .aid j; tok = s; caller = x }
 
-        there : T (exists (λ u. asks (t .aid j) s u && callAt x y z u) (t .unmet)) → T (eqb y j && eqb z k && hasUnmet call (t .unmet))
+        there : T (exists (λ u. asksFor L t (t .aid j) s u && callAt x y z u) (t .unmet)) → T (eqb y j && eqb z k && hasUnmet call (t .unmet))
         there h =
-            let q = exists-in (λ u. asks (t .aid j) s u && callAt x y z u) (t .unmet) h in
+            let q = exists-in (λ u. asksFor L t (t .aid j) s u && callAt x y z u) (t .unmet) h in
             let u = q .0 in
-            let o = asked-so u (and-l (asks (t .aid j) s u) (callAt x y z u) (q .2)) in
-            let p = and-r (asks (t .aid j) s u) (callAt x y z u) (q .2) in
+            let o = asked-so u (and-l (asksFor L t (t .aid j) s u) (callAt x y z u) (q .2)) in
+            let p = and-r (asksFor L t (t .aid j) s u) (callAt x y z u) (q .2) in
             let xy = and-l (eqb x (u .caller) && eqb y j) (eqb z (serviceNumber L on j (u .tok))) p in
             let ex = eqb→eq x (u .caller) (and-l (eqb x (u .caller)) (eqb y j) xy) in
             let ez = eqb→eq z (serviceNumber L on j (u .tok)) (and-r (eqb x (u .caller) && eqb y j) (eqb z (serviceNumber L on j (u .tok))) p) in
@@ -283,11 +283,11 @@ module _ (L : Layout) (t : Tables) (formed : Formed L t) (j : ℕ) (s : Tok) whe
             (and-i (eqb y j) (eqb z k) (and-r (eqb x (u .caller)) (eqb y j) xy) (eqb-of (ez ∙ ap (serviceNumber L on j) (o .1) ∙ number)))
             (unmet-has (in-cast (λ i. record { callee = sym (o .0) i; tok = sym (o .1) i; caller = ex i }) (q .1)))
 
-        back : T (eqb y j && eqb z k && hasUnmet call (t .unmet)) → T (exists (λ u. asks (t .aid j) s u && callAt x y z u) (t .unmet))
+        back : T (eqb y j && eqb z k && hasUnmet call (t .unmet)) → T (exists (λ u. asksFor L t (t .aid j) s u && callAt x y z u) (t .unmet))
         back h =
             let yz = and-l (eqb y j && eqb z k) (hasUnmet call (t .unmet)) h in
-            in-exists (λ u. asks (t .aid j) s u && callAt x y z u) (has-unmet call (t .unmet) (and-r (eqb y j && eqb z k) (hasUnmet call (t .unmet)) h))
-            (and-i (asks (t .aid j) s call) (callAt x y z call) (and-i (eqAid (t .aid j) (t .aid j)) (eqTok s s) (eqAid-refl (t .aid j)) (eqTok-refl s))
+            in-exists (λ u. asksFor L t (t .aid j) s u && callAt x y z u) (has-unmet call (t .unmet) (and-r (eqb y j && eqb z k) (hasUnmet call (t .unmet)) h))
+            (and-i (asksFor L t (t .aid j) s call) (callAt x y z call) (and-i (eqAid (t .aid j) (t .aid j)) (eqTok s s) (eqAid-refl (t .aid j)) (eqTok-refl s))
             (and-i (eqb x x && eqb y j) (eqb z (serviceNumber L on j s)) (and-i (eqb x x) (eqb y j) (eqb-refl x) (and-l (eqb y j) (eqb z k) yz))
             (eqb-of (eqb→eq z k (and-r (eqb y j) (eqb z k) yz) ∙ sym number))))
 
@@ -298,8 +298,8 @@ module _ (L : Layout) (t : Tables) (formed : Formed L t) (j : ℕ) (s : Tok) whe
     stay-is : keepRows due (t .waiting) ≡ keep stay (t .waiting)
     stay-is = ap (λ (m : ℕ). keepRows m (t .waiting)) ed ∙ keep-mask (nowGranted L t j s) (t .waiting)
 
-    asked-is : keepRows asking (t .unmet) ≡ keep (λ u. not (asks (t .aid j) s u)) (t .unmet)
-    asked-is = ap (λ (m : ℕ). keepRows m (t .unmet)) ea ∙ keep-mask (asks (t .aid j) s) (t .unmet)
+    asked-is : keepRows asking (t .unmet) ≡ keep (λ u. not (asksFor L t (t .aid j) s u)) (t .unmet)
+    asked-is = ap (λ (m : ℕ). keepRows m (t .unmet)) ea ∙ keep-mask (asksFor L t (t .aid j) s) (t .unmet)
 
     -- a caller that is not installed waits among them exactly if it did
     still-waits : (a : Aid) → not (installedAid L t a || hasWaiting (waits a) (keep stay (t .waiting))) ≡ lone a

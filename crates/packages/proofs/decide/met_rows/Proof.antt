@@ -10,17 +10,18 @@ use Rattle.geometry.specs.Geometry.{layoutOf}
 use Rattle.image.specs.Read.{maskOf}
 use Rattle.geometry.specs.declared.Kept.the-variants.{UnmetCalls}
 use Rattle.image.proofs.Listed.{masks, list-low}
-use Rattle.record.specs.Meaning.{itemsIn}
-use Rattle.packages.specs.Loads.{meets}
+use Rattle.record.specs.Meaning.{itemsIn, contractIn}
+use Rattle.packages.specs.Loads.{}
 use Rattle.packages.proofs.decide.met_rows.Statement.{statement}
 use Rattle.packages.proofs.decide.met_rows.Tie as tie
+use Rattle.policy.specs.ShortCheck.{nowMet}
 
 abbrev Inv-loop : tie.InvT-loop
-Inv-loop img c aid rec provides r₀ mask₀ r mask =
-    (r ≤ length (decode (layoutOf c) img .unmet)) × (mask ≡ maskOf (meets aid (itemsIn tokens rec provides)) (drop r (decode (layoutOf c) img .unmet)))
+Inv-loop img c aid rec l r₀ mask₀ r mask =
+    (r ≤ length (decode (layoutOf c) img .unmet)) × (mask ≡ maskOf (nowMet (layoutOf c) (decode (layoutOf c) img) (contractIn rec aid l)) (drop r (decode (layoutOf c) img .unmet)))
 
 abbrev μ-loop : tie.MeasureT-loop
-μ-loop img c aid rec provides r₀ mask₀ r mask = r
+μ-loop img c aid rec l r₀ mask₀ r mask = r
 
 count-requires : tie.Need-count-requires Inv-loop μ-loop
 count-requires c κs = search masks

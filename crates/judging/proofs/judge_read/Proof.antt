@@ -1,8 +1,8 @@
--- `judging::settle` meets its contract, kind by kind. Assumes nothing.
+-- `judging::judge_read` meets its contract, kind by kind. Assumes nothing.
 use borrow.Author.Needs.{needs}
 use Rattle.judging.proofs.Judged.{asked-always, settles-always, remove-proper, service-proper}
-use Rattle.judging.proofs.settle.Statement.{statement}
-use Rattle.judging.proofs.settle.Tie as tie
+use Rattle.judging.proofs.judge_read.Statement.{statement}
+use Rattle.judging.proofs.judge_read.Tie as tie
 
 load-requires : tie.Need-load-requires
 load-requires c κs =
@@ -53,8 +53,8 @@ returns-4 c =
 returns-5 : tie.Need-returns-5
 returns-5 c = let k = c .before .before .before .before .before in rw (k .kind4 .given .1) (rw (k .before .before .aid-bytes .ensures) at (c .before .before .change .ensures))
 
-pub settle-spec : {M : Type 1} → statement M
-settle-spec =
+pub judge-read-spec : {M : Type 1} → statement M
+judge-read-spec =
     tie.close
     (tie.spec
     (λ c κs. search needs)
