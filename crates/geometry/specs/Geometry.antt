@@ -1,8 +1,10 @@
 -- The layout of each card, and where the places of its image stand.
 use Prim.Native.Nat.{ℕ, _+_, _*_}
+use mathlib.Core.List.{List}
 use Rattle.policy.specs.Contract.{Tok}
 use Rattle.policy.specs.Layout.{Layout, small, aidSize, unmetSize, waitingSize}
 use Rattle.policy.specs.Layout.{aidsAt, tokensAt, providesAt, callsAt, grantsAt, needsAt, unmetAt, waitingAt}
+use Rattle.policy.specs.Tables.{Tables, decode}
 use Rattle.geometry.specs.declared.Card.{Card}
 use Rattle.geometry.specs.declared.Card.the-variants.{Small}
 use Rattle.geometry.specs.declared.Table.{Table}
@@ -13,6 +15,10 @@ use Rattle.geometry.specs.declared.Tokens.{Tokens}
 
 abbrev pub layoutOf : Card → Layout
 layoutOf Small = small
+
+-- the tables of an image of the card
+abbrev pub tablesOf : Card → List ℕ → Tables
+tablesOf c img = decode (layoutOf c) img
 
 module _ (L : Layout) where
   -- package n's AID

@@ -9,8 +9,6 @@ use Rattle.policy.specs.Layout.{Layout}
 use Rattle.policy.specs.Tables.{Tables, Unmet, Waiting, decode, encode}
 use Rattle.policy.specs.Draft.{put, put2, withCalls, withGrants, withNeeds}
 use Rattle.policy.specs.Room.{Room}
-use Rattle.geometry.specs.Geometry.{layoutOf}
-use Rattle.geometry.specs.declared.Card.{Card}
 use Rattle.geometry.specs.declared.Table.{Table}
 use Rattle.geometry.specs.declared.Table.the-variants.{Calls, Grants, Needs}
 use Rattle.geometry.specs.declared.Kept.{Kept}
@@ -22,10 +20,6 @@ abbrev pub tableOf : Table → Tables → ℕ → ℕ → ℕ → Bool
 tableOf Calls t = t .calls
 tableOf Grants t = t .grants
 tableOf Needs t = t .needs
-
--- the tables of an image of the card c
-abbrev pub tablesOf : Card → List ℕ → Tables
-tablesOf c img = decode (layoutOf c) img
 
 -- the image is what its tables say
 pub record Laid (L : Layout) (img : List ℕ) : Type 0 where

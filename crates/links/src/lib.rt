@@ -1,7 +1,7 @@
 // Kinds 5 to 10: one call, grant or need of a package. A plan first, then the writes.
 ghost use Rattle.policy.specs.Settled.{settled, Gives};
-ghost use Rattle.geometry.specs.Geometry.{layoutOf};
-ghost use Rattle.image.specs.Laid.{Laid, tablesOf};
+ghost use Rattle.geometry.specs.Geometry.{layoutOf, tablesOf};
+ghost use Rattle.image.specs.Laid.{Laid};
 ghost use Rattle.image.specs.Wrote.{Wrote};
 ghost use Rattle.image.specs.Read.{asked};
 ghost use Rattle.record.specs.Meaning.{changeOf};

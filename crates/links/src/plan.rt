@@ -1,7 +1,7 @@
 // What a record of kinds 5 to 10 comes to: found on the image, and not written yet.
 ghost use mathlib.Core.Path.{_≡_};
-ghost use Rattle.geometry.specs.Geometry.{layoutOf};
-ghost use Rattle.image.specs.Laid.{Laid, tablesOf};
+ghost use Rattle.geometry.specs.Geometry.{layoutOf, tablesOf};
+ghost use Rattle.image.specs.Laid.{Laid};
 ghost use Rattle.image.specs.Read.{asked};
 ghost use Rattle.links.specs.Plans.{rowMask, addRow, dropRow, callPlan, grantPlan, planOf};
 ghost use Rattle.links.specs.Plans.{addCallPlan, removeCallPlan, addGrantPlan, removeGrantPlan, addNeedPlan, removeNeedPlan};

@@ -1,7 +1,7 @@
 // Where the row of a record of kinds 5 to 10 stands.
 ghost use mathlib.Core.Path.{_≡_};
-ghost use Rattle.geometry.specs.Geometry.{layoutOf};
-ghost use Rattle.image.specs.Laid.{Laid, tableOf, tablesOf};
+ghost use Rattle.geometry.specs.Geometry.{layoutOf, tablesOf};
+ghost use Rattle.image.specs.Laid.{Laid, tableOf};
 ghost use Rattle.image.specs.Read.{asked};
 ghost use Rattle.links.specs.Plans.{CallFound, GrantFound, BitAt};
 use geometry::Card;

@@ -1,20 +1,21 @@
 -- Kind 2: what a package leaves in the two lists, number by number, as the code writes it.
 use Prim.Native.Nat.{ℕ, _+_, _≤_}
-use mathlib.Core.Bool.{false, not, _&&_, _||_, cond}
+use mathlib.Core.Bool.{false, not}
 use mathlib.Core.List.{List, [], _++_}
 use lib.Dec.{eqb}
 use Rattle.policy.specs.Lists.{keep, flat, upto}
 use Rattle.policy.specs.Contract.{Aid}
 use Rattle.policy.specs.Layout.{Layout}
-use Rattle.policy.specs.Tables.{Tables, noTok}
+use Rattle.policy.specs.Tables.{Tables}
 use Rattle.policy.specs.Draft.{put}
 use Rattle.policy.specs.ShortCheck.{count, ones}
 use Rattle.geometry.specs.declared.Table.{Table}
-use Rattle.geometry.specs.declared.Table.the-variants.{Calls, Grants}
+use Rattle.geometry.specs.declared.Table.the-variants.{Calls, Grants, Needs}
 use Rattle.geometry.specs.declared.Kept.{Kept}
 use Rattle.geometry.specs.declared.Kept.the-variants.{UnmetCalls, WaitingGrants}
 use Rattle.image.specs.Read.{Item, itemsOf, itemNumber}
-use Rattle.image.specs.Laid.{tableOf, withItems}
+use Rattle.image.specs.Laid.{tableOf, withUsed, withAid, withTable, withItems}
+use Rattle.image.specs.Wrote.{withoutPackage, withoutServices}
 use Rattle.changes.specs.Left.{leftRow, byList}
 
 module _ (L : Layout) (l : Kept) (t : Tables) (tb : Table) where
@@ -38,16 +39,15 @@ module _ (L : Layout) (t : Tables) where
   abbrev pub listsWithout : Aid → ℕ → Tables
   listsWithout a n = listWithout L WaitingGrants (listWithout L UnmetCalls t Calls a n) Grants a n
 
--- the places of package n cleared
+-- ---- the places of package n cleared: its rows and columns, its number, and all of them
+abbrev pub crossed : Table → ℕ → Tables → Tables
+crossed tb n t = withTable tb (withoutPackage n (tableOf tb t)) t
+
+abbrev pub bitsWithout : ℕ → Tables → Tables
+bitsWithout n t = crossed Needs n (crossed Grants n (crossed Calls n t))
+
+abbrev pub numberWithout : ℕ → Tables → Tables
+numberWithout n t = withUsed (put n false (t .used)) t
+
 abbrev pub tablesWithout : ℕ → Tables → Tables
-tablesWithout n t = record {
-  used = put n false (t .used);
-  aid = put n [] (t .aid);
-  tok = λ x y. cond (eqb x n) noTok (t .tok x y);
-  provides = λ x y. t .provides x y && not (eqb x n);
-  calls = λ x y z. t .calls x y z && not (eqb x n || eqb y n);
-  grants = λ x y z. t .grants x y z && not (eqb x n || eqb y n);
-  needs = λ x y z. t .needs x y z && not (eqb x n || eqb y n);
-  unmet = t .unmet;
-  waiting = t .waiting;
-}
+tablesWithout n t = numberWithout n (withAid n [] (withoutServices n (bitsWithout n t)))

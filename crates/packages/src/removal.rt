@@ -7,12 +7,13 @@ ghost use Rattle.policy.specs.Causes.{answer};
 ghost use Rattle.policy.specs.ShortCheck.{count, ones, shortRemove};
 ghost use Rattle.policy.specs.Judge.{lookCauses};
 ghost use Rattle.policy.specs.Settled.{settled, Gives};
-ghost use Rattle.geometry.specs.Geometry.{layoutOf};
-ghost use Rattle.image.specs.Laid.{Laid, tableOf, tablesOf};
+ghost use Rattle.geometry.specs.Geometry.{layoutOf, tablesOf};
+ghost use Rattle.image.specs.Laid.{Laid, tableOf};
 ghost use Rattle.image.specs.Wrote.{Wrote};
 ghost use Rattle.changes.specs.Asked.{Asked};
 ghost use Rattle.changes.specs.Left.{behind, RoomBehind};
 ghost use Rattle.packages.specs.Removal.{leftRows, rowsWithout, listWithout, RoomWithout, listsWithout, tablesWithout};
+ghost use Rattle.packages.specs.Removal.{bitsWithout, numberWithout};
 use changes::Verdict;
 use geometry::Card;
 use geometry::Kept;
@@ -108,20 +109,38 @@ fn leave_lists(img: &mut [u8], c: Card, aid: &[u8], n: usize)
     leave_list(img, c, Kept::WaitingGrants, Table::Grants, aid, n);
 }
 
+// Row n and column n of the three tables clear.
+fn clear_bits(img: &mut [u8], c: Card, n: usize)
+    requires laid { ⌜ Laid (layoutOf c) (now img) ⌝ }
+    requires inside { ⌜ n < layoutOf c .packages ⌝ }
+    ensures { λ _. ⌜ Wrote (layoutOf c) (now (img .exit)) (bitsWithout n (tablesOf c (now (img .entry)))) ⌝ }
+{
+    image::write::clear_cross(img, c, Table::Calls, n);
+    image::write::clear_cross(img, c, Table::Grants, n);
+    image::write::clear_cross(img, c, Table::Needs, n);
+}
+
+// Package number n is unused.
+fn free_number(img: &mut [u8], c: Card, n: usize)
+    requires laid { ⌜ Laid (layoutOf c) (now img) ⌝ }
+    requires inside { ⌜ n < layoutOf c .packages ⌝ }
+    ensures { λ _. ⌜ Wrote (layoutOf c) (now (img .exit)) (numberWithout n (tablesOf c (now (img .entry)))) ⌝ }
+{
+    let row = image::read::used_row(img, c);
+    let rest = bits::without_bit(row, n);
+    image::write::set_used(img, c, rest);
+}
+
 // The places of package n cleared.
 fn clear_package(img: &mut [u8], c: Card, n: usize)
     requires laid { ⌜ Laid (layoutOf c) (now img) ⌝ }
     requires inside { ⌜ n < layoutOf c .packages ⌝ }
     ensures { λ _. ⌜ Wrote (layoutOf c) (now (img .exit)) (tablesWithout n (tablesOf c (now (img .entry)))) ⌝ }
 {
-    image::write::clear_cross(img, c, Table::Calls, n);
-    image::write::clear_cross(img, c, Table::Grants, n);
-    image::write::clear_cross(img, c, Table::Needs, n);
+    clear_bits(img, c, n);
     image::write::clear_services(img, c, n);
     image::write::clear_aid(img, c, n);
-    let row = image::read::used_row(img, c);
-    let rest = bits::without_bit(row, n);
-    image::write::set_used(img, c, rest);
+    free_number(img, c, n);
 }
 
 // Kind 2: the package with this AID goes.

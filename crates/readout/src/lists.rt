@@ -2,8 +2,8 @@
 ghost use Prim.Native.Nat.{_<_};
 ghost use lib.ListN.{length};
 ghost use Rattle.policy.specs.Lists.{flat, upto};
-ghost use Rattle.geometry.specs.Geometry.{layoutOf};
-ghost use Rattle.image.specs.Laid.{Laid, tablesOf};
+ghost use Rattle.geometry.specs.Geometry.{layoutOf, tablesOf};
+ghost use Rattle.image.specs.Laid.{Laid};
 ghost use Rattle.image.specs.Read.{itemsOf};
 ghost use Rattle.readout.specs.Parts.{Put, Short, itemBytes, listBytes, tokBytes};
 use geometry::Card;

@@ -2,8 +2,8 @@
 ghost use mathlib.Core.Path.{_≡_};
 ghost use Prim.Native.Nat.{_<_};
 ghost use lib.ListN.{length};
-ghost use Rattle.geometry.specs.Geometry.{layoutOf};
-ghost use Rattle.image.specs.Laid.{Laid, tablesOf};
+ghost use Rattle.geometry.specs.Geometry.{layoutOf, tablesOf};
+ghost use Rattle.image.specs.Laid.{Laid};
 ghost use Rattle.readout.specs.Parts.{Put, Short, server, bitBytes, columnBytes, tableBytes, tableRows};
 use geometry::Card;
 use geometry::Table;

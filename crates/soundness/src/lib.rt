@@ -6,10 +6,9 @@ ghost use Rattle.policy.specs.Lists.{eqBytes};
 ghost use Rattle.policy.specs.Layout.{narrow, size as sizeOf};
 ghost use Rattle.policy.specs.Lookup.{usedNumbers};
 ghost use Rattle.policy.specs.Sound.{sound};
-ghost use Rattle.geometry.specs.Geometry.{layoutOf};
+ghost use Rattle.geometry.specs.Geometry.{layoutOf, tablesOf};
 ghost use Rattle.geometry.specs.declared.Kept.the-variants.{WaitingGrants};
 ghost use Rattle.soundness.specs.Check.{listEnd, checkBy, sizedOk};
-ghost use Rattle.image.specs.Laid.{tablesOf};
 use geometry::Card;
 use geometry::Kept;
 
