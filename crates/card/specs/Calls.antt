@@ -1,6 +1,5 @@
--- What a call of each exported function returns and leaves: the functions' contracts, and what the demands speak of. `small` has the
--- rules in
--- force, R-2's.
+-- What a call of each exported function returns and leaves: the functions' contracts, and what the demands speak of.
+-- `small` has the rules in force, R-2's.
 use Prim.Native.Nat.{ℕ}
 use mathlib.Core.Path.{_≡_}
 use mathlib.Core.List.{List, [], _∷_}

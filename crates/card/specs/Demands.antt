@@ -54,8 +54,8 @@ pub record CallsAnswer : Type 0 where
 -- ---- demand 2: 'The lowest number that applies is given, and a number is given only for its cause.'
 pub record CallsCause : Type 0 where
   pub checking : (image : List ℕ) (r : ℕ) → Checked image r → IsFirst (answerOf r) (1 when not (sound small image) ∷ [])
-  pub emptying : (lent : List ℕ) (r : ℕ) (left : List ℕ) → Emptied lent r left → IsFirst (answerOf r)
-      (1 when not (eqb (length lent) 1110) ∷ [])
+  pub emptying : (lent : List ℕ) (r : ℕ) (left : List ℕ) → Emptied lent r left
+      → IsFirst (answerOf r) (1 when not (eqb (length lent) 1110) ∷ [])
   pub converting : (old lent : List ℕ) (r : ℕ) (left : List ℕ) → Converted old lent r left
       → IsFirst (answerOf r) (1 when not (sound narrow old && eqb (length lent) 1110) ∷ [])
   pub reading : (image : List ℕ) (number : ℕ) (lent : List ℕ) (r : ℕ) (left : List ℕ) → ReadInto image number lent r left
@@ -71,8 +71,8 @@ pub record VerdictOfCall (image rec : List ℕ) (r : ℕ) : Type 0 where
   pub unsound : (T (sound small image) → ⊥) → answerOf r ≡ 1
   pub first-cause : (cs : List Contract) → StandsFor small image cs → IsFirst (answerOf r) (allCauses small cs rec)
   -- 'a well-formed record free of causes 3 to 6 is accepted exactly when the contracts it would leave installed' are lawful and fit
-  pub accepted-exactly : (cs : List Contract) (q : Request) → StandsFor small image cs → parse small rec ≡ some q → T
-      (proper small (q .aid) (q .change))
+  pub accepted-exactly : (cs : List Contract) (q : Request) → StandsFor small image cs → parse small rec ≡ some q
+      → T (proper small (q .aid) (q .change))
       → ((k : Cause) → In k (causes4to7 small cs (q .aid) (q .change)) → k .number < 7 → T (k .applies) → ⊥)
       → (answerOf r ≡ 0) ↔ (T (lawful (effect small cs (q .aid) (q .change))) × FitsLimits small (effect small cs (q .aid) (q .change)))
   -- every sound image stands for some contracts
@@ -92,8 +92,8 @@ pub record Restores (c : Contract) (rec : List ℕ) : Type 0 where
 -- the bytes that an accepted call wrote are the contract of its package number
 abbrev pub CallsReadOut : Type 0
 CallsReadOut = (image : List ℕ) (number : ℕ) (lent : List ℕ) (r : ℕ) (left : List ℕ) → ReadInto image number lent r left → answerOf r ≡ 0
-    → T (sound small image) × T (decode small image .used number) × Restores (contractAt small (decode small image) number)
-    (take (secondOf r) left)
+    → T (sound small image) × T (decode small image .used number)
+    × Restores (contractAt small (decode small image) number) (take (secondOf r) left)
 
 -- ---- the second number of an acceptance, 'returned with it', and where things go
 pub record NumberOfCall (image rec : List ℕ) (r : ℕ) (left : List ℕ) (q : Request) : Type 0 where
@@ -101,10 +101,10 @@ pub record NumberOfCall (image rec : List ℕ) (r : ℕ) (left : List ℕ) (q : 
   pub placed : Placed (decode small image) (decode small left) (secondOf r) (q .change)
 
 pub record CallsNumber : Type 0 where
-  pub checking : (image : List ℕ) (r : ℕ) (cs : List Contract) → Checked image r → StandsFor small image cs → (answerOf r ≡ 0) ×
-      (secondOf r ≡ length cs)
-  pub judging : (image rec : List ℕ) (r : ℕ) (left : List ℕ) (q : Request) → Judged image rec r left → answerOf r ≡ 0 → parse small rec ≡
-      some q → NumberOfCall image rec r left q
+  pub checking : (image : List ℕ) (r : ℕ) (cs : List Contract) → Checked image r → StandsFor small image cs
+      → (answerOf r ≡ 0) × (secondOf r ≡ length cs)
+  pub judging : (image rec : List ℕ) (r : ℕ) (left : List ℕ) (q : Request) → Judged image rec r left → answerOf r ≡ 0
+      → parse small rec ≡ some q → NumberOfCall image rec r left q
   pub reading : (image : List ℕ) (number : ℕ) (lent : List ℕ) (r : ℕ) (left : List ℕ) → ReadInto image number lent r left → answerOf r ≡ 0
       → secondOf r ≤ 4145
 
@@ -121,8 +121,8 @@ pub record AllRefused (image rs left : List ℕ) : Type 0 where
   pub each : (r : ℕ) → In r rs → (answerOf r ≡ 1) × (secondOf r ≡ 255)
   pub left-is : left ≡ image
 
--- a card of version 01: records by document 01's rules, R-7's change, records by R-7's; its image, and the contracts that the machine
--- then holds
+-- a card of version 01: records by document 01's rules, R-7's change, records by R-7's; its image, and the contracts
+-- that the machine then holds
 abbrev pub imageOld : List (List ℕ) → List (List ℕ) → List ℕ
 imageOld before middle = imageAfter narrow (imageThen before) middle
 
@@ -134,31 +134,31 @@ pub record CallsHistory : Type 0 where
   pub from-empty : (lent : List ℕ) (r : ℕ) (image : List ℕ) → Emptied lent r image → answerOf r ≡ 0
       → (ss : List (List ℕ)) (rs left : List ℕ) → Calls image ss rs left → HistoryOfCalls [] ss rs left
   -- from a call that converted a card of version 01
-  pub over-conversion : (before middle : List (List ℕ)) (lent : List ℕ) (r : ℕ) (image : List ℕ) → Converted (imageOld before middle) lent
-      r image → answerOf r ≡ 0
+  pub over-conversion : (before middle : List (List ℕ)) (lent : List ℕ) (r : ℕ) (image : List ℕ)
+      → Converted (imageOld before middle) lent r image → answerOf r ≡ 0
       → (ss : List (List ℕ)) (rs left : List ℕ) → Calls image ss rs left → HistoryOfCalls (contractsOld before middle) ss rs left
   -- a buffer of the card's size takes every such card but those that R-7 left out, which held a method token of 128 or more at its change
-  pub told : (before middle : List (List ℕ)) (lent : List ℕ) (r : ℕ) (left : List ℕ) → Converted (imageOld before middle) lent r left →
-      length lent ≡ 1110
+  pub told : (before middle : List (List ℕ)) (lent : List ℕ) (r : ℕ) (left : List ℕ) → Converted (imageOld before middle) lent r left
+      → length lent ≡ 1110
       → (answerOf r ≡ 0) ↔ AllValid narrow (contractsThen before)
 
--- ---- R-2: 'numbers and list order kept': the tables stay, and so do the contracts that they stand for; 'the engine gives 1 for' version
--- 01
+-- ---- R-2: 'numbers and list order kept': the tables stay, and so do the contracts that they stand for;
+-- 'the engine gives 1 for' version 01
 pub record CallsConvert : Type 0 where
   pub kept : (old lent : List ℕ) (r : ℕ) (image : List ℕ) → Converted old lent r image → answerOf r ≡ 0
-      → T (sound narrow old) × (decode small image ≡ decode narrow old) ×
-      ((cs : List Contract) → StandsFor narrow old cs → StandsFor small image cs)
+      → T (sound narrow old) × (decode small image ≡ decode narrow old)
+      × ((cs : List Contract) → StandsFor narrow old cs → StandsFor small image cs)
   pub checking : (old : List ℕ) (r : ℕ) → T (sound narrow old) → Checked old r → Refused (1 ∷ []) 255 old r old
-  pub reading : (old : List ℕ) (number : ℕ) (lent : List ℕ) (r : ℕ) (left : List ℕ) → T (sound narrow old) → ReadInto old number lent r
-      left → Refused (1 ∷ []) 0 lent r left
-  pub judging : (old : List ℕ) (ss : List (List ℕ)) (rs left : List ℕ) → T (sound narrow old) → Calls old ss rs left → AllRefused old rs
-      left
+  pub reading : (old : List ℕ) (number : ℕ) (lent : List ℕ) (r : ℕ) (left : List ℕ) → T (sound narrow old)
+      → ReadInto old number lent r left → Refused (1 ∷ []) 0 lent r left
+  pub judging : (old : List ℕ) (ss : List (List ℕ)) (rs left : List ℕ) → T (sound narrow old) → Calls old ss rs left
+      → AllRefused old rs left
 
 -- ---- the first AID: 0 for a malformed record, else 5 and the length of the AID, which stands there
 pub record AidTold (rec : List ℕ) (r : ℕ) : Type 0 where
   pub malformed : parse small rec ≡ none → r ≡ 0
-  pub whole : (q : Request) → parse small rec ≡ some q → (answerOf r ≡ 5) × (secondOf r ≡ length (q .aid)) ×
-      (q .aid ≡ take (secondOf r) (drop (answerOf r) rec))
+  pub whole : (q : Request) → parse small rec ≡ some q → (answerOf r ≡ 5) × (secondOf r ≡ length (q .aid))
+      × (q .aid ≡ take (secondOf r) (drop (answerOf r) rec))
 
 abbrev pub CallsAid : Type 0
 CallsAid = (rec : List ℕ) (r : ℕ) → AidFound rec r → AidTold rec r

@@ -24,8 +24,8 @@ use geometry::Table;
 fn column(img: &[u8], c: Card, tb: Table, n: usize) -> usize
     requires laid { ⌜ Laid (layoutOf c) (now img) ⌝ }
     requires inside { ⌜ n < layoutOf c .packages ⌝ }
-    ensures { λ r. ⌜ (r ≡ ones (layoutOf c) (tablesOf c (now (img .entry))) (λ i k. tableOf tb (tablesOf c (now (img .entry))) i n k)) ×
-        (r ≤ 256) ⌝ }
+    ensures { λ r. ⌜ (r ≡ ones (layoutOf c) (tablesOf c (now (img .entry))) (λ i k. tableOf tb (tablesOf c (now (img .entry))) i n k))
+        × (r ≤ 256) ⌝ }
 {
     let size = geometry::packages(c);
     let mut total: usize = 0;

@@ -76,8 +76,8 @@ fn measure(img: &[u8], c: Card, n: usize) -> usize
 fn write_record(img: &[u8], c: Card, n: usize, len: usize, out: &mut [u8])
     requires laid { ⌜ Laid (layoutOf c) (now img) ⌝ }
     requires inside { ⌜ n < layoutOf c .packages ⌝ }
-    requires room { ⌜ (len ≡ length (loadRecord (layoutOf c) (contractAt (layoutOf c) (tablesOf c (now img)) n))) ×
-        (len ≤ length (now out)) ⌝ }
+    requires room { ⌜ (len ≡ length (loadRecord (layoutOf c) (contractAt (layoutOf c) (tablesOf c (now img)) n)))
+        × (len ≤ length (now out)) ⌝ }
     ensures { λ _. ⌜ now (out .exit) ≡ loadRecord (layoutOf c) (contractAt (layoutOf c) (tablesOf c (now (img .entry))) n) ++ drop len
         (now (out .entry)) ⌝ }
 {
