@@ -10,7 +10,6 @@ use borrow.Author.Needs.{needs}
 use Rattle.policy.specs.Lists.{every, exists, keep, first, from, upto, orElse}
 use borrow.Author.Tests.{not-true, not-false}
 use Rattle.policy.proofs.Sets.{T-true, T-false, true-T, false-T, every-in, in-every, exists-in, in-exists, keep-ext, from-in, upto-in, in-upto}
-use lib.Dec.{T}
 use lib.ListN.{length, getD, drop, drop-of-length-le}
 use lib.Seq.{drop-cons}
 use native.Mathlib.Numerals.{add-one}

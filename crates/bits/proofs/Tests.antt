@@ -3,7 +3,6 @@ use Prim.Native.Nat.{_≤_}
 use native.Mathlib.Omega.{arith}
 use mathlib.Core.Path.{_≡_, refl, sym, ap, _∙_}
 use mathlib.Core.Bool.{Bool, true, false, not, _&&_, _||_, and-false, and-true, cond}
-use lib.Dec.{T}
 use Rattle.policy.specs.Lists.{implies}
 use Rattle.policy.proofs.Sets.{false-T}
 use mir.Val.{boolByte}

@@ -3,9 +3,9 @@ use Prim.Native.Nat.{ℕ, _+_, _≤_, _<_, suc, suc-le-suc}
 use native.Mathlib.Omega.{arith}
 use native.Mathlib.Nat.{add-zero, add-suc, suc-add, zero-add}
 use mathlib.Core.Path.{_≡_, refl, sym, ap, _∙_, ap₂}
-use mathlib.Core.Bool.{Bool, true, false, not, _&&_, _||_, cond, or-false}
+use mathlib.Core.Bool.{Bool, true, false, _&&_, _||_, cond, or-false}
 use mathlib.Core.List.{List, [], _∷_, _++_}
-use lib.Dec.{T, eqb}
+use lib.Dec.{eqb}
 use lib.ListN.{length, getD, drop, drop-of-length-le}
 use lib.Seq.{drop-cons}
 use native.Mathlib.Numerals.{add-one}
@@ -13,6 +13,7 @@ use Rattle.policy.specs.Lists.{exists}
 use Rattle.policy.specs.Tables.{bit}
 use Rattle.policy.specs.Draft.{put3}
 use Rattle.policy.proofs.Sets.{false-T}
+use Rattle.policy.proofs.Bits.{bit-none}
 use Rattle.image.specs.Read.{maskOf}
 use Rattle.image.proofs.Masks.{mask-bit, mask-lt}
 use Rattle.bits.proofs.Row.{bit-past}
@@ -89,6 +90,10 @@ module _ {A : Type 0} (g : A → Bool) (mask : ℕ) where
   past-from : (r : ℕ) (m : List A) → ((n : ℕ) → r ≤ n → bit mask n ≡ false) → someListed g mask r m ≡ false
   past-from r [] h = refl
   past-from r (x ∷ m) h = ap₂ (λ (b e : Bool). b && g x || e) (h r (omega arith)) (past-from (suc r) m (λ n p. h n (omega arith)))
+
+  -- a mask that names none
+  pub some-none : (l : List A) → mask ≡ 0 → false ≡ someListed g mask 0 l
+  some-none l e = sym (past-from 0 l (λ n _. ap (λ (m : ℕ). bit m n) e ∙ bit-none n))
 
   some-past : (r : ℕ) (l m : List A) → ((n : ℕ) → r + length l ≤ n → bit mask n ≡ false) → someListed g mask r (l ++ m) ≡ someListed g mask r l
   some-past r [] m h = past-from r m (λ n p. h n (omega arith))

@@ -27,7 +27,6 @@ use Rattle.changes.specs.Asked.{Asked}
 use Rattle.policy.specs.Lists.{orElse}
 use Rattle.policy.specs.Draft.{Draft, Look, draft, numberFor}
 use Rattle.policy.proofs.Settled.{settled-refused, settled-short, settled-accepted}
-use Rattle.policy.specs.Sound.{sound}
 
 module _ (L : Layout) {t : Tables} {img : List ℕ} (w : Wrote L img t) where
   -- the bytes of an acceptance of package number n

@@ -3,17 +3,17 @@ use Prim.Native.Nat.{ℕ, _+_, _-_, _*_, _≤_, _<_}
 use native.Mathlib.Omega.{arith}
 use native.Mathlib.Nat.{add-assoc}
 use mathlib.Core.Path.{_≡_, sym, ap, ap₂, _∙_}
-use mathlib.Core.Bool.{Bool, true, false, not, _&&_, and-false, and-true}
+use mathlib.Core.Bool.{Bool, false, _&&_}
 use mathlib.Core.List.{List, []}
 use lib.Dec.{eqb}
 use lib.ListN.{length, getD, take, drop}
 use mir.Syntax.{w64}
 use mir.Val.{boolByte, Fits}
 use borrow.Author.Needs.{needs}
+use borrow.Author.Tests.{ne-eqb, eq-eqb}
 use Rattle.policy.specs.Contract.{Aid, eqAid, Tok, eqTok}
 use Rattle.policy.specs.Tables.{Tables, noTok, decode}
 use Rattle.policy.specs.Lookup.{numberOf}
-use Rattle.policy.proofs.Sets.{false-T}
 use Rattle.geometry.specs.declared.Card.{Card}
 use Rattle.geometry.specs.declared.Kept.{Kept}
 use Rattle.geometry.specs.Geometry.{layoutOf, listAt, placeAt, numberIn}
@@ -124,7 +124,14 @@ module _ (c : Card) (img : List ℕ) (h : Laid (layoutOf c) img) (l : Kept) wher
         pub tokens-are : (s : Tok) (b : Bool) → b ≡ eqTok (tokensIn img (a + k)) s → b ≡ eqTok (itemTok l (itemAt l (decode (layoutOf c) img) r)) s
         tokens-are s b e = e ∙ ap (λ (x : Tok). eqTok x s) tok-seen
 
-pub ruleset listed = (list-counts, list-counted, row-lt, row-aid, row-start, aid-short, held-sum, held-end, held-in, holder-is, aid-is, number-byte, number-sum, number-seen, tokens-sum, tokens-room, tokens-read, tokens-are, other, alike, needs)
+-- ---- a number first, then what v says
+pub number-other : (n x y : ℕ) (v : Bool) → x ≡ y → (x ≡ n → ⊥) → false ≡ eqb y n && v
+number-other n x y v e h = ap (λ (b : Bool). b && v) (sym (ne-eqb y n (λ q. h (e ∙ q))))
+
+pub number-alike : (n x y : ℕ) (b v : Bool) → x ≡ y → x ≡ n → b ≡ v → b ≡ eqb y n && v
+number-alike n x y b v e h q = q ∙ ap (λ (z : Bool). z && v) (sym (eq-eqb y n (sym e ∙ h)))
+
+pub ruleset listed = (list-counts, list-counted, row-lt, row-aid, row-start, aid-short, held-sum, held-end, held-in, holder-is, aid-is, number-byte, number-sum, number-seen, tokens-sum, tokens-room, tokens-read, tokens-are, other, alike, number-other, number-alike, needs)
 
 -- ---- the loops that gather a mask of rows: `search masks`
 module _ (l : Kept) (f : Item l → Bool) (m : List (Item l)) (r mask : ℕ) (e : mask ≡ maskOf f (drop r m)) (h : 0 < r) (i : r ≤ length m) where
@@ -134,7 +141,4 @@ module _ (l : Kept) (f : Item l → Bool) (m : List (Item l)) (r mask : ℕ) (e 
 pub number-same : (n x y : ℕ) → x ≡ y → eqb x n ≡ eqb y n
 number-same n x y e = ap (λ (z : ℕ). eqb z n) e
 
-pub both-same : (a b c d : Bool) → a ≡ b → c ≡ d → a && c ≡ b && d
-both-same a b c d p q = ap₂ (λ (x y : Bool). x && y) p q
-
-pub ruleset masks = (mask-start, mask-turn, mask-doubles, mask-adds, mask-end, item-turn, number-same, both-same, list-low, needs)
+pub ruleset masks = (mask-start, mask-turn, mask-doubles, mask-adds, mask-end, item-turn, number-same, list-low, needs)

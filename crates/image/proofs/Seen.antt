@@ -6,7 +6,6 @@ use mathlib.Core.Bool.{Bool, true, false, not, _&&_, and-true, and-false}
 use mathlib.Core.List.{List, [], _∷_, _++_, append-nil}
 use lib.Dec.{eqb}
 use lib.ListN.{length, getD, take, drop, length-take, length-drop, drop-of-length-le}
-use lib.Seq.{length-take-le}
 use borrow.Author.Tests.{not-true, not-false, ne-eqb}
 use Rattle.policy.specs.Lists.{eqBytes, first, upto}
 use Rattle.policy.specs.Contract.{Aid, eqAid, Tok, eqTok}
@@ -21,7 +20,7 @@ use Rattle.bits.proofs.Loops.{first-ext}
 use Rattle.bits.proofs.Row.{lowest-row}
 use Rattle.rows.specs.Area.{part, over}
 use Rattle.rows.proofs.Over.{getD-part}
-use Rattle.rows.proofs.Same.{same-end}
+use Rattle.rows.proofs.Same.{head-long, same-last}
 use Rattle.geometry.specs.declared.Card.{Card}
 use Rattle.geometry.specs.declared.Table.{Table}
 use Rattle.geometry.specs.Geometry.{layoutOf, aidAt, tokAt, provAt, entryAt}
@@ -43,10 +42,6 @@ bit-off n f {b = true} x e h p q = absurd (false-T (sym q) tt)
 bit-on : (n : ℕ) (f : ℕ → Bool) {k row : ℕ} {b r : Bool} (x : Bool) → row ≡ rowOf n f → k < n → b ≡ bit row k → not b ≡ false → r ≡ x → r ≡ f k && x
 bit-on n f {k = k} {b = true} x e h p q z = z ∙ ap (λ (y : Bool). y && x) (p ∙ ap (λ (r : ℕ). bit r k) e ∙ bit-rowOf n f k h)
 bit-on n f {b = false} x e h p q z = absurd (false-T q tt)
-
--- ---- the bytes of an AID before its last
-pub head-long : (aid : List ℕ) → length aid - 1 ≡ length (take (length aid - 1) aid)
-head-long aid = sym (length-take-le (length aid - 1) aid (omega arith))
 
 -- ---- an AID's place
 module _ (img aid : List ℕ) (at : ℕ) (room : at + 17 ≤ length img) (low : getD img at 0 ≤ 16) where
@@ -77,18 +72,13 @@ module _ (img aid : List ℕ) (at : ℕ) (room : at + 17 ≤ length img) (low : 
 
   -- its last byte and its length are the AID's, and r compares the bytes before
   module _ (some : length aid ≡ 0 → ⊥) (last : getD img (at + length aid) 0 ≡ getD aid (length aid - 1) 0) (long : getD img at 0 ≡ length aid) where
-    abbrev k : ℕ
-    k = length aid - 1
-
     pub aid-head : at + 1 + length (take (length aid - 1) aid) ≤ length img
     aid-head = omega (arith, head-long aid)
 
     pub aid-same : (r : Bool) → r ≡ eqBytes (part (at + 1) (length (take (length aid - 1) aid)) img) (take (length aid - 1) aid) → r ≡ eqAid (aidIn img at) aid
     aid-same r p =
-        let b : at + 1 + k ≡ at + length aid = omega arith in
-        let q = p ∙ ap (λ (n : ℕ). eqBytes (part (at + 1) n img) (take k aid)) (sym (head-long aid)) in
-        same-end img (at + 1) aid (omega arith) k q some (ap (λ (x : ℕ). getD img x 0) b ∙ last) (omega arith) (omega arith)
-        ∙ ap (λ (n : ℕ). eqBytes (take n (drop (at + 1) img)) aid) (sym long)
+        let b : at + 1 + (length aid - 1) ≡ at + length aid = omega arith in
+        same-last img (at + 1) aid (omega arith) some (ap (λ (x : ℕ). getD img x 0) b ∙ last) r p ∙ ap (λ (n : ℕ). eqBytes (take n (drop (at + 1) img)) aid) (sym long)
 
 -- the AID that a place holds, where its length and its bytes are those of a
 pub aid-held : (img : List ℕ) (at : ℕ) (a : Aid) → getD img at 0 ≡ length a → take (length a) (drop (at + 1) img) ≡ a → aidIn img at ≡ a

@@ -132,6 +132,19 @@ pub fn with_number(img: &[u8], c: Card, l: Kept, n: usize) -> u32
     mask
 }
 
+// Row r has this package number and these tokens. The number is the quicker test.
+fn is_of(img: &[u8], c: Card, l: Kept, r: usize, n: usize, t: Tokens) -> bool
+    requires laid { ⌜ Laid (layoutOf c) (now img) ⌝ }
+    requires inside { ⌜ r < length (itemsOf l (tablesOf c (now img))) ⌝ }
+    ensures { λ b. ⌜ b ≡ eqb (itemNumber l (itemAt l (tablesOf c (now (img .entry))) r)) n
+        && eqTok (itemTok l (itemAt l (tablesOf c (now (img .entry))) r)) (tokOf t) ⌝ }
+{
+    if number(img, c, l, r) != n {
+        return false;
+    }
+    has_tokens(img, c, l, r, t)
+}
+
 // Which rows have this package number and these tokens.
 pub fn with_service(img: &[u8], c: Card, l: Kept, n: usize, t: Tokens) -> u32
     requires { ⌜ Laid (layoutOf c) (now img) ⌝ }
@@ -142,7 +155,7 @@ pub fn with_service(img: &[u8], c: Card, l: Kept, n: usize, t: Tokens) -> u32
     let mut mask: u32 = 0;
     while r > 0 {
         r -= 1;
-        let passes = (number(img, c, l, r) == n) & has_tokens(img, c, l, r, t);
+        let passes = is_of(img, c, l, r, n, t);
         mask = mask * 2 + (passes as u32);
     }
     mask

@@ -72,7 +72,7 @@ pub fn aid_is(img: &[u8], at: usize, aid: &[u8]) -> bool
     if img[at] as usize != n {
         return false;
     }
-    rows::same_at(img, at + 1, &aid[..last])
+    rows::same_all(img, at + 1, &aid[..last])
 }
 
 // The tokens at `at` are these.

@@ -14,7 +14,6 @@ use Rattle.record.specs.declared.Items.{Items}
 use Rattle.record.specs.declared.RowKind.{RowKind}
 use Rattle.record.specs.declared.RowKind.the-variants.{AddCall, RemoveCall, AddGrant, RemoveGrant, AddNeed, RemoveNeed}
 use Rattle.record.proofs.Loops.{Todo, todo-cons, todo-next}
-use Rattle.policy.proofs.Sets.{false-T}
 use borrow.Author.Tests.{not-true, not-false}
 
 -- a row or a caller whose AID is the own

@@ -5,8 +5,19 @@ ghost use lib.ListN.{length, getD, replicate};
 ghost use Rattle.policy.specs.Lists.{eqBytes, flat};
 ghost use Rattle.rows.specs.Area.{part, over, rowsIn, IsArea, HasRoom, keepRows, appended, dropped};
 
-// Whether the bytes of a from index at on are those of b. Most that differ do in the last one, so it goes first;
-// the loop over the others has no branches.
+// Whether the bytes of a from index at on are those of b: a loop without branches.
+pub fn same_all(a: &[u8], at: usize, b: &[u8]) -> bool
+    requires { ⌜ at + length (now b) ≤ length (now a) ⌝ }
+    ensures { λ r. ⌜ r ≡ eqBytes (part at (length (now (b .entry))) (now (a .entry))) (now (b .entry)) ⌝ }
+{
+    let mut same = true;
+    for k in 0..b.len() {
+        same = same & (a[at + k] == b[k]);
+    }
+    same
+}
+
+// The same. Most that differ do in the last one, so it goes first.
 pub fn same_at(a: &[u8], at: usize, b: &[u8]) -> bool
     requires { ⌜ at + length (now b) ≤ length (now a) ⌝ }
     ensures { λ r. ⌜ r ≡ eqBytes (part at (length (now (b .entry))) (now (a .entry))) (now (b .entry)) ⌝ }
@@ -19,11 +30,7 @@ pub fn same_at(a: &[u8], at: usize, b: &[u8]) -> bool
     if a[at + last] != b[last] {
         return false;
     }
-    let mut same = true;
-    for k in 0..last {
-        same = same & (a[at + k] == b[k]);
-    }
-    same
+    same_all(a, at, &b[..last])
 }
 
 // The bytes of src over those of dst from index at on.

@@ -8,9 +8,9 @@ use lib.ListN.{length}
 use Rattle.policy.specs.Lists.{implies, exists, isSome, orElse}
 use Rattle.policy.specs.Contract.{Aid, eqAid, Tok, eqTok}
 use Rattle.policy.specs.Layout.{Layout}
-use Rattle.policy.specs.Tables.{Tables, Unmet, Waiting, bit, decode, encode}
+use Rattle.policy.specs.Tables.{Tables, Unmet, Waiting, decode, encode}
 use Rattle.policy.specs.Lookup.{numberOf, serviceOf, freeService}
-use Rattle.policy.specs.Draft.{Look, put3, withCalls, withGrants, nowGranted, addServiceAt, asksFor}
+use Rattle.policy.specs.Draft.{Look, put3, withGrants, nowGranted, addServiceAt, asksFor}
 use Rattle.policy.specs.ShortCheck.{count, shortAddService}
 use Rattle.policy.specs.Judge.{Out, refusal}
 use Rattle.image.specs.Laid.{withWaiting}
@@ -46,12 +46,12 @@ module _ (L : Layout) where
   grantedAt mask j k s a t (some i) = withGrants (put3 j i k true (t .grants)) (t .waiting) t
 
   -- to the AIDs of l
-  abbrev pub grantedTo : ℕ → ℕ → ℕ → Tok → List Aid → Tables → Tables
-  grantedTo mask j k s [] t = t
-  grantedTo mask j k s (a ∷ l) t = grantedTo mask j k s l (grantedAt mask j k s a t (numberOf L t a))
+  abbrev pub grantedToEach : ℕ → ℕ → ℕ → Tok → List Aid → Tables → Tables
+  grantedToEach mask j k s [] t = t
+  grantedToEach mask j k s (a ∷ l) t = grantedToEach mask j k s l (grantedAt mask j k s a t (numberOf L t a))
 
-  abbrev pub grantedAll : ℕ → ℕ → Tok → List Aid → Tables → Tables
-  grantedAll j k s l t = grantedTo (maskOf (ofService j s) (t .waiting)) j k s l t
+  abbrev pub grantedToAll : ℕ → ℕ → Tok → List Aid → Tables → Tables
+  grantedToAll j k s l t = grantedToEach (maskOf (ofService j s) (t .waiting)) j k s l t
 
   -- they have room
   abbrev pub RoomFor : ℕ → Tok → List Aid → Tables → Type 0
@@ -59,7 +59,7 @@ module _ (L : Layout) where
 
   -- all of them, by the masks of the unmet calls on the service and of the waiting grants that are due: the service is opened first
   abbrev pub added : ℕ → ℕ → ℕ → ℕ → Tok → List Aid → Tables → Tables
-  added asking due j k s l t = grantedAll j k s l (takenIn L j asking due (opened j k s t))
+  added asking due j k s l t = grantedToAll j k s l (takenIn L j asking due (opened j k s t))
 
   -- what the writes ask of the tables
   pub record AddFits (asking due j k : ℕ) (s : Tok) (l : List Aid) (t : Tables) : Type 0 where

@@ -20,7 +20,7 @@ ghost use Rattle.image.specs.Wrote.{Wrote};
 ghost use Rattle.image.specs.Read.{maskOf, unmetRow, waitingRow};
 ghost use Rattle.record.specs.Meaning.{AidFits, Stands, aidIn, itemsIn};
 ghost use Rattle.changes.specs.Asked.{Asked};
-ghost use Rattle.services.specs.Adding.{waitsIn, waitedAt, isLone, grantedAt, grantedAll, RoomFor, added, AddFits, dueTo};
+ghost use Rattle.services.specs.Adding.{waitsIn, waitedAt, isLone, grantedAt, grantedToAll, RoomFor, added, AddFits, dueTo};
 ghost use Rattle.services.specs.Adding.{byCallers, addingAt, addingPlan};
 ghost use Rattle.changes.specs.Masks.{Named};
 ghost use Rattle.changes.specs.Joins.{holder};
@@ -196,6 +196,9 @@ fn waits(img: &[u8], c: Card, mask: u32, rec: &[u8], a: Aid) -> bool
     requires fits { ⌜ AidFits (now rec) a ⌝ }
     ensures { λ b. ⌜ b ≡ waitsIn mask (tablesOf c (now (img .entry))) (aidIn (now (rec .entry)) a) ⌝ }
 {
+    if mask == 0 {
+        return false;
+    }
     let other = record::aid_bytes(rec, a);
     let n = image::lists::count(img, c, Kept::WaitingGrants);
     for r in 0..n {
@@ -343,7 +346,7 @@ fn grant_all(img: &mut [u8], c: Card, rec: &[u8], callers: Items, j: usize, k: u
     requires numbers { ⌜ (j < layoutOf c .packages) × (k < layoutOf c .services) ⌝ }
     requires room { ⌜ RoomFor (layoutOf c) j (tokOf t) (itemsIn aid (now rec) callers) (tablesOf c (now img)) ⌝ }
     ensures { λ _. ⌜ Wrote (layoutOf c) (now (img .exit))
-        (grantedAll (layoutOf c) j k (tokOf t) (itemsIn aid (now (rec .entry)) callers) (tablesOf c (now (img .entry)))) ⌝ }
+        (grantedToAll (layoutOf c) j k (tokOf t) (itemsIn aid (now (rec .entry)) callers) (tablesOf c (now (img .entry)))) ⌝ }
 {
     let still = image::lists::with_service(img, c, Kept::WaitingGrants, j, t);
     let mut todo = callers;

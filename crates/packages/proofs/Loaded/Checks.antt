@@ -1,27 +1,24 @@
 -- Kind 1: what the code that decides has found, in the form in which its needs ask it: `search checks`, `tallies` and `causes`. Assumes nothing.
-use Prim.Native.Nat.{ℕ, suc, _+_, _-_, _≤_, _<_}
+use Prim.Native.Nat.{ℕ, _+_, _-_, _≤_, _<_}
 use native.Mathlib.Omega.{arith}
 use native.Mathlib.Nat.{add-zero, zero-add}
 use mathlib.Core.Path.{_≡_, refl, sym, ap, ap₂, _∙_, subst}
 use mathlib.Core.Bool.{Bool, true, false, not, _&&_, cond}
 use mathlib.Core.List.{List}
-use mathlib.Core.Option.{Option, none, some}
+use mathlib.Core.Option.{Option}
 use lib.Bits.{bitAnd}
 use lib.Dec.{eqb, leb, ltb}
-use lib.ListN.{length}
 use mir.Syntax.{w64}
 use mir.Val.{Fits}
-use borrow.Author.Tests.{not-true, not-false, eq-eqb, ne-eqb, lt-leb, le-leb, leb-true, leb-false}
+use borrow.Author.Tests.{not-true, not-false, eq-eqb, ne-eqb, lt-leb, le-leb}
 use borrow.Author.Needs.{needs}
-use Rattle.policy.specs.Lists.{every, keep, isSome, orElse, upto}
+use Rattle.policy.specs.Lists.{every, isSome, orElse}
 use Rattle.policy.specs.Contract.{Aid, eqAid, Tok, eqTok, Row, Contract, hasTok}
 use Rattle.policy.specs.Layout.{Layout}
-use Rattle.policy.specs.Record.{Reader, aRow}
-use Rattle.policy.specs.Tables.{Tables, Unmet, Waiting, bit}
+use Rattle.policy.specs.Record.{aRow}
+use Rattle.policy.specs.Tables.{Tables, Unmet, Waiting}
 use Rattle.policy.specs.Lookup.{Place as Found, numberOf, serviceOf, serverOf}
-use Rattle.policy.specs.Sound.{sound}
 use Rattle.policy.specs.ShortCheck.{count, nowMet}
-use Rattle.policy.proofs.Sets.{length-keep}
 use Rattle.image.specs.declared.read.Place.{Place}
 use Rattle.image.specs.Read.{numberOr, placeOr, maskOf}
 use Rattle.image.proofs.Laid.{sound-laid}
@@ -29,7 +26,7 @@ use Rattle.bits.proofs.Tests.{other, alike}
 use Rattle.image.proofs.Numbers.{package-below, service-below, server-none, server-some}
 use Rattle.record.specs.Meaning.{Stands, Uncons, itemsIn}
 use Rattle.record.specs.declared.Items.{Items}
-use Rattle.record.proofs.Loops.{Todo, Left, todo-start, todo-end, todo-cons, todo-next, every-stop, every-next, count-yes, count-no}
+use Rattle.record.proofs.Loops.{Todo, Left, todo-start, todo-end, every-stop, every-next, count-yes, count-no}
 use Rattle.bits.proofs.Tests.{unnamed, named-so, not-asking, asking-by}
 use Rattle.changes.proofs.Tests.{found-below, served-is}
 use Rattle.packages.specs.Loads.{comesDue, waitsAt, callGranted, CallsCome, grantFits, othersGranted, unmetFit, waitingFit, limitCause, loadCause, bothThere}

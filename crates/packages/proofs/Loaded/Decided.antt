@@ -72,5 +72,3 @@ module _ (L : Layout) (img : List ℕ) (k : Contract) (ask : Asked L img (k .aid
             accepted = λ q. record { outcome = accepted-at (r .at) away free (sym late ∙ z); away = away; free = free; met-is = fd .met-is; due-is = fd .due-is };
           }
           go (suc x) z = refuses r x z (settled-short L img (k .aid) (loadOf k) (ask .is-sound) (ask .within) (ask .is-proper) (early none (some (r .at)) away free) x (sym late ∙ z))
-
-pub ruleset decided = (asked-laid, decides-4, decides-7, decides-late, needs)

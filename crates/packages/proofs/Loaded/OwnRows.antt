@@ -1,7 +1,7 @@
 -- Kind 1: the rows of the loaded package, written one after another, give the tables of the draft. Assumes nothing.
 use Prim.Native.Nat.{ℕ, _+_, _≤_}
 use mathlib.Core.Path.{_≡_, refl, sym, ap, _∙_, subst}
-use mathlib.Core.Bool.{Bool, true, false, not, _&&_, _||_, cond, and-assoc}
+use mathlib.Core.Bool.{Bool, true, false, not, _&&_, cond, and-assoc}
 use mathlib.Core.List.{List, [], _++_, map, List·Memᴰ as In, Memᴰ·cast as in-cast}
 use mathlib.Core.Option.{Option, none, some}
 use lib.Dec.{T, eqb, eqb-refl}
@@ -11,14 +11,14 @@ use Rattle.policy.specs.Contract.{Tok, Row, Contract, hasTok, hasRow, validAid}
 use Rattle.policy.specs.Layout.{Layout}
 use Rattle.policy.specs.Tables.{Tables}
 use Rattle.policy.specs.Lookup.{Spot, serviceAt, numberOf, serviceOf, serverOf, spotOf}
-use Rattle.policy.specs.Draft.{callRow, grantRow, hasUnmet, hasWaiting, withCalls, withGrants, withNeeds, namedIn, loadAt, installedAid}
+use Rattle.policy.specs.Draft.{callRow, grantRow, hasUnmet, hasWaiting, namedIn, loadAt, installedAid}
 use Rattle.policy.proofs.Sets.{T-eq, T-false, and-l, and-r, and-i, keep-ext, T-true, is-nil}
 use Rattle.policy.proofs.Equal.{has-tok, tok-has, has-row}
 use Rattle.policy.proofs.Put.{at-old, by-number}
 use Rattle.policy.proofs.Formed.{Names, Fitting}
 use Rattle.policy.proofs.Found.{NumberIs, SpotIs, number-is, spot-is}
 use Rattle.policy.proofs.LoadNames.{Newcomer, Loaded, loaded, tok-in, in-tok, names-loaded}
-use Rattle.changes.specs.Own.{calledAll, grantedAll, neededAll, NoRows, ownRows, OwnFits, served}
+use Rattle.changes.specs.Own.{NoRows, ownRows, OwnFits, served}
 use Rattle.packages.specs.Loads.{bothThere}
 use Rattle.packages.specs.Writes.{joined}
 use Rattle.changes.proofs.OwnRows.{own-rows}

@@ -1,27 +1,22 @@
 -- Kind 1: the writes of a load, one after another, leave its tables. Assumes nothing.
-use Prim.Native.Nat.{ℕ, _+_, _≤_, _<_}
+use Prim.Native.Nat.{ℕ, _≤_, _<_}
 use mathlib.Core.Path.{_≡_, refl, sym, ap, _∙_, subst}
-use mathlib.Core.Bool.{not}
 use mathlib.Core.List.{List}
-use lib.Dec.{T}
 use lib.ListN.{length}
-use Rattle.policy.specs.Lists.{every, isSome}
 use Rattle.policy.specs.Contract.{Contract}
 use Rattle.policy.specs.Layout.{Layout}
 use Rattle.policy.specs.Tables.{Tables, decode}
-use Rattle.policy.specs.Lookup.{numberOf, serviceOf, spotOf}
 use Rattle.policy.specs.Draft.{loadedNames, loadAt}
-use Rattle.policy.specs.ShortCheck.{count}
 use Rattle.policy.specs.Judge.{Out}
 use Rattle.policy.specs.Settled.{settled, Gives}
 use Rattle.policy.proofs.Pieces.{valid-short}
 use Rattle.policy.proofs.LoadNames.{Newcomer}
 use Rattle.image.specs.Wrote.{Wrote}
 use Rattle.changes.specs.Asked.{Asked}
-use Rattle.changes.specs.Joins.{CallersIn, GivenIn, settledAll, DueAt, withoutRows, metAll, CallOn, TakesIn, takenIn}
+use Rattle.changes.specs.Joins.{TakesIn, takenIn}
 use Rattle.changes.proofs.Verdicts.{accepted-gives}
 use Rattle.changes.proofs.SoundRows.{callers-in, given-in, callers-in, given-in}
-use Rattle.changes.specs.Own.{served, calledAll, grantedAll, neededAll, OwnFits, ownRows}
+use Rattle.changes.specs.Own.{OwnFits, ownRows}
 use Rattle.packages.specs.Loads.{loadOf, Accepts, Decides}
 use Rattle.packages.specs.Writes.{named, openedAll, joined}
 use Rattle.packages.specs.declared.decide.Decided.{Decided}

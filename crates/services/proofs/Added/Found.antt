@@ -1,22 +1,20 @@
 -- What the code of kind 3 finds: AIDs on the card, unmet calls that are granted, and room beside the rows that stay. Assumes nothing.
-use Prim.Native.Nat.{ℕ, _+_, _-_, _≤_, _<_}
+use Prim.Native.Nat.{ℕ, _-_, _≤_, _<_}
 use native.Mathlib.Omega.{arith}
-use mathlib.Core.Path.{_≡_, refl, sym, ap, _∙_, subst}
-use mathlib.Core.Bool.{Bool, true, false, not, _&&_, _||_, cond}
-use mathlib.Core.List.{List, [], _∷_}
+use mathlib.Core.Path.{_≡_, refl, sym, ap, _∙_}
+use mathlib.Core.Bool.{Bool, true, false, not, _&&_, _||_}
+use mathlib.Core.List.{List}
 use mathlib.Core.Option.{Option}
 use lib.Dec.{T, ltb}
 use lib.ListN.{length}
 use borrow.Author.Tests.{ltb-true, ltb-false}
-use Rattle.policy.specs.Lists.{implies, exists, keep, upto, isSome}
+use Rattle.policy.specs.Lists.{implies, exists, isSome}
 use Rattle.policy.specs.Contract.{Aid as Bytes, eqAid}
 use Rattle.policy.specs.Layout.{Layout}
 use Rattle.policy.specs.Tables.{Tables, Unmet, bit}
 use Rattle.policy.specs.Lookup.{numberOf}
 use Rattle.policy.specs.Draft.{installedAid}
-use Rattle.policy.proofs.Sets.{length-keep, length-from}
 use Rattle.image.specs.Read.{maskOf, numberOr, unmetRow}
-use Rattle.image.proofs.Masks.{mask-count}
 use Rattle.image.proofs.Numbers.{package-none, package-some}
 use Rattle.services.specs.Adding.{waitsIn, isLone, dueTo, byCallers}
 use Rattle.bits.proofs.Tests.{asking-by}

@@ -18,7 +18,7 @@ use Rattle.image.specs.Laid.{Laid, withWaiting}
 use Rattle.image.specs.Wrote.{Wrote}
 use Rattle.image.specs.Read.{numberOr}
 use Rattle.image.proofs.Numbers.{package-none, package-some}
-use Rattle.services.specs.Adding.{waitsIn, waitedAt, isLone, grantedAt, grantedTo}
+use Rattle.services.specs.Adding.{waitsIn, waitedAt, isLone, grantedAt, grantedToEach}
 use Rattle.changes.proofs.MaskedRows.{some-more}
 use Rattle.changes.proofs.ItemLoops.{Turns}
 
@@ -94,7 +94,7 @@ module _ (L : Layout) (mask j k : ℕ) (s : Tok) where
   abbrev pub grants : Turns Aid
   grants = record {
     one = λ x t. grantedAt L mask j k s x t (numberOf L t x);
-    all = grantedTo L mask j k s;
+    all = grantedToEach L mask j k s;
     Asks = λ x t. isLone L mask t x ≡ true → length (t .waiting) < L .capacity;
     AllAsk = GrantsAsk;
     none-is = λ t. refl;

@@ -24,7 +24,7 @@ use Rattle.policy.proofs.Found.{NumberIs, ServiceIs, number-is}
 use Rattle.rows.specs.Area.{keepRows}
 use Rattle.image.specs.Read.{maskOf, numberOr, unmetRow, waitingRow}
 use Rattle.image.proofs.Masks.{keep-mask}
-use Rattle.services.specs.Adding.{ofService, waitsIn, isLone, grantedAt, grantedTo, RoomFor, added, dueTo, byCallers, askMask, dueMask}
+use Rattle.services.specs.Adding.{ofService, waitsIn, isLone, grantedAt, grantedToEach, RoomFor, added, dueTo, byCallers, askMask, dueMask}
 use Rattle.changes.specs.Masks.{someListed}
 use Rattle.changes.specs.Joins.{holder, serviceNumber, metAll, settledAll, takenIn, CallOn, DueAt}
 use Rattle.changes.specs.Places.{opened}
@@ -348,26 +348,26 @@ module _ (L : Layout) (t : Tables) (formed : Formed L t) (j : ℕ) (s : Tok) whe
       holds-more w v h = (λ a. some-more (λ v. eqAid (v .caller) a) mask w (v ∷ []) (h .1) ∙ h .0 a, λ n p. h .1 n (omega (arith, length-snoc w v)))
 
       granted-to : (l : List Aid) (v : Tables) (g : ℕ → ℕ → ℕ → Bool) (w : List Waiting) → v .used ≡ t .used → v .aid ≡ t .aid → Holds w
-          → grantedTo L mask j k s l (withGrants g w v) ≡ granted l v g w
+          → grantedToEach L mask j k s l (withGrants g w v) ≡ granted l v g w
       unfolding numberOf
       granted-to [] v g w eu ea h = λ i. withGrants (λ x y z. none-granted (eqb x j) (eqb z k) (t .used y) (g x y z) i) (sym (append-nil w) i) v
       granted-to (a ∷ l) v g w eu ea h =
-          (λ i. grantedTo L mask j k s l (grantedAt L mask j k s a (withGrants g w v) (same i)))
+          (λ i. grantedToEach L mask j k s l (grantedAt L mask j k s a (withGrants g w v) (same i)))
           ∙ go (numberOf L t a) (number-is L t (formed .names) a) (held a) (h .0 a) (λ g w. granted-to l v g w eu ea)
         where
           same : numberOf L v a ≡ numberOf L t a
           same = λ i. first (λ n. eu i n && eqAid (ea i n) a) (upto (L .packages))
 
           go : (o : Option ℕ) → NumberIs t a o → (b : Bool) → someListed (λ v. eqAid (v .caller) a) mask 0 w ≡ b
-              → ((g : ℕ → ℕ → ℕ → Bool) (w : List Waiting) → Holds w → grantedTo L mask j k s l (withGrants g w v) ≡ granted l v g w)
-              → grantedTo L mask j k s l (grantedAt L mask j k s a (withGrants g w v) o)
+              → ((g : ℕ → ℕ → ℕ → Bool) (w : List Waiting) → Holds w → grantedToEach L mask j k s l (withGrants g w v) ≡ granted l v g w)
+              → grantedToEach L mask j k s l (grantedAt L mask j k s a (withGrants g w v) o)
               ≡ withGrants (bitsFor g (λ y. eqAid (t .aid y) a || exists (eqAid (t .aid y)) l)) (w ++ map waits (cond (not (isSome o || b)) (a ∷ late l) (late l))) v
-          go none p b e ih = ap (λ (z : Bool). grantedTo L mask j k s l (withGrants g (cond z w (w ++ (waits a ∷ []))) v)) e ∙ by b
+          go none p b e ih = ap (λ (z : Bool). grantedToEach L mask j k s l (withGrants g (cond z w (w ++ (waits a ∷ []))) v)) e ∙ by b
             where
               off : bitsFor g (λ y. exists (eqAid (t .aid y)) l) ≡ bitsFor g (λ y. eqAid (t .aid y) a || exists (eqAid (t .aid y)) l)
               off = λ i x y z. g x y z || (eqb x j && eqb z k && row-off (t .used y) (eqAid (t .aid y) a) (exists (eqAid (t .aid y)) l) (caller-is a y none p) i)
 
-              by : (b : Bool) → grantedTo L mask j k s l (withGrants g (cond b w (w ++ (waits a ∷ []))) v)
+              by : (b : Bool) → grantedToEach L mask j k s l (withGrants g (cond b w (w ++ (waits a ∷ []))) v)
                   ≡ withGrants (bitsFor g (λ y. eqAid (t .aid y) a || exists (eqAid (t .aid y)) l)) (w ++ map waits (cond (not b) (a ∷ late l) (late l))) v
               by true = ih g w h ∙ (λ i. withGrants (off i) (w ++ map waits (late l)) v)
               by false = ih g (w ++ (waits a ∷ [])) (holds-more w (waits a) h) ∙ (λ i. withGrants (off i) (append-assoc w (waits a ∷ []) (map waits (late l)) i) v)

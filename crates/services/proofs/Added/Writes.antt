@@ -9,7 +9,7 @@ use Rattle.image.specs.Wrote.{Wrote}
 use Rattle.image.proofs.Clears.{wrote-then}
 use Rattle.changes.specs.Places.{opened}
 use Rattle.changes.specs.Joins.{takenIn, TakesIn}
-use Rattle.services.specs.Adding.{RoomFor, grantedAll, added, AddFits}
+use Rattle.services.specs.Adding.{RoomFor, grantedToAll, added, AddFits}
 
 module _ (L : Layout) (t : Tables) (met due j k : ℕ) (s : Tok) (l : List Aid) (fit : AddFits L met due j k s l t) {img₁ : List ℕ}
     (w₁ : Wrote L img₁ (opened j k s t)) where
@@ -23,5 +23,5 @@ module _ (L : Layout) (t : Tables) (met due j k : ℕ) (s : Tok) (l : List Aid) 
     pub taken-room : RoomFor L j s l (decode L img₂)
     taken-room = subst (RoomFor L j s l) (sym (taken .tables)) (fit .room)
 
-    pub served-all : {img₃ : List ℕ} → Wrote L img₃ (grantedAll L j k s l (decode L img₂)) → Wrote L img₃ (added L met due j k s l t)
-    served-all w = wrote-then L (grantedAll L j k s l) taken w
+    pub served-all : {img₃ : List ℕ} → Wrote L img₃ (grantedToAll L j k s l (decode L img₂)) → Wrote L img₃ (added L met due j k s l t)
+    served-all w = wrote-then L (grantedToAll L j k s l) taken w

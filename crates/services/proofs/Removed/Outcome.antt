@@ -7,7 +7,7 @@ use lib.Dec.{eqb, leb, leb→le}
 use Rattle.policy.specs.Layout.{Layout}
 use Rattle.policy.specs.Causes.{answer, _when_}
 use Rattle.policy.specs.Tables.{Tables, decode}
-use Rattle.policy.specs.Lookup.{numbers, places, numberOf, serviceOf, contractAt}
+use Rattle.policy.specs.Lookup.{numbers, numberOf, serviceOf, contractAt}
 use Rattle.policy.specs.ShortCheck.{count, shortRemoveService, fine, shortLook, shortService}
 use Rattle.policy.specs.Judge.{lookCauses, tableCauses}
 use Rattle.policy.proofs.ShortRemove.{none-pass}

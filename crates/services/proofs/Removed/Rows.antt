@@ -7,7 +7,7 @@ use mathlib.Core.List.{List, [], _∷_, map}
 use lib.ListN.{length, getD, take, drop, replicate, length-map}
 use lib.Seq.{take-at}
 use borrow.Author.Tests.{eq-eqb, ne-eqb}
-use Rattle.policy.specs.Lists.{keep, flat, from}
+use Rattle.policy.specs.Lists.{keep, from}
 use Rattle.policy.specs.Contract.{Aid}
 use Rattle.policy.specs.Layout.{Layout}
 use Rattle.policy.specs.Tables.{Tables, Unmet, Waiting, bit, rowOf, writeAid, decode}
@@ -23,7 +23,6 @@ use Rattle.image.specs.Laid.{withUnmet, withWaiting}
 use Rattle.image.specs.Wrote.{Wrote}
 use Rattle.changes.specs.Left.{only, byList, behind, leftOne, RoomBehind}
 use Rattle.services.specs.Removal.{between, leftBit, leftBits, rowsWithBits, RoomWithoutService, listsWithoutService}
-use Rattle.changes.proofs.AppendedRows.{apart}
 use lib.Dec.{eqb, eqb→eq}
 use Rattle.policy.specs.Lookup.{numbers, places, serviceAt}
 use Rattle.policy.specs.Draft.{callRow, leftBy}

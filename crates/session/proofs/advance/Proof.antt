@@ -1,5 +1,4 @@
 -- `session::advance` meets its contract: what the turn calls for is done. Assumes nothing.
-use Prim.Native.Nat.{_≤_}
 use mathlib.Core.Path.{_≡_, refl, sym}
 use native.Mathlib.Omega.{arith}
 use borrow.Author.Needs.{needs}

@@ -3,7 +3,6 @@ use mathlib.Core.Path.{_≡_}
 use native.Mathlib.Omega.{arith}
 use borrow.Author.Needs.{needs}
 use lib.ListN.{length}
-use Rattle.lines.specs.Frames.{longest}
 use Rattle.lines.proofs.Reached.{starts}
 use Rattle.session.proofs.Running.{Runs, left-over, begins, ready, moves}
 use Rattle.session.proofs.run.Statement.{statement}

@@ -28,7 +28,6 @@ with-service-spec =
     (λ c. search masks)
     (λ c. search masks)
     (λ c κs. search masks)
-    (λ c κs. search masks)
     (λ c. search masks)
     (λ c. search masks)
     (λ c. search masks)

@@ -4,13 +4,12 @@ use Prim.Native.Nat.{_≤_}
 use mathlib.Core.Path.{_≡_}
 use lib.ListN.{length, drop}
 use denote.Ref.{now}
-use Rattle.policy.specs.Record.{tokens}
 use Rattle.policy.specs.Tables.{decode}
 use Rattle.geometry.specs.Geometry.{layoutOf}
 use Rattle.image.specs.Read.{maskOf}
 use Rattle.geometry.specs.declared.Kept.the-variants.{UnmetCalls}
 use Rattle.image.proofs.Listed.{masks, list-low}
-use Rattle.record.specs.Meaning.{itemsIn, contractIn}
+use Rattle.record.specs.Meaning.{contractIn}
 use Rattle.packages.specs.Loads.{}
 use Rattle.packages.proofs.decide.met_rows.Statement.{statement}
 use Rattle.packages.proofs.decide.met_rows.Tie as tie

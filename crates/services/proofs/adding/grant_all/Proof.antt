@@ -11,7 +11,7 @@ use Rattle.policy.specs.ShortCheck.{count}
 use Rattle.geometry.specs.Geometry.{layoutOf, tokOf}
 use Rattle.image.specs.Wrote.{Wrote}
 use Rattle.record.specs.Meaning.{itemsIn}
-use Rattle.services.specs.Adding.{ofService, isLone, grantedTo}
+use Rattle.services.specs.Adding.{ofService, isLone, grantedToEach}
 use Rattle.changes.proofs.MaskedRows.{mask-past}
 use Rattle.changes.proofs.ItemLoops.{Turning, turning-start, turning-here, turning-next, turning-end}
 use Rattle.services.proofs.Added.Grants.{grants}
@@ -65,7 +65,7 @@ returns c =
     let l = c .before .before in
     let a = l .before .before .before .before .before .args in
     let L = layoutOf (a .c) in
-    subst (λ (m : ℕ). Wrote L (l .loop .img) (grantedTo L m (a .j) (a .k) (tokOf (a .t)) (itemsIn aid (now (a .rec)) (a .callers)) (decode L (now (a .img))))) (l .before .with-service .ensures)
+    subst (λ (m : ℕ). Wrote L (l .loop .img) (grantedToEach L m (a .j) (a .k) (tokOf (a .t)) (itemsIn aid (now (a .rec)) (a .callers)) (decode L (now (a .img))))) (l .before .with-service .ensures)
     (turning-end _ (l .loop .inv .0) (c .if1 .left))
 
 pub grant-all-spec : {M : Type 1} → statement M
