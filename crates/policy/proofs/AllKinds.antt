@@ -1,5 +1,5 @@
--- All ten kinds: each draft is formed and stands for the contracts that the record would leave, and each short check is the full look.
-use Rattle.policy.specs.Record.{Change, load, remove, addService, removeService, addCall, removeCall, addGrant, removeGrant, addNeed, removeNeed}
+-- All eleven kinds: each draft is formed and stands for the contracts that the record would leave, and each short check is the full look.
+use Rattle.policy.specs.Record.{Change, load, remove, addService, removeService, addCall, removeCall, addGrant, removeGrant, addNeed, removeNeed, replace}
 use Rattle.policy.proofs.Formed.{KindTurns, KindShort}
 use Rattle.policy.proofs.KindLoad.{kind-1}
 use Rattle.policy.proofs.KindRemove.{kind-2}
@@ -8,7 +8,9 @@ use Rattle.policy.proofs.KindRemoveService.{kind-4}
 use Rattle.policy.proofs.KindCall.{kind-5, kind-6}
 use Rattle.policy.proofs.KindGrant.{kind-7, kind-8}
 use Rattle.policy.proofs.KindNeed.{kind-9, kind-10}
-use Rattle.policy.proofs.ShortLoad.{short-3, short-1}
+use Rattle.policy.proofs.KindReplace.{kind-11}
+use Rattle.policy.proofs.ShortBrought.{short-1, short-11}
+use Rattle.policy.proofs.ShortAddService.{short-3}
 use Rattle.policy.proofs.ShortRemove.{short-2, short-4}
 use Rattle.policy.proofs.ShortRows.{short-5, short-6, short-7, short-8, short-9, short-10}
 
@@ -23,3 +25,4 @@ kinds (addGrant r) = (kind-7 r, short-7 r)
 kinds (removeGrant r) = (kind-8 r, short-8 r)
 kinds (addNeed r) = (kind-9 r, short-9 r)
 kinds (removeNeed r) = (kind-10 r, short-10 r)
+kinds (replace p c g n) = (kind-11 p c g n, short-11 p c g n)

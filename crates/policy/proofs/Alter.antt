@@ -1,4 +1,4 @@
--- A change of one contract, that under the AID of package i, and of no other: kinds 3 to 10. Its four sets turn each by itself.
+-- A change of one contract, that under the AID of package i, and of no other: kinds 3 to 11. Its four sets turn each by itself.
 use Prim.Native.Nat.{ℕ}
 use mathlib.Core.Path.{_≡_, refl, sym, ap, _∙_, subst}
 use mathlib.Core.Logic.{_⊎_, inl, inr, _↔_, Iff·trans}
@@ -42,6 +42,14 @@ module _ {A : Type 0} where
       others = λ n un _ l e x. Iff·trans (e x) (h n un x);
       own = λ l e x. Iff·trans (e x) (h i u x);
       once = λ l e d. d;
+    }
+
+    -- number i has those of m, and no longer those of l
+    pub turned-to : (m : List A) → NoRepeat m → Lists (P′ i) m → ((n : ℕ) → T (used n) → (n ≡ i → ⊥) → (x : A) → P n x ↔ P′ n x) → Turned used i (λ l. m) P P′
+    turned-to m dm is h = record {
+      others = λ n un ne l e x. Iff·trans (e x) (h n un ne x);
+      own = λ l e. is;
+      once = λ l e d. dm;
     }
 
     pub turned-more : (N : A → Type 0) (m : List A) → Lists N m → NoRepeat m → More i N P P′ → ((x : A) → N x → P i x → ⊥) → Turned used i (λ l. l ++ m) P P′

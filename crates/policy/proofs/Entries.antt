@@ -13,7 +13,7 @@ use lib.Seq.{drop-append-seam}
 use Rattle.policy.specs.Lists.{every, from, orElse, isSome}
 use Rattle.policy.specs.Contract.{Aid}
 use Rattle.policy.specs.Layout.{Layout, size}
-use Rattle.policy.specs.Record.{Request, Change, load, remove, addService, removeService, addCall, removeCall, addGrant, removeGrant, addNeed, removeNeed, parse, proper}
+use Rattle.policy.specs.Record.{Request, Change, load, remove, addService, removeService, addCall, removeCall, addGrant, removeGrant, addNeed, removeNeed, replace, parse, proper}
 use Rattle.policy.specs.Causes.{Cause, _when_, answer}
 use Rattle.policy.specs.Tables.{Tables, decode, emptyImage}
 use Rattle.policy.specs.Lookup.{numbers, numberOf, freeNumber, contractAt}
@@ -60,6 +60,7 @@ module _ (L : Layout) where
     known (removeGrant r) e = present (tail (tableCauses L t a (removeGrant r))) e
     known (addNeed r) e = present (tail (tableCauses L t a (addNeed r))) e
     known (removeNeed r) e = present (tail (tableCauses L t a (removeNeed r))) e
+    known (replace p c g n) e = present [] e
 
     number-lt : Names L (t .used) (t .aid) (t .tok) (t .provides) → Known → numberFor L t a < L .packages
     unfolding numberFor

@@ -59,6 +59,7 @@ resized L p s w c h e = record {
   mostRows = L .mostRows;
   mostCallers = L .mostCallers;
   methods = L .methods;
+  reads = L .reads;
 }
 
 -- ---- the passage

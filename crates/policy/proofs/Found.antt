@@ -50,7 +50,7 @@ none-before f i (suc n) = go (f i) refl (first f (from (suc i) n)) (none-before 
     go false e none h = tt
     go false e (some n) h = λ x a l t. by-number i (λ (z : ℕ). T (f z) → ⊥) x (false-T e) (λ ne. h x (omega arith) l) t
 
-free-is : (most : ℕ) (taken : ℕ → Bool) → FreeIs most taken (first (λ n. not (taken n)) (upto most))
+pub free-is : (most : ℕ) (taken : ℕ → Bool) → FreeIs most taken (first (λ n. not (taken n)) (upto most))
 free-is most taken = go (first (λ n. not (taken n)) (upto most)) (found (λ n. not (taken n)) (upto most)) (none-before (λ n. not (taken n)) 0 most)
   where
     go : (o : Option ℕ) → Found (λ n. not (taken n)) (upto most) o → NoneBefore (λ n. not (taken n)) 0 o → FreeIs most taken o

@@ -1,227 +1,189 @@
--- Kind 1 (load) keeps the tables formed and standing for the machine's contracts: the newcomer has its contract, and the others keep theirs.
-use Prim.Native.Nat.{ℕ}
+-- Kind 1 (load): a contract comes to a free number, its services at 0, 1, 2; the newcomer has its contract, and the others keep theirs.
+use Prim.Native.Nat.{ℕ, zero, suc, _≤_, _<_, zero-le, suc-le-suc}
+use native.Mathlib.Omega.{arith}
+use native.Mathlib.Nat.{not-suc-le-zero, le-of-suc-le-suc}
 use mathlib.Core.Path.{_≡_, refl, sym, ap, _∙_, subst}
-use mathlib.Core.Logic.{_⊎_, inl, inr, _↔_, Iff·trans}
-use mathlib.Core.Bool.{Bool, false, not, _&&_}
-use mathlib.Core.List.{List, [], _∷_, map}
-use mathlib.Core.List.{List·Memᴰ as In, List·Memᴰ·head as here, List·Memᴰ·tail as there, List·Memᴰ·cases-cons as in-cons, List·Memᴰ·not-nil as in-nil}
-use mathlib.Core.List.{Memᴰ·append-left as in-left, Memᴰ·append-right as in-right, List·Memᴰ·append-cases as in-append, Memᴰ·cast as in-cast}
-use mathlib.Core.Option.{Option, none, some}
-use lib.Dec.{T}
-use Rattle.policy.specs.Lists.{keep, isSome}
-use Rattle.policy.specs.Contract.{eqAid, Tok, Row, Contract, hasTok, validAid}
+use mathlib.Core.Logic.{_⊎_, inl, inr}
+use mathlib.Core.Bool.{Bool, true, false, not, _&&_, _||_, cond}
+use mathlib.Core.List.{List, [], _∷_, _++_, map, append-nil}
+use mathlib.Core.List.{List·Memᴰ as In, List·Memᴰ·head as here, List·Memᴰ·tail as there, List·Memᴰ·cases-cons as in-cons, Memᴰ·cast as in-cast}
+use mathlib.Core.Option.{none, some}
+use lib.Dec.{T, eqb, eqb→eq, ltb, ltb→lt, lt→ltb, nltb→le}
+use lib.ListN.{length, getD, List·getD-eq-default}
+use Rattle.policy.specs.Lists.{keep, NoRepeat}
+use Rattle.policy.specs.Contract.{Aid, Tok, Row, Contract, validAid}
 use Rattle.policy.specs.Layout.{Layout}
-use Rattle.policy.specs.Record.{load}
-use Rattle.policy.specs.Tables.{Tables, Unmet, Waiting}
-use Rattle.policy.specs.Lookup.{Place, serviceAt, numberOf, serviceOf, serverOf}
-use Rattle.policy.specs.Draft.{callRow, grantRow, loadedNames, notServed, loadAt}
+use Rattle.policy.specs.Record.{load, proper}
+use Rattle.policy.specs.Causes.{answer}
+use Rattle.policy.specs.Tables.{Tables, Unmet, noTok}
+use Rattle.policy.specs.Draft.{Draft, Look, Services, grantRow, namedOn, leftBy, loadAt, draft}
+use Rattle.policy.specs.Judge.{tableCauses}
 use Rattle.policy.specs.History.{FourSets}
-use Rattle.policy.proofs.Sets.{and-l, and-r, test, not-i, keep-in, in-keep, in-map, map-in}
-use Rattle.policy.proofs.Equal.{eqAid→, row-path, has-tok}
+use Rattle.policy.specs.ShortCheck.{shortLoad, shortLook}
+use Rattle.policy.proofs.Sets.{T-false, not-i, no-members, in-row, keep-ext, map-in}
 use Rattle.policy.proofs.Put.{by-number}
-use Rattle.policy.proofs.Formed.{ProvidesAt, at, RowAt, GrantAt, HasContract, Stands, Turns, KindTurns}
-use Rattle.policy.proofs.Found.{NumberIs, ServiceIs, ServerIs, number-is, service-is, server-is}
-use Rattle.policy.proofs.Facts.{provides-kept}
-use Rattle.policy.proofs.LoadNames.{Newcomer, Loaded, loaded, service-old, tok-in, in-tok, load-reached}
-use Rattle.policy.proofs.LoadBits.{Named, CallIs, GrantIs, call-is, grant-is, need-new, need-old}
-use Rattle.policy.proofs.LoadFormed.{unmetStill, waitedFor, waitsStill, leftOff, bothThere, waitsNew, waitingFor, each-left, names-on, left-off, each-unmet, each-waiting, load-formed}
+use Rattle.policy.proofs.Formed.{Bits, Formed, HasContract, Stands, Turns, KindTurns}
+use Rattle.policy.proofs.Found.{NumberIs, FreeIs}
+use Rattle.policy.proofs.Facts.{need-bits}
+use Rattle.policy.proofs.Reach.{reach-1}
+use Rattle.policy.proofs.Dropped.{left-in}
+use Rattle.policy.proofs.BroughtNames.{ServicesAt, lists-of, Coming, on, dropped, nowMet, waitedFor, leftOff, waitsNew, metBit, waitedBit, grantedBit, broughtAt, Brought, brought}
+use Rattle.policy.proofs.BroughtFormed.{brought-formed, brought-lost}
+use Rattle.policy.proofs.BroughtStands.{has-new, has-old}
 
-module _ (L : Layout) (t : Tables) (m : ℕ) (k : Contract) (new : Newcomer L t m k) (valid : T (validAid (k .aid))) where
-  abbrev on : Tables
-  on = loadedNames L t m k
+-- ---- elements by their index
+module _ {A : Type 0} (d : A) where
+  in-getD : {x : A} {l : List A} → In x l → (y : ℕ) × (y < length l) × (getD l y d ≡ x)
+  in-getD (here e) = (zero, suc-le-suc zero-le, sym e)
+  in-getD (there m) = let p = in-getD m in (suc (p .0), suc-le-suc (p .1), p .2)
 
-  abbrev after : Tables
-  after = loadAt L t m k .tables
+  getD-inj : (l : List A) → NoRepeat l → (y z : ℕ) → y < length l → z < length l → getD l y d ≡ getD l z d → y ≡ z
+  getD-inj [] n y z a b e = absurd (not-suc-le-zero a)
+  getD-inj (x ∷ l) n zero zero a b e = refl
+  getD-inj (x ∷ l) n zero (suc z) a b e = absurd (n .0 (in-cast e (in-row l z d (le-of-suc-le-suc b))))
+  getD-inj (x ∷ l) n (suc y) zero a b e = absurd (n .0 (in-cast (sym e) (in-row l y d (le-of-suc-le-suc a))))
+  getD-inj (x ∷ l) n (suc y) (suc z) a b e = ap suc (getD-inj l (n .1) y z (le-of-suc-le-suc a) (le-of-suc-le-suc b) e)
 
-  abbrev lost : List Unmet
-  lost = loadAt L t m k .lost
+-- ---- 'Its services take 0, 1, 2 in record order'
+abbrev pub inOrder : List Tok → Services
+inOrder p = record { tok = λ y. getD p y noTok; provides = λ y. ltb y (length p) }
 
-  l : Loaded L t m k
-  l = loaded L t m k new
+-- a bit stays, or comes, where there was none before
+bit-comes : (b o d w : Bool) → (T b → T o → ⊥) → cond b w o ≡ ((o && not (b && d)) || (b && w))
+bit-comes true true d w n = absurd (n tt tt)
+bit-comes true false d w n = refl
+bit-comes false true d w n = refl
+bit-comes false false d w n = refl
 
-  -- ---- the newcomer's calls and needs: a bit where the service is on the card, else a row
-  rows-new : (rs : List Row) (b : ℕ → ℕ → ℕ → Bool) (us : List Unmet) → ((y z : ℕ) → T (b m y z) ↔ Named L t m k rs y z)
-      → ((r : Row) → In (callRow m r) us ↔ In (callRow m r) (leftOff L t m k rs)) → (r : Row) → In r rs ↔ RowAt after b us m r
-  rows-new rs b us bits rows r =
-      ((λ i. to i (serverOf L on r) (server-is L on (names-on L t m k new valid) r) (λ s. rows r .1 (in-map (callRow m) (in-keep (notServed L t m k) i s)))), back)
-    where
-      to : In r rs → (o : Option Place) → ServerIs on r o → (T (not (isSome o)) → In (callRow m r) us) → RowAt after b us m r
-      to i none h f = RowAt.row (f tt)
-      to i (some p) h f =
-          let e : serviceAt on (p .callee) (p .service) ≡ r = row-path (h .1) (h .2) in
-          RowAt.bit (p .callee) (p .service) (bits (p .callee) (p .service) .1 (h .0, in-cast e i)) (sym e)
+grant-comes : (b o w : Bool) → (T b → T o → ⊥) → cond b w o ≡ (o || (b && w))
+grant-comes true true w n = absurd (n tt tt)
+grant-comes true false w n = refl
+grant-comes false true w n = refl
+grant-comes false false w n = refl
 
-      back : RowAt after b us m r → In r rs
-      back (RowAt.bit y z h e) = in-cast e (bits y z .0 h .1)
-      back (RowAt.row i) = each-left L t m k (λ (u : Unmet). (e : callRow m r ≡ u) → In r rs) rs
-          (λ s j n e. in-cast (row-path (ap (λ (u : Unmet). u .callee) e) (ap (λ (u : Unmet). u .tok) e)) j) (callRow m r) (rows r .0 i) refl
+bit-stays : (b o d : Bool) → (T b → T o → ⊥) → o ≡ (o && not (b && d))
+bit-stays true true d n = absurd (n tt tt)
+bit-stays true false d n = refl
+bit-stays false true d n = refl
+bit-stays false false d n = refl
 
-  grants-new : (r : Row) → In r (k .grants) ↔ GrantAt after m r
-  grants-new r = (
-    (λ i. to i (numberOf L t (r .aid)) (number-is L t (new .formed .names) (r .aid)) (test (hasTok (r .tok) (k .provides)))
-        (λ s. in-right (keep (waitsStill L t m k) (t .waiting)) (in-map (waitingFor L t m k) (in-keep (waitsNew L t m k) i (not-i (bothThere L t m k r) s))))),
-    back,
-  )
-    where
-      to : In r (k .grants) → (o : Option ℕ) → NumberIs t (r .aid) o → T (hasTok (r .tok) (k .provides)) ⊎ (T (hasTok (r .tok) (k .provides)) → ⊥)
-          → ((T (isSome o && hasTok (r .tok) (k .provides)) → ⊥) → In (waitingFor L t m k r) (after .waiting)) → GrantAt after m r
-      to i none h c f = GrantAt.row (f (λ x. x))
-      to i (some x) h (inr c) f = GrantAt.row (f c)
-      to i (some x) h (inl c) f =
-          let q = in-tok L t m k new (has-tok (r .tok) (k .provides) c) in
-          GrantAt.bit x (q .0) (grant-is L t m k new m x (q .0) .1 (GrantIs.own refl (q .1) (h .0) (in-cast (row-path (h .1) (q .2)) i)))
-          (sym (h .1) ∙ sym (l .aid-old x (l .old-ne x (h .0)))) (sym (q .2))
+module _ (L : Layout) (t : Tables) (m : ℕ) (k : Contract) (formed : Formed L t) (free : T (t .used m) → ⊥) where
+  abbrev now : Services
+  now = inOrder (k .provides)
 
-      bits : (x z : ℕ) → r .aid ≡ on .aid x → r .tok ≡ on .tok m z → GrantIs L t m k m x z → In r (k .grants)
-      bits x z e f (GrantIs.own q p u i) = in-cast (row-path (e ∙ l .aid-old x (l .old-ne x u)) f) i
-      bits x z e f (GrantIs.waited q p i) = absurd (l .prov-ne m z p refl)
-      bits x z e f (GrantIs.old h) = absurd (l .prov-ne m z (new .formed .grants .of-prov x m z h) refl)
+  -- no bit and no row has the number
+  no-prov : (z : ℕ) → T (t .provides m z) → ⊥
+  no-prov z p = free (formed .names .prov-used m z p)
 
-      back : GrantAt after m r → In r (k .grants)
-      back (GrantAt.bit x z h e f) = bits x z e f (grant-is L t m k new m x z .0 h)
-      back (GrantAt.row i) =
-          each-waiting L t m k new valid (λ (v : Waiting). grantRow m r ≡ v → In r (k .grants))
-          (λ v j s e. absurd (l .old-ne (v .callee) (new .formed .waiting .wait-used v j) (sym (ap (λ (x : Waiting). x .callee) e))))
-          (λ s j n e. in-cast (row-path (ap (λ (x : Waiting). x .caller) e) (ap (λ (x : Waiting). x .tok) e)) j) (grantRow m r) i refl
+  on-free : {b : ℕ → ℕ → ℕ → Bool} → Bits (t .used) (t .provides) b → (x y z : ℕ) → T (eqb y m) → T (b x y z) → ⊥
+  on-free {b} bits x y z e h = no-prov z (subst (λ (j : ℕ). T (t .provides j z)) (eqb→eq y m e) (bits .of-prov x y z h))
 
-  has-new : HasContract after lost m k
-  has-new = record {
-    aid = sym (l .aid-new);
-    provides = λ s. ((λ i. let q = in-tok L t m k new i in at (q .0) (q .1) (sym (q .2))), back);
-    calls = rows-new (k .calls) (after .calls) (after .unmet) calls-named calls-left;
-    grants = grants-new;
-    needs = rows-new (k .needs) (after .needs) lost (need-new L t m k new) (λ r. ((λ i. i), (λ i. i)));
+  not-free : (x : ℕ) → T (t .used x) → (d : Bool) → d ≡ (eqb x m || d)
+  not-free x u d = ap (λ (b : Bool). b || d) (sym (T-false (eqb x m) (λ e. free (subst (λ (z : ℕ). T (t .used z)) (eqb→eq x m e) u))))
+
+  nothing-left : {b : ℕ → ℕ → ℕ → Bool} → Bits (t .used) (t .provides) b → leftBy L t b m (dropped L t m k now) ≡ []
+  nothing-left {b} bits = no-members (leftBy L t b m (dropped L t m k now))
+      (λ u i. let p = left-in L t (formed .names) m (dropped L t m k now) b bits i in no-prov (p .1) (bits .of-prov (p .0) m (p .1) (p .2)))
+
+  -- the load's draft is that of a contract brought to the number
+  pub load-is : loadAt L t m k ≡ broughtAt L t m k now
+  load-is = λ i. record {
+    tables = record {
+      used = on L t m k now .used;
+      aid = on L t m k now .aid;
+      tok = on L t m k now .tok;
+      provides = on L t m k now .provides;
+      calls = λ x y z. cond (eqb x m) (namedOn (on L t m k now) (k .calls) y z) (bit-comes (eqb y m) (t .calls x y z) (dropped L t m k now z) (metBit L t m k now x z) (on-free (formed .calls) x y z) i);
+      grants = λ x y z. cond (eqb x m) (grantedBit L t m k now y z) (grant-comes (eqb y m) (t .grants x y z) (waitedBit L t m k now x z) (by-free x y z) i);
+      needs = λ x y z. cond (eqb x m) (namedOn (on L t m k now) (k .needs) y z) (bit-stays (eqb y m) (t .needs x y z) (dropped L t m k now z) (on-free (need-bits L t formed) x y z) i);
+      unmet = keep-ext (λ u. not (nowMet L t m k now u)) (λ u. not (eqb (u .caller) m || nowMet L t m k now u)) (t .unmet)
+          (λ u h. ap not (not-free (u .caller) (formed .unmet .off .off-used u h) (nowMet L t m k now u))) i
+          ++ none-more (leftOff L t m k now (k .calls)) (nothing-left (formed .calls)) i;
+      waiting = keep-ext (λ w. not (waitedFor L t m k now w)) (λ w. not (eqb (w .callee) m || waitedFor L t m k now w)) (t .waiting)
+          (λ w h. ap not (not-free (w .callee) (formed .waiting .wait-used w h) (waitedFor L t m k now w))) i ++ map (grantRow m) (keep (waitsNew L t m k now) (k .grants));
+    };
+    lost = none-more (leftOff L t m k now (k .needs)) (nothing-left (need-bits L t formed)) i;
   }
     where
-      back : {s : Tok} → ProvidesAt after m s → In s (k .provides)
-      back (at y p e) = in-cast e (tok-in L t m k new y p)
+      by-free : (x y z : ℕ) → T (eqb y m) → T (t .grants x y z) → ⊥
+      by-free x y z e h = free (subst (λ (j : ℕ). T (t .used j)) (eqb→eq y m e) (formed .grants .by-used y x z h))
 
-      calls-named : (y z : ℕ) → T (after .calls m y z) ↔ Named L t m k (k .calls) y z
-      calls-named y z = ((λ h. named (call-is L t m k new m y z .0 h)), (λ h. call-is L t m k new m y z .1 (CallIs.own refl h)))
-        where
-          named : CallIs L t m k m y z → Named L t m k (k .calls) y z
-          named (CallIs.own e h) = h
-          named (CallIs.met e p i) = absurd (new .free (new .formed .unmet .off .off-used (callRow m (serviceAt on m z)) i))
-          named (CallIs.old h) = absurd (new .free (new .formed .calls .by-used m y z h))
+      none-more : (l : List Unmet) {r : List Unmet} → r ≡ [] → l ≡ l ++ r
+      none-more l e = sym (append-nil l) ∙ ap (λ (x : List Unmet). l ++ x) (sym e)
 
-      calls-left : (r : Row) → In (callRow m r) (after .unmet) ↔ In (callRow m r) (leftOff L t m k (k .calls))
-      calls-left r = ((λ i. left (in-append (keep (unmetStill L t m k) (t .unmet)) i)), in-right (keep (unmetStill L t m k) (t .unmet)))
-        where
-          left : In (callRow m r) (keep (unmetStill L t m k) (t .unmet)) ⊎ In (callRow m r) (leftOff L t m k (k .calls)) → In (callRow m r) (leftOff L t m k (k .calls))
-          left (inl i) = absurd (new .free (new .formed .unmet .off .off-used (callRow m r) (keep-in (unmetStill L t m k) (t .unmet) i .0)))
-          left (inr i) = i
+  -- ---- the places
+  placed-load : NoRepeat (k .provides) → length (k .provides) ≤ L .services → ServicesAt L t m (k .provides) now
+  placed-load once fit =
+      let p = k .provides in
+      let n = length p in
+      record {
+        prov-lt = λ y h. let q = ltb→lt y n h in omega (arith, fit);
+        tok-in = λ y h. in-row p y noTok (ltb→lt y n h);
+        in-tok = λ s i. let q = in-getD noTok i in (q .0, lt→ltb (q .0) n (q .1), q .2);
+        tok-inj = λ y z a b. getD-inj noTok p once y z (ltb→lt y n a) (ltb→lt z n b);
+        tok-blank = λ y h. List·getD-eq-default p noTok (nltb→le y n (not-i (ltb y n) h));
+        stays = λ y h i. absurd (no-prov y h);
+      }
 
-  -- ---- the others: calls that the newcomer meets and grants that waited for it turn into bits, and everything else stays
-  module _ (n : ℕ) (u : T (t .used n)) where
-    n-ne : n ≡ m → ⊥
-    n-ne = l .old-ne n u
+-- ---- a load that causes 3, 4 and 7 let pass has such a draft
+module _ (L : Layout) (t : Tables) (a : Aid) (p : List Tok) (c g n : List Row) where
+  abbrev contract : Contract
+  contract = record { aid = a; provides = p; calls = c; grants = g; needs = n }
 
-    provides-old : (s : Tok) → ProvidesAt t n s ↔ ProvidesAt after n s
-    provides-old = provides-kept t after n (l .prov-old n) (λ y. l .prov-back n y n-ne) (λ y. sym (l .tok-old n y n-ne))
+  pub newcomer : Formed L t → length p ≤ L .services → T (proper L a (load p c g n)) → (m : ℕ) → NumberIs t a none → FreeIs (L .packages) (t .used) (some m)
+      → Coming L t m contract (inOrder p)
+  unfolding proper
+  newcomer f fit pr m away fr =
+      let ls = lists-of L a p c g n pr in
+      record {
+        formed = f;
+        number-lt = fr .0;
+        own-aid = λ u. absurd (fr .1 u);
+        only = λ x u e. absurd (away x u e);
+        lists = ls;
+        placed = placed-load L t m contract f (fr .1) (ls .sets .provides) fit;
+      }
 
-    calls-old : (r : Row) → RowAt t (t .calls) (t .unmet) n r ↔ RowAt after (after .calls) (after .unmet) n r
-    calls-old r = (to, back)
-      where
-        asks : Bool
-        asks = eqAid (r .aid) (k .aid) && hasTok (r .tok) (k .provides)
+  pub load-reached : (P : Draft → Look → Type 0) → Formed L t → length p ≤ L .services → T (proper L a (load p c g n))
+      → ((m : ℕ) → FreeIs (L .packages) (t .used) (some m) → ((x : ℕ) → T (t .used x) → t .aid x ≡ a → ⊥) → Coming L t m contract (inOrder p) → P (broughtAt L t m contract (inOrder p)) (shortLoad L t contract))
+      → answer (tableCauses L t a (load p c g n)) ≡ 0 → P (draft L t a (load p c g n)) (shortLook L t a (load p c g n))
+  load-reached P f fit pr h = reach-1 L t f a P p c g n (λ m away fr.
+      subst (λ (d : Draft). P d (shortLoad L t contract)) (sym (load-is L t m contract f (fr .1))) (h m fr away (newcomer f fit pr m away fr)))
 
-        turns : In (callRow n r) (t .unmet) → T asks ⊎ (T asks → ⊥) → RowAt after (after .calls) (after .unmet) n r
-        turns i (inl s) =
-            let e : r .aid ≡ k .aid = eqAid→ (r .aid) (k .aid) (and-l (eqAid (r .aid) (k .aid)) (hasTok (r .tok) (k .provides)) s) in
-            let q = in-tok L t m k new (has-tok (r .tok) (k .provides) (and-r (eqAid (r .aid) (k .aid)) (hasTok (r .tok) (k .provides)) s)) in
-            let f : r ≡ serviceAt on m (q .0) = row-path (e ∙ sym (l .aid-new)) (sym (q .2)) in
-            RowAt.bit m (q .0) (call-is L t m k new n m (q .0) .1 (CallIs.met refl (q .1) (in-cast (ap (callRow n) (sym f)) i))) f
-        turns i (inr h) = RowAt.row (in-left (leftOff L t m k (k .calls)) (in-keep (unmetStill L t m k) i (not-i asks h)))
+module _ (L : Layout) (t : Tables) (m : ℕ) (k : Contract) (now : Services) (new : Coming L t m k now) (valid : T (validAid (k .aid)))
+    (free : T (t .used m) → ⊥) (absent : (x : ℕ) → T (t .used x) → t .aid x ≡ k .aid → ⊥) where
+  l : Brought L t m k now
+  l = brought L t m k now new
 
-        to : RowAt t (t .calls) (t .unmet) n r → RowAt after (after .calls) (after .unmet) n r
-        to (RowAt.bit y z h e) = RowAt.bit y z (call-is L t m k new n y z .1 (CallIs.old h)) (e ∙ sym (service-old L t m k new y z (new .formed .calls .of-prov n y z h)))
-        to (RowAt.row i) = turns i (test asks)
+  abbrev Has : ℕ → Contract → Type 0
+  Has = HasContract (broughtAt L t m k now .tables) (broughtAt L t m k now .lost)
 
-        bits : (y z : ℕ) → r ≡ serviceAt on y z → CallIs L t m k n y z → RowAt t (t .calls) (t .unmet) n r
-        bits y z e (CallIs.own q h) = absurd (n-ne q)
-        bits y z e (CallIs.met q p i) = RowAt.row (in-cast (ap (callRow n) (e ∙ ap (λ (j : ℕ). serviceAt on j z) q)) i)
-        bits y z e (CallIs.old h) = RowAt.bit y z h (e ∙ service-old L t m k new y z (new .formed .calls .of-prov n y z h))
-
-        back : RowAt after (after .calls) (after .unmet) n r → RowAt t (t .calls) (t .unmet) n r
-        back (RowAt.bit y z h e) = bits y z e (call-is L t m k new n y z .0 h)
-        back (RowAt.row i) = RowAt.row
-            (each-unmet L t m k new valid (λ (v : Unmet). (v .caller ≡ m → ⊥) → In v (t .unmet)) (λ v j s h. j) (λ s j q h. absurd (h refl)) (callRow n r) i n-ne)
-
-    grants-old : (r : Row) → GrantAt t n r ↔ GrantAt after n r
-    grants-old r = (to, back)
-      where
-        turns : In (grantRow n r) (t .waiting) → (o : Option ℕ) → ServiceIs t n (r .tok) o → T (eqAid (r .aid) (k .aid)) ⊎ (T (eqAid (r .aid) (k .aid)) → ⊥)
-            → ((T (eqAid (r .aid) (k .aid) && isSome o) → ⊥) → In (grantRow n r) (after .waiting)) → GrantAt after n r
-        turns i o h (inr ne) f = GrantAt.row (f (λ x. ne (and-l (eqAid (r .aid) (k .aid)) (isSome o) x)))
-        turns i none h (inl s) f = GrantAt.row (f (λ x. and-r (eqAid (r .aid) (k .aid)) false x))
-        turns i (some z) h (inl s) f =
-            let e : r .aid ≡ k .aid = eqAid→ (r .aid) (k .aid) s in
-            GrantAt.bit m z (grant-is L t m k new n m z .1 (GrantIs.waited refl (h .0) (in-cast (λ x. record { caller = sym e x; callee = n; tok = h .1 x }) i)))
-            (e ∙ sym (l .aid-new)) (sym (h .1) ∙ sym (l .tok-old n z n-ne))
-
-        to : GrantAt t n r → GrantAt after n r
-        to (GrantAt.bit x z h e f) = GrantAt.bit x z (grant-is L t m k new n x z .1 (GrantIs.old h))
-            (e ∙ sym (l .aid-old x (l .old-ne x (new .formed .grants .by-used x n z h)))) (f ∙ sym (l .tok-old n z n-ne))
-        to (GrantAt.row i) = turns i (serviceOf L t n (r .tok)) (service-is L t (new .formed .names) n (r .tok)) (test (eqAid (r .aid) (k .aid)))
-            (λ h. in-left (map (waitingFor L t m k) (keep (waitsNew L t m k) (k .grants))) (in-keep (waitsStill L t m k) i (not-i (waitedFor L t m k (grantRow n r)) h)))
-
-        bits : (x z : ℕ) → r .aid ≡ on .aid x → r .tok ≡ t .tok n z → GrantIs L t m k n x z → GrantAt t n r
-        bits x z e f (GrantIs.own q p w i) = absurd (n-ne q)
-        bits x z e f (GrantIs.waited q p i) = GrantAt.row (in-cast (λ y. record { caller = (e ∙ ap (on .aid) q ∙ l .aid-new) y; callee = n; tok = f y }) i)
-        bits x z e f (GrantIs.old h) = GrantAt.bit x z h (e ∙ l .aid-old x (l .old-ne x (new .formed .grants .by-used x n z h))) f
-
-        back : GrantAt after n r → GrantAt t n r
-        back (GrantAt.bit x z h e f) = bits x z e (f ∙ l .tok-old n z n-ne) (grant-is L t m k new n x z .0 h)
-        back (GrantAt.row i) = GrantAt.row
-            (each-waiting L t m k new valid (λ (w : Waiting). (w .callee ≡ m → ⊥) → In w (t .waiting)) (λ w j s h. j) (λ s j q h. absurd (h refl)) (grantRow n r) i n-ne)
-
-    needs-old : (r : Row) → RowAt t (t .needs) [] n r ↔ RowAt after (after .needs) lost n r
-    needs-old r = (to, back)
-      where
-        place : (y z : ℕ) → T (t .needs n y z) → serviceAt on y z ≡ serviceAt t y z
-        place y z h = service-old L t m k new y z (new .formed .calls .of-prov n y z (new .formed .need-call n y z h))
-
-        to : RowAt t (t .needs) [] n r → RowAt after (after .needs) lost n r
-        to (RowAt.bit y z h e) = RowAt.bit y z (subst T (sym (need-old L t m k new n y z n-ne)) h) (e ∙ sym (place y z h))
-        to (RowAt.row i) = absurd (in-nil i)
-
-        back : RowAt after (after .needs) lost n r → RowAt t (t .needs) [] n r
-        back (RowAt.bit y z h e) = let g = subst T (need-old L t m k new n y z n-ne) h in RowAt.bit y z g (e ∙ place y z g)
-        back (RowAt.row i) = absurd (each-left L t m k (λ (v : Unmet). (v .caller ≡ m → ⊥) → ⊥) (k .needs) (λ s j q h. h refl) (callRow n r) i n-ne)
-
-    has-old : (c : Contract) → HasContract t [] n c → HasContract after lost n c
-    has-old c h = record {
-      aid = h .aid ∙ sym (l .aid-old n n-ne);
-      provides = λ s. Iff·trans (h .provides s) (provides-old s);
-      calls = λ r. Iff·trans (h .calls r) (calls-old r);
-      grants = λ r. Iff·trans (h .grants r) (grants-old r);
-      needs = λ r. Iff·trans (h .needs r) (needs-old r);
-    }
-
-  load-stands : (cs : List Contract) → Stands t [] cs → Stands after lost (k ∷ cs)
+  load-stands : (cs : List Contract) → Stands t [] cs → Stands (broughtAt L t m k now .tables) (broughtAt L t m k now .lost) (k ∷ cs)
   load-stands cs st = record {
     these = λ c i. these c (in-cons i);
-    no-others = λ n. by-number m (λ (x : ℕ). T (on .used x) → (c : Contract) × In c (k ∷ cs) × (c .aid ≡ on .aid x)) n
+    no-others = λ n. by-number m (λ (x : ℕ). T (on L t m k now .used x) → (c : Contract) × In c (k ∷ cs) × (c .aid ≡ on L t m k now .aid x)) n
         (λ u. (k, here refl, sym (l .aid-new)))
         (λ h u. let q = st .no-others n (l .used-back n h u) in (q .0, there (q .1), q .2 ∙ sym (l .aid-old n h)));
-    one-each = ((λ i. let q = map-in (λ c. c .aid) cs i in let h = st .these (q .0) (q .1) in new .absent (h .0) (h .1) (sym (h .2 .aid) ∙ sym (q .2))), st .one-each);
+    one-each = ((λ i. let q = map-in (λ c. c .aid) cs i in let h = st .these (q .0) (q .1) in absent (h .0) (h .1) (sym (h .2 .aid) ∙ sym (q .2))), st .one-each);
     four-sets = λ c i. four c (in-cons i);
   }
     where
-      these : (c : Contract) → (c ≡ k) ⊎ In c cs → (n : ℕ) × T (on .used n) × HasContract after lost n c
-      these c (inl e) = (m, l .used-new, subst (λ (x : Contract). HasContract after lost m x) (sym e) has-new)
-      these c (inr i) = let h = st .these c i in (h .0, l .used-old (h .0) (h .1), has-old (h .0) (h .1) c (h .2))
+      these : (c : Contract) → (c ≡ k) ⊎ In c cs → (n : ℕ) × T (on L t m k now .used n) × Has n c
+      these c (inl e) = (m, l .used-new, subst (Has m) (sym e) (has-new L t m k now new valid))
+      these c (inr i) =
+          let h = st .these c i in
+          (h .0, l .used-old (h .0) (h .1), has-old L t m k now new valid (h .0) (h .1) (λ e. free (subst (λ (z : ℕ). T (t .used z)) e (h .1))) c (h .2))
 
       four : (c : Contract) → (c ≡ k) ⊎ In c cs → FourSets c
-      four c (inl e) = subst FourSets (sym e) (new .sets)
+      four c (inl e) = subst FourSets (sym e) (new .lists .sets)
       four c (inr i) = st .four-sets c i
 
 pub kind-1 : (p : List Tok) (c g n : List Row) → KindTurns (load p c g n)
 kind-1 p c g n L t cs a f st va v pr =
     let k : Contract = record { aid = a; provides = p; calls = c; grants = g; needs = n } in
     load-reached L t a p c g n (λ d _. Turns L d (k ∷ cs)) f (v .0 .0) pr
-    (λ m new. record {
-      formed = load-formed L t m k new va (λ r i. v .1 .1 r i .0) (λ r i. v .2 .1 r i .0);
-      lost-off = left-off L t m k new va n;
-      stands = load-stands L t m k new va cs st;
+    (λ m free away new. record {
+      formed = brought-formed L t m k (inOrder p) new va (λ r i. v .1 .1 r i .0) (λ r i. v .2 .1 r i .0);
+      lost-off = brought-lost L t m k (inOrder p) new va;
+      stands = load-stands L t m k (inOrder p) new va (free .1) away cs st;
     })

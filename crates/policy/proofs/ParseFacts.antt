@@ -12,11 +12,11 @@ use lib.Seq.{length-take-le, take-append-seam}
 use Rattle.policy.specs.Lists.{flat, orElse}
 use Rattle.policy.specs.Contract.{Aid, Tok, Row, validAid}
 use Rattle.policy.specs.Layout.{Layout}
-use Rattle.policy.specs.Record.{Change, addCall, removeCall, addGrant, removeGrant, addNeed, removeNeed, Request, Got, got, bad, Reader, andThen, _>>=_, done, given}
-use Rattle.policy.specs.Record.{byte, bytes, numberFrom, number, aid, tokens, rowOf, validTok, validTokens, validRow, many, counted, rowList, aLoad, aService, kinds, change, fields, whole, parse, firstAid}
+use Rattle.policy.specs.Record.{Change, load, addCall, removeCall, addGrant, removeGrant, addNeed, removeNeed, replace, Request, Got, got, bad, Reader, andThen, _>>=_, done, given}
+use Rattle.policy.specs.Record.{byte, bytes, numberFrom, number, aid, tokens, rowOf, validTok, validTokens, validRow, many, counted, rowList, aContract, aService, kinds, change, fields, whole, parse, firstAid}
 use Rattle.policy.specs.Tables.{writeNumber, writeTok}
 use Rattle.policy.specs.Judge.{aidBytes, rowBytes, rowsBytes}
-use Rattle.policy.specs.Records.{kindOf, ValidAid, ValidTok, ValidRow, AtMost, Bytes, changeBytes, bodyBytes, recordBytes, WithinChange, Within, ReadWritten}
+use Rattle.policy.specs.Records.{kindOf, ValidAid, ValidTok, ValidRow, AtMost, Bytes, contractBytes, changeBytes, bodyBytes, recordBytes, WithinContract, WithinChange, Within, ReadWritten}
 use Rattle.policy.specs.Claims.{FirstAidPart}
 use Rattle.policy.proofs.Sets.{and-l, and-r, each-cons}
 use Rattle.policy.proofs.Bits.{length-number}
@@ -190,15 +190,18 @@ module _ (L : Layout) where
       subst (λ (f : List Row → List ℕ). Reads (Took (AtMost (L .mostRows) (ValidRow L)) f s) (rowList L s)) (λ i l. number-append (L .countWidth) (length l) [] (flat rowBytes l) i)
       (reads-counted (ValidRow L) rowBytes (validRow L) reads-row (L .countWidth) (L .mostRows) (wide (L .countWidth)) (reads-number (L .countWidth)) s)
 
-  reads-load : ReadsChange 1 (aLoad L)
-  unfolding aLoad
-  reads-load s =
-      reads-then (Took (AtMost (L .services) (ValidTok L)) (λ l. length l ∷ flat writeTok l) s) (Changes 1 s) (counted 1 (L .services) (validTokens L) s) _
+  -- kinds 1 and 11
+  reads-contract : (k : ℕ) (f : List Tok → List Row → List Row → List Row → Change)
+      → ((p : List Tok) (c g n : List Row) (s u : List ℕ) → WithinContract L p c g n × Starts s (contractBytes L p c g n) u → Changes k s (f p c g n) u)
+      → ReadsChange k (aContract L f)
+  unfolding aContract
+  reads-contract k f is s =
+      reads-then (Took (AtMost (L .services) (ValidTok L)) (λ l. length l ∷ flat writeTok l) s) (Changes k s) (counted 1 (L .services) (validTokens L) s) _
       (reads-counted (ValidTok L) writeTok (validTokens L) reads-tokens 1 (L .services) (λ n. n ∷ []) reads-byte s) (λ p t hp.
-      reads-then (Rows t) (Changes 1 s) (rowList L t) _ (reads-rows t) (λ c u hc.
-      reads-then (Rows u) (Changes 1 s) (rowList L u) _ (reads-rows u) (λ g v hg.
-      reads-then (Rows v) (Changes 1 s) (rowList L v) _ (reads-rows v) (λ n w hn.
-      (refl, ((hp .0, hc .0, hg .0, hn .0), starts-then (hp .1) (starts-then (hc .1) (starts-then (hg .1) (hn .1)))))))))
+      reads-then (Rows t) (Changes k s) (rowList L t) _ (reads-rows t) (λ c u hc.
+      reads-then (Rows u) (Changes k s) (rowList L u) _ (reads-rows u) (λ g v hg.
+      reads-then (Rows v) (Changes k s) (rowList L v) _ (reads-rows v) (λ n w hn.
+      is p c g n s w ((hp .0, hc .0, hg .0, hn .0), starts-then (hp .1) (starts-then (hc .1) (starts-then (hg .1) (hn .1))))))))
 
   reads-service : ReadsChange 3 (aService L)
   unfolding aService
@@ -215,7 +218,7 @@ module _ (L : Layout) where
   reads-kinds = (
     (λ s. tt),
     (
-      reads-load,
+      reads-contract 1 load (λ p c g n s u h. (refl, h)),
       (
         (λ s. (refl, (tt, starts [] s refl))),
         (
@@ -230,7 +233,10 @@ module _ (L : Layout) where
                   reads-one 7 addGrant (λ r s u h. (refl, h)),
                   (
                     reads-one 8 removeGrant (λ r s u h. (refl, h)),
-                    (reads-one 9 addNeed (λ r s u h. (refl, h)), (reads-one 10 removeNeed (λ r s u h. (refl, h)), tt)),
+                    (
+                      reads-one 9 addNeed (λ r s u h. (refl, h)),
+                      (reads-one 10 removeNeed (λ r s u h. (refl, h)), (reads-contract 11 replace (λ p c g n s u h. (refl, h)), tt)),
+                    ),
                   ),
                 ),
               ),
@@ -241,14 +247,19 @@ module _ (L : Layout) where
     ),
   )
 
-  reads-change : (k : ℕ) → ReadsChange k (change L k)
+  -- of a kind that is read
+  reads-change : (k : ℕ) (s : List ℕ) → Reads (λ c u. T (L .reads k) × Changes k s c u) (change L k s)
   unfolding change
-  reads-change k = all-getD ReadsChange (kinds L) (λ s. bad) reads-kinds (λ k s. tt) k
+  reads-change k s =
+      let reader = getD (kinds L) k (λ s. bad) in
+      reads-given (λ c u. T (L .reads k) × Changes k s c u) (L .reads k) reader s
+      (λ on. reads-as (Changes k s) (λ c u. T (L .reads k) × Changes k s c u) (reader s) (λ c u h. (on, h)) (all-getD ReadsChange (kinds L) (λ s. bad) reads-kinds (λ k s. tt) k s))
 
   -- ---- the whole record: q was read from s, of l bytes by its head, and u follows
   record Facts (l : ℕ) (s : List ℕ) (q : Request) (u : List ℕ) : Type 0 where
     first : q .aid ≡ take (length (q .aid)) (drop 5 s)
     within : Within L q
+    is-read : T (L .reads (kindOf (q .change)))
     written : Starts s (writeNumber 2 l (L .version ∷ kindOf (q .change) ∷ bodyBytes L q)) u
     two-bytes : Bytes s → l < 256 ^ 2
 
@@ -261,13 +272,14 @@ module _ (L : Layout) where
   reads-fields l (h ∷ x ∷ v ∷ k ∷ s) =
       reads-then (λ a t. AidAt s a t × T test) (Facts l all) (given test aid s) _
       (reads-given (λ a t. AidAt s a t × T test) test aid s (λ e. reads-as (AidAt s) (λ a t. AidAt s a t × T test) (aid s) (λ a t ha. (ha, e)) (reads-aid-at s)))
-      (λ a t ha. reads-then (Changes k t) (Facts l all) (change L k t) _ (reads-change k t) (λ c u hc.
+      (λ a t ha. reads-then (λ c u. T (L .reads k) × Changes k t c u) (Facts l all) (change L k t) _ (reads-change k t) (λ c u (on, hc).
       let eq : n ≡ l = eqb→eq n l (and-l (eqb n l) (eqb v (L .version)) (ha .1)) in
       let ver : v ≡ L .version = eqb→eq v (L .version) (and-r (eqb n l) (eqb v (L .version)) (ha .1)) in
       let head : Starts (v ∷ k ∷ s) (L .version ∷ kindOf c ∷ aidBytes a) t = starts (L .version ∷ kindOf c ∷ aidBytes a) t (λ i. ver i ∷ sym (hc .0) i ∷ ha .0 .1 i) in
       record {
         first = sym (take-append-seam a t) ∙ ap (λ (z : List ℕ). take (length a) (drop 1 z)) (sym (ha .0 .1));
         within = (ha .0 .0, hc .1 .0);
+        is-read = subst (λ (z : ℕ). T (L .reads z)) (sym (hc .0)) on;
         written = starts-then (subst (λ (z : ℕ). Starts all (wide 2 z) (v ∷ k ∷ s)) eq (reads-number 2 all)) (starts-then head (hc .1 .1));
         two-bytes = λ b. let p = b h (here refl) in let q = b x (there (here refl)) in omega arith;
       }))
@@ -303,7 +315,7 @@ module _ (L : Layout) where
   read-written s q b e =
       let h = parsed s q e in (
         h .written .same b ∙ append-nil _ ∙ ap (λ (z : ℕ). writeNumber 2 z (after s q e)) (parsed-size s q e),
-        (h .within, subst (λ (z : ℕ). z < 256 ^ 2) (parsed-length s q e) (h .two-bytes b)),
+        (h .within, h .is-read, subst (λ (z : ℕ). z < 256 ^ 2) (parsed-length s q e) (h .two-bytes b)),
       )
 
 -- ---- the first AID

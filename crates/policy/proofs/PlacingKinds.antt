@@ -7,30 +7,33 @@ use mathlib.Core.Bool.{Bool, true, false, not, _&&_, _||_, cond}
 use mathlib.Core.List.{List, [], _∷_, _++_, map, map-id}
 use mathlib.Core.List.{List·Memᴰ as In, Memᴰ·cast as in-cast, Sublistᴰ as InOrder, Sublistᴰ·slnil as none-left, Sublistᴰ·cons-cons as stays, Sublistᴰ·refl as all-stay}
 use mathlib.Core.Option.{Option, none, some}
-use lib.Dec.{T, eqb}
+use lib.Dec.{T, eqb, ltb→lt, lt→ltb}
+use lib.ListN.{length}
 use Rattle.policy.specs.Lists.{keep, orElse}
 use Rattle.policy.specs.Contract.{Aid, Tok, eqTok, Row, Contract}
 use Rattle.policy.specs.Layout.{Layout}
-use Rattle.policy.specs.Record.{Change, load, remove, addService, removeService, addCall, removeCall, addGrant, removeGrant, addNeed, removeNeed, proper}
+use Rattle.policy.specs.Record.{Change, load, remove, addService, removeService, addCall, removeCall, addGrant, removeGrant, addNeed, removeNeed, replace, proper}
 use Rattle.policy.specs.Causes.{answer}
 use Rattle.policy.specs.Tables.{Tables, Unmet, Waiting}
 use Rattle.policy.specs.Lookup.{Place, Spot, numbers, places, serviceAt, wanted, grantAt, numberOf, freeNumber}
 use Rattle.policy.specs.Sound.{eqUnmet, eqWaiting}
-use Rattle.policy.specs.Draft.{Draft, Look, callRow, grantRow, hasWaiting, installedAid, nowGranted, leftBy, notServed, addCallAt, removeCallAt, addNeedAt, removeNeedAt, addGrantAt, removeGrantAt, addServiceAt, removeServiceAt, removeAt, loadAt, asksFor, draft, numberFor}
+use Rattle.policy.specs.Draft.{Draft, Look, Services, callRow, grantRow, hasWaiting, installedAid, nowGranted, leftBy, notServedOn, newServices, addCallAt, removeCallAt, addNeedAt, removeNeedAt, addGrantAt, removeGrantAt, addServiceAt, removeServiceAt, removeAt, loadAt, asksFor, draft, numberFor}
 use Rattle.policy.specs.Judge.{tableCauses}
 use Rattle.policy.specs.Numbering.{HasNumber, Numbered}
-use Rattle.policy.specs.Placing.{Lowest, Stay, ClosedUp, callsOf, grantsOf, callsOn, grantsBy, rule, Placed}
-use Rattle.policy.proofs.Sets.{and-l, or-r, not-e, each-map-keep, each-one, pairs, pairs-in}
-use Rattle.policy.proofs.Equal.{waiting-has}
-use Rattle.policy.proofs.Put.{by-number, NewPlace, new-place}
+use Rattle.policy.specs.Placing.{Lowest, Stay, following, ClosedUp, callsOf, grantsOf, callsOn, grantsBy, rule, Placed}
+use Rattle.policy.proofs.Sets.{and-l, or-l, or-r, not-e, keep-in, each-append, each-map-keep, each-one, pairs, pairs-in}
+use Rattle.policy.proofs.Equal.{eqb-of, waiting-has}
+use Rattle.policy.proofs.Put.{at-new, by-number, NewPlace, new-place}
 use Rattle.policy.proofs.Pieces.{in-or-off}
 use Rattle.policy.specs.Records.{WithinChange}
 use Rattle.policy.proofs.Formed.{Formed, ProvidesAt, at, RowAt, GrantAt}
 use Rattle.policy.proofs.Found.{NumberIs, FreeIs, free-number-is, number-is}
 use Rattle.policy.proofs.Facts.{bit-not-waiting}
 use Rattle.policy.proofs.Reach.{reach-2, reach-3, reach-4, reach-5, reach-6, reach-7, reach-8, reach-9, reach-10}
-use Rattle.policy.proofs.LoadNames.{Newcomer, Loaded, loaded, load-reached}
-use Rattle.policy.proofs.LoadFormed.{unmetStill, waitsStill, waitsNew}
+use Rattle.policy.proofs.BroughtNames.{Coming, dropped, nowMet, waitedFor, on, unmetStill, waitsStill, leftOff, waitsNew, broughtAt, Brought, brought}
+use Rattle.policy.proofs.KindLoad.{inOrder, load-is, load-reached}
+use Rattle.policy.proofs.PlacedServices.{taken-anew}
+use Rattle.policy.proofs.KindReplace.{replace-reached}
 use Rattle.policy.proofs.Dropped.{Without, left-in}
 use Rattle.policy.proofs.KindRemove.{dropping as package-dropped}
 use Rattle.policy.proofs.KindRemoveService.{dropping as service-dropped}
@@ -57,14 +60,14 @@ module _ (L : Layout) (t : Tables) (fm : Formed L t) (a : Aid) where
       go (some m) h = fm .names .aid-inj n m u (h .0) (e ∙ sym (h .1))
 
   -- a newcomer takes it
-  number-new : (m : ℕ) (k : Contract) → k .aid ≡ a → Newcomer L t m k → m ≡ numberFor L t a
+  number-new : (m : ℕ) → FreeIs (L .packages) (t .used) (some m) → ((x : ℕ) → T (t .used x) → t .aid x ≡ a → ⊥) → m ≡ numberFor L t a
   unfolding numberFor
-  number-new m k e new = go (numberOf L t a) (number-is L t (fm .names) a) (freeNumber L t) (free-number-is L t)
+  number-new m free away = go (numberOf L t a) (number-is L t (fm .names) a) (freeNumber L t) (free-number-is L t)
     where
       go : (o : Option ℕ) → NumberIs t a o → (f : Option ℕ) → FreeIs (L .packages) (t .used) f → m ≡ orElse o (orElse f 255 (λ n. n)) (λ n. n)
-      go none h none f = absurd (new .free (f m (new .number-lt)))
-      go none h (some n) f = lowest-one (t .used) m n (new .free, new .lower-used) (f .1, f .2)
-      go (some n) h f i = absurd (new .absent n (h .0) (h .1 ∙ sym e))
+      go none h none f = absurd (free .1 (f m (free .0)))
+      go none h (some n) f = lowest-one (t .used) m n (free .1, free .2) (f .1, f .2)
+      go (some n) h f i = absurd (away n (h .0) (h .1))
 
   -- what a kind has to show of the tables that it leaves and the number m
   abbrev pub Settles : Change → Tables → ℕ → Type 0
@@ -97,20 +100,20 @@ module _ (L : Layout) (t : Tables) (fm : Formed L t) (a : Aid) where
         → ClosedUp (t .unmet) u (rule t rowed m c .unmet) → ClosedUp (t .waiting) w (rule t rowed m c .waiting) → Settles c rowed m
     rows-settle c m h n x y = (
       h,
-      record { packages-stay = packages-in t (λ p v. inl (v, refl)); services-stay = services-in t (λ j k v. inl (v, refl)); numbers = n; unmet = x; waiting = y },
+      record { packages-stay = packages-in t (λ p v. inl (v, refl)); services-stay = λ j _. services-in t (λ j k v. inl (v, refl)) j; numbers = n; unmet = x; waiting = y },
     )
 
   -- lists in which nothing is new, whatever rows the record has
-  no-calls : (m : ℕ) (rows : List Row) {u : List Unmet} → InOrder u (t .unmet) → ClosedUp (t .unmet) u (callsOf m rows)
+  no-calls : (m : ℕ) (rows : List Row) {u : List Unmet} → InOrder u (t .unmet) → ClosedUp (t .unmet) u (following (callsOf m rows))
   no-calls m rows h = none-new h (none-recorded wanted (λ u. u .caller) m rows)
 
-  no-grants : (m : ℕ) (rows : List Row) {w : List Waiting} → InOrder w (t .waiting) → ClosedUp (t .waiting) w (grantsOf m rows)
+  no-grants : (m : ℕ) (rows : List Row) {w : List Waiting} → InOrder w (t .waiting) → ClosedUp (t .waiting) w (following (grantsOf m rows))
   no-grants m rows h = none-new h (none-recorded grantAt (λ w. w .callee) m rows)
 
-  same-calls : (m : ℕ) (rows : List Row) → ClosedUp (t .unmet) (t .unmet) (callsOf m rows)
+  same-calls : (m : ℕ) (rows : List Row) → ClosedUp (t .unmet) (t .unmet) (following (callsOf m rows))
   same-calls m rows = no-calls m rows (all-stay (t .unmet))
 
-  same-grants : (m : ℕ) (rows : List Row) → ClosedUp (t .waiting) (t .waiting) (grantsOf m rows)
+  same-grants : (m : ℕ) (rows : List Row) → ClosedUp (t .waiting) (t .waiting) (following (grantsOf m rows))
   same-grants m rows = no-grants m rows (all-stay (t .waiting))
 
   module _ (r : Row) (i : ℕ) (h : HasNumber t a i) where
@@ -121,6 +124,7 @@ module _ (L : Layout) (t : Tables) (fm : Formed L t) (a : Aid) where
           new = callRow i r ∷ [];
           is = refl;
           in-order = all-stay (t .unmet);
+          left = λ x m l. l;
           unseen = each-one (λ u. In u (t .unmet) → ⊥) (callRow i r) (λ m. fresh (RowAt.row m));
           ordered = (stays refl none-left, each-one (λ u. u .caller ≡ i) (callRow i r) refl);
         })
@@ -138,6 +142,7 @@ module _ (L : Layout) (t : Tables) (fm : Formed L t) (a : Aid) where
           new = grantRow i r ∷ [];
           is = refl;
           in-order = all-stay (t .waiting);
+          left = λ x m l. l;
           unseen = each-one (λ w. In w (t .waiting) → ⊥) (grantRow i r) (λ m. fresh (GrantAt.row m));
           ordered = (stays refl none-left, each-one (λ w. w .callee ≡ i) (grantRow i r) refl);
         })
@@ -163,22 +168,29 @@ module _ (L : Layout) (t : Tables) (fm : Formed L t) (a : Aid) where
     services-without : (y : ℕ) → Stay (t .provides y) (t .tok y) (t′ .provides y) (t′ .tok y)
     services-without = services-in t′ (λ y z p. inl (w .prov-old y z p, w .tok-same y z p))
 
-  left-placed : (j : ℕ) (d : ℕ → Bool) (stayed : List Unmet) → InOrder stayed (t .unmet) → ClosedUp (t .unmet) (stayed ++ leftBy L t (t .calls) j d) (callsOn t j)
+  left-unseen : (j : ℕ) (d : ℕ → Bool) (u : Unmet) → In u (leftBy L t (t .calls) j d) → In u (t .unmet) → ⊥
+  left-unseen j d u m n =
+      let x = left-in L t (fm .names) j d (t .calls) (fm .calls) m in
+      fm .unmet .off .off-card u n j (x .1) (fm .calls .of-prov (x .0) j (x .1) (x .2)) (sym (ap (λ (v : Unmet). v .callee) (x .4))) (sym (ap (λ (v : Unmet). v .tok) (x .4)))
+
+  left-ordered : (j : ℕ) (d : ℕ → Bool) → callsOn t j (leftBy L t (t .calls) j d)
+  left-ordered j d = by-numbers (λ i k. t .calls i j k && d k) (λ i k. callRow i (serviceAt t j k)) (λ i k. t .calls i j k) (λ i k b. and-l (t .calls i j k) (d k) b) (L .services) (L .packages)
+
+  left-placed : (j : ℕ) (d : ℕ → Bool) (stayed : List Unmet) → InOrder stayed (t .unmet) → ClosedUp (t .unmet) (stayed ++ leftBy L t (t .calls) j d) (following (callsOn t j))
   left-placed j d stayed h = record {
     stayed = stayed;
     new = leftBy L t (t .calls) j d;
     is = refl;
     in-order = h;
-    unseen = λ u m n.
-        let x = left-in L t (fm .names) j d (t .calls) (fm .calls) m in
-        fm .unmet .off .off-card u n j (x .1) (fm .calls .of-prov (x .0) j (x .1) (x .2)) (sym (ap (λ (v : Unmet). v .callee) (x .4))) (sym (ap (λ (v : Unmet). v .tok) (x .4)));
-    ordered = by-numbers (λ i k. t .calls i j k && d k) (λ i k. callRow i (serviceAt t j k)) (λ i k. t .calls i j k) (λ i k b. and-l (t .calls i j k) (d k) b) (L .services) (L .packages);
+    left = λ x m l. l;
+    unseen = left-unseen j d;
+    ordered = left-ordered j d;
   }
 
   remove-placed : (n : ℕ) → T (t .used n) → Placed t (removeAt L t n .tables) n remove
   remove-placed n un = record {
     packages-stay = packages-without (removeAt L t n .tables) n (λ z. true) gone;
-    services-stay = services-without (removeAt L t n .tables) n (λ z. true) gone;
+    services-stay = λ j _. services-without (removeAt L t n .tables) n (λ z. true) gone j;
     numbers = tt;
     unmet = left-placed n (λ z. true) (keep (λ u. not (eqb (u .caller) n)) (t .unmet)) (keep-order (λ u. not (eqb (u .caller) n)) (t .unmet));
     waiting = record {
@@ -186,6 +198,7 @@ module _ (L : Layout) (t : Tables) (fm : Formed L t) (a : Aid) where
       new = pairs waitFor (λ j. t .grants j n) (places L) (numbers L);
       is = refl;
       in-order = keep-order (λ w. not (eqb (w .callee) n)) (t .waiting);
+      left = λ x m l. l;
       unseen = λ w m o.
           let x = pairs-in waitFor (λ j. t .grants j n) (places L) (numbers L) m in
           bit-not-waiting L t fm n (x .0) (x .1) (x .2) (in-cast (sym (x .3)) o);
@@ -202,7 +215,7 @@ module _ (L : Layout) (t : Tables) (fm : Formed L t) (a : Aid) where
   remove-service-placed : (s : Tok) (j k : ℕ) → T (t .provides j k) → Placed t (removeServiceAt L t j k .tables) j (removeService s)
   remove-service-placed s j k p = record {
     packages-stay = packages-without (removeServiceAt L t j k .tables) j (λ z. eqb z k) gone;
-    services-stay = services-without (removeServiceAt L t j k .tables) j (λ z. eqb z k) gone;
+    services-stay = λ y _. services-without (removeServiceAt L t j k .tables) j (λ z. eqb z k) gone y;
     numbers = tt;
     unmet = left-placed j (λ z. eqb z k) (t .unmet) (all-stay (t .unmet));
     waiting = after (L .early);
@@ -216,12 +229,13 @@ module _ (L : Layout) (t : Tables) (fm : Formed L t) (a : Aid) where
 
       after : (b : Bool) → ClosedUp (t .waiting)
           (cond b (t .waiting ++ map (λ i. record { caller = t .aid i; callee = j; tok = t .tok j k }) (keep (λ i. t .grants j i k) (numbers L)))
-          (keep (λ w. not (eqb (w .callee) j && eqTok (w .tok) (t .tok j k))) (t .waiting))) (grantsBy t j)
+          (keep (λ w. not (eqb (w .callee) j && eqTok (w .tok) (t .tok j k))) (t .waiting))) (following (grantsBy t j))
       after true = record {
         stayed = t .waiting;
         new = map (λ i. waitOf i k) (keep (λ i. t .grants j i k) (numbers L));
         is = refl;
         in-order = all-stay (t .waiting);
+        left = λ x m l. l;
         unseen = each-map-keep (λ i. waitOf i k) (λ w. In w (t .waiting) → ⊥) (λ i. t .grants j i k) (numbers L) (λ i _ h. bit-not-waiting L t fm i j k h);
         ordered = by-firsts waitOf (t .grants j) (λ i. t .grants j i k) k (λ i h. h) (L .packages);
       }
@@ -241,7 +255,7 @@ module _ (L : Layout) (t : Tables) (fm : Formed L t) (a : Aid) where
     add-service-placed : Placed t served j (addService s l)
     add-service-placed = record {
       packages-stay = packages-in t (λ p v. inl (v, refl));
-      services-stay = services-in served (λ y z p. old-or-new y z (place .prov-cases y z p));
+      services-stay = λ y _. services-in served (λ y z p. old-or-new y z (place .prov-cases y z p)) y;
       numbers = (k, (free .1, free .2), place .new-prov, place .new-tok);
       unmet = no-calls j [] (keep-order (λ u. not (asksFor L t (t .aid j) s u)) (t .unmet));
       waiting = record {
@@ -249,6 +263,7 @@ module _ (L : Layout) (t : Tables) (fm : Formed L t) (a : Aid) where
         new = map waits (keep lone l);
         is = refl;
         in-order = keep-order (λ w. not (nowGranted L t j s w)) (t .waiting);
+        left = λ x m l. l;
         unseen = each-map-keep waits (λ w. In w (t .waiting) → ⊥) lone l
             (λ b _ h m. not-e (installedAid L t b || waiting b) h (or-r (installedAid L t b) (waiting b) (waiting-has m)));
         ordered = recorded waits lone grantAt (λ w. w .callee) j (λ b. record { aid = b; tok = s }) l (λ b _. refl) (λ b. refl);
@@ -272,48 +287,109 @@ module _ (L : Layout) (t : Tables) (fm : Formed L t) (a : Aid) where
         )
         old-or-new y z (inr p) = inl (p, place .old-tok y z p)
 
-  -- ---- kind 1: package m is new
+  -- ---- kinds 1 and 11: the contract comes to number m
   module _ (p : List Tok) (c g n : List Row) (m : ℕ) where
     abbrev contract : Contract
     contract = record { aid = a; provides = p; calls = c; grants = g; needs = n }
 
-    abbrev joined : Tables
-    joined = loadAt L t m contract .tables
+    module _ (now : Services) where
+      calls-ordered : callsOf m c (leftOff L t m contract now c)
+      calls-ordered = subst (λ (rows : List Row). callsOf m rows (leftOff L t m contract now c)) (map-id c)
+          (recorded (callRow m) (notServedOn L (on L t m contract now)) wanted (λ u. u .caller) m (λ r. r) c (λ r _. refl) (λ r. refl))
 
-    load-settles : Newcomer L t m contract → Settles (load p c g n) joined m
-    load-settles new = (
-      (on .used-new, on .aid-new),
+      grants-ordered : grantsOf m g (map (grantRow m) (keep (waitsNew L t m contract now) g))
+      grants-ordered = subst (λ (rows : List Row). grantsOf m rows (map (grantRow m) (keep (waitsNew L t m contract now) g))) (map-id g)
+          (recorded (grantRow m) (waitsNew L t m contract now) grantAt (λ w. w .callee) m (λ r. r) g (λ r _. refl) (λ r. refl))
+
+    -- kind 1: the number is new
+    load-settles : (free : FreeIs (L .packages) (t .used) (some m)) → ((x : ℕ) → T (t .used x) → t .aid x ≡ a → ⊥) → Coming L t m contract (inOrder p)
+        → Settles (load p c g n) (loadAt L t m contract .tables) m
+    load-settles free away new = (
+      (l .used-new, l .aid-new),
       record {
         packages-stay = packages-in joined (λ x. by-number m (λ (x : ℕ). T (joined .used x) → OldOrNew (t .used) (t .aid) (joined .aid) x) x
-            (λ _. inr (new .free, λ y u e. new .absent y u (e ∙ on .aid-new))) (λ ne u. inl (on .used-back x ne u, on .aid-old x ne)));
-        services-stay = services-in joined (λ y z. by-number m (λ (y : ℕ). T (joined .provides y z) → OldOrNew (t .provides y) (t .tok y) (joined .tok y) z) y
-            (λ _. inr (λ q. on .prov-ne m z q refl, λ x q _. on .prov-ne m x q refl)) (λ ne q. inl (on .prov-back y z ne q, on .tok-old y z ne)));
-        numbers = ((new .free, new .lower-used), (λ k. (on .prov-is k, on .prov-new k)), λ k _. on .tok-new k);
+            (λ _. inr (free .1, λ y u e. away y u (e ∙ l .aid-new))) (λ ne u. inl (l .used-back x ne u, l .aid-old x ne)));
+        services-stay = λ j _. services-in joined (λ y z. by-number m (λ (y : ℕ). T (joined .provides y z) → OldOrNew (t .provides y) (t .tok y) (joined .tok y) z) y
+            (λ _. inr (no-service z, λ x q _. no-service x q)) (λ ne q. inl (l .prov-back y z ne q, l .tok-old y z ne))) j;
+        numbers = ((free .1, free .2), (λ k. (λ q. ltb→lt k (length p) (l .prov-is k q), λ q. l .prov-new k (lt→ltb k (length p) q))), λ k _. l .tok-new k);
         unmet = record {
-          stayed = keep (unmetStill L t m contract) (t .unmet);
-          new = map (callRow m) (keep (notServed L t m contract) c);
+          stayed = keep (λ u. not (nowMet L t m contract now u)) (t .unmet);
+          new = leftOff L t m contract now c;
           is = refl;
-          in-order = keep-order (unmetStill L t m contract) (t .unmet);
-          unseen = each-map-keep (callRow m) (λ u. In u (t .unmet) → ⊥) (notServed L t m contract) c (λ r _ _ o. new .free (fm .unmet .off .off-used (callRow m r) o));
-          ordered = subst (λ (rows : List Row). callsOf m rows (map (callRow m) (keep (notServed L t m contract) c))) (map-id c)
-              (recorded (callRow m) (notServed L t m contract) wanted (λ u. u .caller) m (λ r. r) c (λ r _. refl) (λ r. refl));
+          in-order = keep-order (λ u. not (nowMet L t m contract now u)) (t .unmet);
+          left = λ x m l. l;
+          unseen = each-map-keep (callRow m) (λ u. In u (t .unmet) → ⊥) (notServedOn L (on L t m contract now)) c (λ r _ _ o. free .1 (fm .unmet .off .off-used (callRow m r) o));
+          ordered = calls-ordered now;
         };
         waiting = record {
-          stayed = keep (waitsStill L t m contract) (t .waiting);
-          new = map (grantRow m) (keep (waitsNew L t m contract) g);
+          stayed = keep (λ w. not (waitedFor L t m contract now w)) (t .waiting);
+          new = map (grantRow m) (keep (waitsNew L t m contract now) g);
           is = refl;
-          in-order = keep-order (waitsStill L t m contract) (t .waiting);
-          unseen = each-map-keep (grantRow m) (λ w. In w (t .waiting) → ⊥) (waitsNew L t m contract) g (λ r _ _ o. new .free (fm .waiting .wait-used (grantRow m r) o));
-          ordered = subst (λ (rows : List Row). grantsOf m rows (map (grantRow m) (keep (waitsNew L t m contract) g))) (map-id g)
-              (recorded (grantRow m) (waitsNew L t m contract) grantAt (λ w. w .callee) m (λ r. r) g (λ r _. refl) (λ r. refl));
+          in-order = keep-order (λ w. not (waitedFor L t m contract now w)) (t .waiting);
+          left = λ x m l. l;
+          unseen = each-map-keep (grantRow m) (λ w. In w (t .waiting) → ⊥) (waitsNew L t m contract now) g (λ r _ _ o. free .1 (fm .waiting .wait-used (grantRow m r) o));
+          ordered = grants-ordered now;
         };
       },
     )
       where
-        on : Loaded L t m contract
-        on = loaded L t m contract new
+        now : Services
+        now = inOrder p
 
-  -- ---- the ten kinds
+        joined : Tables
+        joined = loadAt L t m contract .tables
+
+        l : Brought L t m contract now
+        l = brought L t m contract now new
+
+        no-service : (z : ℕ) → T (t .provides m z) → ⊥
+        no-service z q = free .1 (fm .names .prov-used m z q)
+
+    -- kind 11: the number is the package's
+    replace-settles : T (t .used m) → t .aid m ≡ a → length p ≤ L .services → Coming L t m contract (newServices L t m contract)
+        → Settles (replace p c g n) (broughtAt L t m contract (newServices L t m contract) .tables) m
+    replace-settles um am fit new = (
+      (l .used-new, l .aid-new),
+      record {
+        packages-stay = packages-in after (λ x. by-number m (λ (x : ℕ). T (after .used x) → OldOrNew (t .used) (t .aid) (after .aid) x) x
+            (λ _. inl (um, l .aid-kept m um)) (λ ne u. inl (l .used-back x ne u, l .aid-old x ne)));
+        services-stay = λ j ne. stay (t .provides j) (t .tok j) (after .tok j) (fm .names .tok-inj j) (after .provides j) (λ k q. inl (l .prov-back j k ne q, l .tok-old j k ne));
+        numbers = taken-anew L t m contract fm fit after (λ y. at-new m (now .provides y) (t .provides m y)) (l .tok-new);
+        unmet = record {
+          stayed = keep (unmetStill L t m contract now) (t .unmet);
+          new = leftOff L t m contract now c ++ leftBy L t (t .calls) m (dropped L t m contract now);
+          is = refl;
+          in-order = keep-order (unmetStill L t m contract now) (t .unmet);
+          left = λ u i e. not-e (eqb (u .caller) m || nowMet L t m contract now u) (keep-in (unmetStill L t m contract now) (t .unmet) i .1)
+              (or-l (eqb (u .caller) m) (nowMet L t m contract now u) (eqb-of e));
+          unseen = each-append {P = λ u. In u (t .unmet) → u .caller ≡ m} (leftOff L t m contract now c) (leftBy L t (t .calls) m (dropped L t m contract now))
+              (each-map-keep (callRow m) (λ u. In u (t .unmet) → u .caller ≡ m) (notServedOn L (on L t m contract now)) c (λ r _ _ _. refl))
+              (λ u i o. absurd (left-unseen m (dropped L t m contract now) u i o));
+          ordered = (leftOff L t m contract now c, leftBy L t (t .calls) m (dropped L t m contract now), refl, calls-ordered now, left-ordered m (dropped L t m contract now));
+        };
+        waiting = record {
+          stayed = keep (waitsStill L t m contract now) (t .waiting);
+          new = map (grantRow m) (keep (waitsNew L t m contract now) g);
+          is = refl;
+          in-order = keep-order (waitsStill L t m contract now) (t .waiting);
+          left = λ w i e. not-e (eqb (w .callee) m || waitedFor L t m contract now w) (keep-in (waitsStill L t m contract now) (t .waiting) i .1)
+              (or-l (eqb (w .callee) m) (waitedFor L t m contract now w) (eqb-of e));
+          unseen = each-map-keep (grantRow m) (λ w. In w (t .waiting) → w .callee ≡ m) (waitsNew L t m contract now) g (λ r _ _ _. refl);
+          ordered = grants-ordered now;
+        };
+      },
+    )
+      where
+        now : Services
+        now = newServices L t m contract
+
+        after : Tables
+        after = broughtAt L t m contract now .tables
+
+        l : Brought L t m contract now
+        l = brought L t m contract now new
+
+  -- ---- the eleven kinds
   module _ (c : Change) where
     abbrev Settled : Draft → Look → Type 0
     Settled d _ = Settles c (d .tables) (numberFor L t a)
@@ -323,8 +399,9 @@ module _ (L : Layout) (t : Tables) (fm : Formed L t) (a : Aid) where
     under {t′} n h = subst (Settles c t′) (number-here n (h .0) (h .1))
 
   pub settles : (c : Change) → WithinChange L c → T (proper L a c) → answer (tableCauses L t a c) ≡ 0 → Settles c (draft L t a c .tables) (numberFor L t a)
-  settles (load p c g n) v pr = load-reached L t a p c g n (Settled (load p c g n)) fm (v .0 .0) pr (λ m new.
-      subst (Settles (load p c g n) (joined p c g n m)) (number-new m (contract p c g n m) refl new) (load-settles p c g n m new))
+  settles (load p c g n) v pr = load-reached L t a p c g n (Settled (load p c g n)) fm (v .0 .0) pr (λ m free away new.
+      subst (λ (d : Draft). Settles (load p c g n) (d .tables) (numberFor L t a)) (load-is L t m (contract p c g n m) fm (free .1))
+      (subst (Settles (load p c g n) (loadAt L t m (contract p c g n m) .tables)) (number-new m free away) (load-settles p c g n m free away new)))
   settles remove v pr = reach-2 L t fm a (Settled remove) (λ n u e. under remove n (u, e) ((u, e), remove-placed n u))
   settles (addService s l) v pr =
       reach-3 L t fm a (Settled (addService s l)) s l (λ j k u e fresh free. under (addService s l) j (u, e) ((u, e), add-service-placed s l j k fresh free))
@@ -336,3 +413,5 @@ module _ (L : Layout) (t : Tables) (fm : Formed L t) (a : Aid) where
   settles (removeGrant r) v pr = reach-8 L t fm a (Settled (removeGrant r)) r (λ j u e o _. under (removeGrant r) j (u, e) (remove-grant r j (u, e) o))
   settles (addNeed r) v pr = reach-9 L t fm a (Settled (addNeed r)) r (λ i u e _ _ o _. under (addNeed r) i (u, e) (add-need r i (u, e) o))
   settles (removeNeed r) v pr = reach-10 L t fm a (Settled (removeNeed r)) r (λ i u e o _. under (removeNeed r) i (u, e) (remove-need r i (u, e) o))
+  settles (replace p c g n) v pr = replace-reached L t a p c g n (Settled (replace p c g n)) fm (v .0 .0) pr (λ m u e new.
+      under (replace p c g n) m (u, e) (replace-settles p c g n m u e (v .0 .0) new))

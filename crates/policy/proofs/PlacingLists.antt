@@ -9,7 +9,7 @@ use mathlib.Core.List.{Sublistᴰ as InOrder, Sublistᴰ·slnil as none-left, Su
 use lib.Dec.{T}
 use Rattle.policy.specs.Lists.{keep, flat, from, upto}
 use Rattle.policy.specs.Contract.{Row}
-use Rattle.policy.specs.Placing.{Stay, ClosedUp, AsRecorded, Below, GoesUp, ByNumber}
+use Rattle.policy.specs.Placing.{Stay, following, ClosedUp, AsRecorded, Below, GoesUp, ByNumber}
 use Rattle.policy.proofs.Sets.{keep-in, map-in, each-map-keep, flat-in, pairs, pairs-in, from-in}
 
 -- ---- numbers: each one afterwards is old and has its value, or is new and has a value that none had
@@ -36,8 +36,9 @@ module _ {A : Type 0} where
       go false h = leave h
 
   -- no row is new
-  pub none-new : {before after : List A} {Order : List A → Type 0} → InOrder after before → Order [] → ClosedUp before after Order
-  none-new {after} h o = record { stayed = after; new = []; is = sym (append-nil after); in-order = h; unseen = λ x m. absurd (in-nil m); ordered = o }
+  pub none-new : {before after : List A} {Order : List A → Type 0} → InOrder after before → Order [] → ClosedUp before after (following Order)
+  none-new {after} h o =
+      record { stayed = after; new = []; is = sym (append-nil after); in-order = h; left = λ x m l. l; unseen = λ x m. absurd (in-nil m); ordered = o }
 
   pub none-recorded : (row : A → Row) (owner : A → ℕ) (m : ℕ) (rows : List Row) → AsRecorded row owner m rows []
   none-recorded row owner m rows = (none-of rows, λ x n. absurd (in-nil n))

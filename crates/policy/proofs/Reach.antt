@@ -8,13 +8,13 @@ use lib.Dec.{T}
 use Rattle.policy.specs.Lists.{isSome, orElse}
 use Rattle.policy.specs.Contract.{Aid, Tok, Row, Contract, hasTok, hasRow}
 use Rattle.policy.specs.Layout.{Layout}
-use Rattle.policy.specs.Record.{Change, load, remove, addService, removeService, addCall, removeCall, addGrant, removeGrant, addNeed, removeNeed}
+use Rattle.policy.specs.Record.{Change, load, remove, addService, removeService, addCall, removeCall, addGrant, removeGrant, addNeed, removeNeed, replace}
 use Rattle.policy.specs.Causes.{Cause, _when_, answer}
 use Rattle.policy.specs.Tables.{Tables}
 use Rattle.policy.specs.Lookup.{Place, Spot, numberOf, serviceOf, serverOf, spotOf, freeNumber, freeService, contractAt}
-use Rattle.policy.specs.Draft.{Draft, Look, kept, addCallAt, removeCallAt, addNeedAt, removeNeedAt, addGrantAt, removeGrantAt, addServiceAt, removeServiceAt, removeAt, loadAt, draft}
+use Rattle.policy.specs.Draft.{Draft, Look, kept, addCallAt, removeCallAt, addNeedAt, removeNeedAt, addGrantAt, removeGrantAt, addServiceAt, removeServiceAt, removeAt, loadAt, replaceAt, draft}
 use Rattle.policy.specs.Judge.{absent, tableCauses}
-use Rattle.policy.specs.ShortCheck.{fine, shortAddCall, shortAddNeed, shortAddGrant, shortRemoveGrant, shortAddService, shortRemoveService, shortRemove, shortLoad, shortLook}
+use Rattle.policy.specs.ShortCheck.{fine, shortAddCall, shortAddNeed, shortAddGrant, shortRemoveGrant, shortAddService, shortRemoveService, shortRemove, shortLoad, shortReplace, shortLook}
 use Rattle.policy.proofs.Sets.{false-T, or-l, or-r, not-i, not-not, none-to, some-to}
 use Rattle.policy.proofs.Equal.{has-tok, tok-has, has-row, row-has}
 use Rattle.policy.proofs.Answers.{answer-zero}
@@ -147,3 +147,12 @@ module _ (L : Layout) (t : Tables) (f : Formed L t) (a : Aid) where
         at-six (λ o. P (orElse o (kept t) (λ i. removeNeedAt L t i r (serverOf L t r))) fine)
         (λ o. not (orElse o false (λ i. hasRow r (contractAt L t i .needs)))) e
         (λ i u ai _. h i u ai (serverOf L t r) (server-is L t (f .names) r))
+
+    pub reach-11 : (p : List Tok) (c g n : List Row)
+        → ((i : ℕ) → T (t .used i) → t .aid i ≡ a
+        → P (replaceAt L t i (record { aid = a; provides = p; calls = c; grants = g; needs = n })) (shortReplace L t i (record { aid = a; provides = p; calls = c; grants = g; needs = n })))
+        → Reaches (replace p c g n)
+    unfolding draft shortLook
+    reach-11 p c g n h e =
+        let k : Contract = record { aid = a; provides = p; calls = c; grants = g; needs = n } in
+        at-number (λ o. P (orElse o (kept t) (λ i. replaceAt L t i k)) (orElse o fine (λ i. shortReplace L t i k))) (λ o. []) e (λ i u ai _. h i u ai)

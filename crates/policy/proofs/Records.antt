@@ -5,15 +5,15 @@ use mathlib.Core.Path.{_≡_, refl}
 use mathlib.Core.List.{List}
 use mathlib.Core.List.{List·Memᴰ as In, List·Memᴰ·not-nil as in-nil}
 use mathlib.Core.Option.{Option, none, some}
-use lib.Dec.{lit≤}
+use lib.Dec.{T, lit≤}
 use lib.ListN.{length, replicate}
 use lib.Seq.{length-take-le}
 use Rattle.policy.specs.Contract.{Aid, Row}
 use Rattle.policy.specs.Layout.{Layout, LayoutOk, small}
-use Rattle.policy.specs.Record.{Request, load, parse}
+use Rattle.policy.specs.Record.{Request, Change, load, remove, addService, removeService, addCall, removeCall, addGrant, removeGrant, addNeed, removeNeed, replace, parse}
 use Rattle.policy.specs.Tables.{noTok}
 use Rattle.policy.specs.Judge.{readOut}
-use Rattle.policy.specs.Records.{ValidTok, ValidRow, AtMost, recordBytes, Within, longestRecord, LongestRecord}
+use Rattle.policy.specs.Records.{kindOf, ValidTok, ValidRow, AtMost, recordBytes, Within, longestRecord, LongestRecord}
 use Rattle.policy.proofs.Sets.{each-cons}
 use Rattle.policy.proofs.ParseFacts.{parsed-within, parsed-length}
 use Rattle.policy.proofs.Written.{written-read}
@@ -48,9 +48,23 @@ module _ (L : Layout) (lo : LayoutOk L) where
 pub small-longest : longestRecord small ≡ 4145
 small-longest = refl
 
+-- every kind is read
+small-reads : (c : Change) → T (small .reads (kindOf c))
+small-reads (load p c g n) = tt
+small-reads remove = tt
+small-reads (addService s l) = tt
+small-reads (removeService s) = tt
+small-reads (addCall r) = tt
+small-reads (removeCall r) = tt
+small-reads (addGrant r) = tt
+small-reads (removeGrant r) = tt
+small-reads (addNeed r) = tt
+small-reads (removeNeed r) = tt
+small-reads (replace p c g n) = tt
+
 -- two bytes hold the length of every record within its limits
 pub small-written-read : (q : Request) → Within small q → parse small (recordBytes small q) ≡ some q
-small-written-read q v = written-read small small-ok q (within-writable small (lit≤ tt) q v)
+small-written-read q v = written-read small small-ok q (within-writable small (lit≤ tt) q (small-reads (q .change)) v)
 
 -- and a load of as many bytes is read: every list at its limit, every AID of 16 bytes
 each-same : {A : Type 0} (P : A → Type 0) (n : ℕ) (x : A) → P x → (y : A) → In y (replicate n x) → P y

@@ -3,14 +3,15 @@ use Prim.Native.Nat.{ℕ, _+_, _*_, _^_, _≤_, _<_}
 use native.Mathlib.Omega.{arith}
 use native.Mathlib.Nat.{mul-le-mul-right}
 use mathlib.Core.List.{List, _∷_, _++_}
+use lib.Dec.{T}
 use lib.ListN.{length, length-append}
 use Rattle.policy.specs.Lists.{flat}
 use Rattle.policy.specs.Contract.{Aid, Tok, Row, Contract}
 use Rattle.policy.specs.Layout.{Layout, LayoutOk}
-use Rattle.policy.specs.Record.{Request, Change, load, remove, addService, removeService, addCall, removeCall, addGrant, removeGrant, addNeed, removeNeed}
+use Rattle.policy.specs.Record.{Request, Change, load, remove, addService, removeService, addCall, removeCall, addGrant, removeGrant, addNeed, removeNeed, replace}
 use Rattle.policy.specs.Tables.{writeTok}
 use Rattle.policy.specs.Judge.{aidBytes, rowBytes, rowsBytes}
-use Rattle.policy.specs.Records.{kindOf, requestOf, ValidAid, ValidTok, ValidRow, AtMost, changeBytes, bodyBytes, recordBytes, WithinChange, Within, Writable, longestLoad, longestRecord}
+use Rattle.policy.specs.Records.{kindOf, requestOf, ValidAid, ValidTok, ValidRow, AtMost, contractBytes, changeBytes, bodyBytes, recordBytes, WithinContract, WithinChange, Within, Writable, longestLoad, longestRecord}
 use Rattle.policy.proofs.Sets.{length-flat-le}
 use Rattle.policy.proofs.Pieces.{valid-short}
 use Rattle.policy.proofs.Bits.{length-number}
@@ -35,8 +36,8 @@ module _ (L : Layout) where
       let a = list-length (ValidRow L) rowBytes 19 (λ r v. row-length r (v .0)) (L .mostRows) l v in
       omega arith
 
-  load-length : (p : List Tok) (c g n : List Row) → WithinChange L (load p c g n) → length (changeBytes L (load p c g n)) ≤ longestLoad L
-  load-length p c g n v =
+  contract-length : (p : List Tok) (c g n : List Row) → WithinContract L p c g n → length (contractBytes L p c g n) ≤ longestLoad L
+  contract-length p c g n v =
       let e1 = length-append (length p ∷ flat writeTok p) (rowsBytes L c ++ (rowsBytes L g ++ rowsBytes L n)) in
       let e2 = length-append (rowsBytes L c) (rowsBytes L g ++ rowsBytes L n) in
       let e3 = length-append (rowsBytes L g) (rowsBytes L n) in
@@ -47,7 +48,7 @@ module _ (L : Layout) where
       omega arith
 
   change-length : (c : Change) → WithinChange L c → 21 + length (changeBytes L c) ≤ longestRecord L
-  change-length (load p c g n) v = let h = load-length p c g n v in omega arith
+  change-length (load p c g n) v = let h = contract-length p c g n v in omega arith
   change-length remove v = omega arith
   change-length (addService s l) v = let h = list-length ValidAid aidBytes 17 aid-length (L .mostCallers) l (v .1) in omega arith
   change-length (removeService s) v = omega arith
@@ -57,6 +58,7 @@ module _ (L : Layout) where
   change-length (removeGrant r) v = let h = row-length r (v .0) in omega arith
   change-length (addNeed r) v = let h = row-length r (v .0) in omega arith
   change-length (removeNeed r) v = let h = row-length r (v .0) in omega arith
+  change-length (replace p c g n) v = let h = contract-length p c g n v in omega arith
 
   -- head, first AID, and what follows
   parts-length : (q : Request) → ValidAid (q .aid) → length (recordBytes L q) ≤ 21 + length (changeBytes L (q .change))
@@ -70,14 +72,15 @@ module _ (L : Layout) where
   record-length q v = let a = parts-length q (v .0) in let b = change-length (q .change) (v .1) in omega arith
 
   -- two bytes hold every length, or that of every load
-  pub within-writable : longestRecord L < 256 ^ 2 → (q : Request) → Within L q → Writable L q
-  within-writable h q v = (v, let a = record-length q v in omega arith)
+  pub within-writable : longestRecord L < 256 ^ 2 → (q : Request) → T (L .reads (kindOf (q .change))) → Within L q → Writable L q
+  within-writable h q on v = (v, on, let a = record-length q v in omega arith)
 
   pub load-writable : LayoutOk L → (c : Contract) → Within L (requestOf c) → Writable L (requestOf c)
   load-writable lo c v = (
     v,
+    lo .load-read,
     let a = parts-length (requestOf c) (v .0) in
-        let b = load-length (c .provides) (c .calls) (c .grants) (c .needs) (v .1) in
+        let b = contract-length (c .provides) (c .calls) (c .grants) (c .needs) (v .1) in
         let f = lo .records-fit in
         omega arith,
   )

@@ -10,12 +10,12 @@ use lib.Dec.{T}
 use Rattle.policy.specs.Lists.{every, keep, distinct, NoRepeat}
 use Rattle.policy.specs.Contract.{Aid, eqAid, Tok, eqTok, Row, eqRow, Contract, hasTok, hasRow, under, installed}
 use Rattle.policy.specs.Layout.{Layout}
-use Rattle.policy.specs.Record.{Change, load, remove, addService, removeService, addCall, removeCall, addGrant, removeGrant, addNeed, removeNeed, notOwn, proper}
+use Rattle.policy.specs.Record.{Change, load, remove, addService, removeService, addCall, removeCall, addGrant, removeGrant, addNeed, removeNeed, replace, notOwn, properContract, proper}
 use Rattle.policy.specs.Causes.{_when_, answer}
 use Rattle.policy.specs.Machine.{altered, alter, effect, causes4to7}
 use Rattle.policy.specs.Tables.{Tables}
 use Rattle.policy.specs.Lookup.{wanted, grantAt}
-use Rattle.policy.specs.Records.{ValidTok, WithinChange}
+use Rattle.policy.specs.Records.{ValidTok, WithinContract, WithinChange}
 use Rattle.policy.specs.History.{Allowed, AllAllowed}
 use Rattle.policy.proofs.Sets.{false-T, and-l, and-r, or-e, every-in, exists-in, keep-in, in-keep, map-in, map-inj, each-one, each-append}
 use Rattle.policy.proofs.Equal.{eqAid→, has-tok}
@@ -108,9 +108,8 @@ module _ (L : Layout) (cs : List Contract) (a : Aid) (al : AllAllowed L cs) (one
           let same : p .0 ≡ k = map-inj (λ c. c .aid) cs one-each (p .1) m (eqAid→ (p .0 .aid) a ea ∙ sym (eqAid→ (k .aid) a ek)) in
           subst (λ (c : Contract). In (r .tok) (c .provides)) same (has-tok (r .tok) (p .0 .provides) (and-r (eqAid (p .0 .aid) a) (hasTok (r .tok) (p .0 .provides)) (p .2)))
 
-  -- the grants of a load before R-2
-  load-own : (p : List Tok) (c g n : List Row) → T (proper L a (load p c g n)) → (T (L .early) → ⊥) → (r : Row) → In r g → In (r .tok) p
-  unfolding proper
+  -- the grants of a load or of a whole contract before R-2
+  load-own : (p : List Tok) (c g n : List Row) → T (properContract L a p c g n) → (T (L .early) → ⊥) → (r : Row) → In r g → In (r .tok) p
   load-own p c g n pr late r m =
       let d = distinct eqTok p && distinct eqRow c && distinct eqRow g && distinct eqRow n in
       let o = notOwn a c && notOwn a g && notOwn a n in
@@ -127,11 +126,17 @@ module _ (L : Layout) (cs : List Contract) (a : Aid) (al : AllAllowed L cs) (one
   kept-grants s true l r m = (m, λ late. absurd (late tt))
   kept-grants s false l r m = let p = keep-in (λ x. not (eqTok s (x .tok))) l m in (p .0, λ late. p .1)
 
+  contract-allowed : (b : Aid) (p : List Tok) (c g n : List Row) → WithinContract L p c g n → T (properContract L a p c g n)
+      → Allowed L (record { aid = b; provides = p; calls = c; grants = g; needs = n })
+  contract-allowed b p c g n w pr =
+      record { tokens = record { provides = w .0 .1; calls = λ r i. w .1 .1 r i .1; grants = λ r i. w .2 .1 r i .1 }; own = load-own p c g n pr }
+
   pub effect-allowed : (c : Change) → WithinChange L c → T (proper L a c) → answer (causes4to7 L cs a c) ≡ 0 → AllAllowed L (effect L cs a c)
+  unfolding proper
   effect-allowed (load p c g n) w pr e = λ d m. go d (in-cons m)
     where
       go : (d : Contract) → (d ≡ record { aid = a; provides = p; calls = c; grants = g; needs = n }) ⊎ In d cs → Allowed L d
-      go d (inl q) = subst (Allowed L) (sym q) (record { tokens = record { provides = w .0 .1; calls = λ r i. w .1 .1 r i .1; grants = λ r i. w .2 .1 r i .1 }; own = load-own p c g n pr })
+      go d (inl q) = subst (Allowed L) (sym q) (contract-allowed a p c g n w pr)
       go d (inr i) = al d i
   effect-allowed remove w pr e = λ d m. al d (keep-in (λ k. not (eqAid (k .aid) a)) cs m .0)
   effect-allowed (addService s l) w pr e = altered-all (altered L (addService s l)) (λ k _ _ h. record {
@@ -180,3 +185,4 @@ module _ (L : Layout) (cs : List Contract) (a : Aid) (al : AllAllowed L cs) (one
   })
   effect-allowed (addNeed r) w pr e = altered-all (altered L (addNeed r)) (λ k _ _ h. with-calls h refl refl (h .tokens .calls))
   effect-allowed (removeNeed r) w pr e = altered-all (altered L (removeNeed r)) (λ k _ _ h. with-calls h refl refl (h .tokens .calls))
+  effect-allowed (replace p c g n) w pr e = altered-all (altered L (replace p c g n)) (λ k _ _ h. contract-allowed (k .aid) p c g n w pr)

@@ -131,6 +131,10 @@ module _ {A : Type 0} where
   pub is-nil : {l : List A} → l ≡ [] → T (isNil l)
   is-nil e = subst (λ (z : List A). T (isNil z)) (sym e) tt
 
+  pub no-members : (l : List A) → ((x : A) → In x l → ⊥) → l ≡ []
+  no-members [] h = refl
+  no-members (x ∷ l) h = absurd (h x (here refl))
+
   -- ---- one more at the end
   pub length-snoc : (l : List A) (x : A) → length (l ++ (x ∷ [])) ≡ suc (length l)
   length-snoc l x = length-append l (x ∷ []) ∙ omega arith

@@ -1,13 +1,13 @@
 -- Kinds 2 and 4: the short check says what the full look at the draft says.
-use Prim.Native.Nat.{ℕ, zero, suc, _+_}
-use native.Mathlib.Nat.{zero-add, suc-add, le-trans}
-use mathlib.Core.Path.{_≡_, refl, sym, ap, _∙_, subst}
+use Prim.Native.Nat.{ℕ, _+_}
+use native.Mathlib.Nat.{le-trans}
+use mathlib.Core.Path.{_≡_, ap, _∙_, subst}
 use mathlib.Core.Bool.{Bool, true, false, not, _&&_, _||_, cond, and-true}
-use mathlib.Core.List.{List, [], _∷_, _++_, map}
+use mathlib.Core.List.{_++_, map}
 use mathlib.Core.List.{List·Memᴰ as In, Memᴰ·cast as in-cast}
-use lib.Dec.{T, eqb, eqb→eq, eqb-refl, eqb·suc-zero, leb}
+use lib.Dec.{T, eqb, eqb→eq, eqb-refl, leb}
 use lib.ListN.{length, length-append, length-map}
-use Rattle.policy.specs.Lists.{every, keep, isNil}
+use Rattle.policy.specs.Lists.{keep}
 use Rattle.policy.specs.Contract.{Tok, eqTok}
 use Rattle.policy.specs.Layout.{Layout}
 use Rattle.policy.specs.Record.{remove, removeService}
@@ -22,42 +22,13 @@ use Rattle.policy.proofs.Reach.{reach-2, reach-4}
 use Rattle.policy.proofs.Dropped.{left-in, in-left-by, once-left, lawful-dropped}
 use Rattle.policy.proofs.KindRemove.{dropping as dropping-2}
 use Rattle.policy.proofs.KindRemoveService.{dropping as dropping-4}
-use Rattle.policy.proofs.Short.{look-is, fits, fits-as, granted}
-
--- ---- lengths and counts
-zero-sum : (a b : ℕ) → eqb (a + b) 0 ≡ eqb a 0 && eqb b 0
-zero-sum zero b = ap (λ (n : ℕ). eqb n 0) (zero-add b)
-zero-sum (suc a) b = ap (λ (n : ℕ). eqb n 0) (suc-add a b) ∙ eqb·suc-zero (a + b) ∙ ap (λ (z : Bool). z && eqb b 0) (sym (eqb·suc-zero a))
-
-nil-length : {A : Type 0} (l : List A) → isNil l ≡ eqb (length l) 0
-nil-length [] = refl
-nil-length (x ∷ l) = sym (eqb·suc-zero (length l))
-
-pub none-pass : {A : Type 0} (f : A → Bool) (l : List A) → eqb (count f l) 0 ≡ every (λ x. not (f x)) l
-none-pass f [] = refl
-none-pass f (x ∷ l) = go (f x) (none-pass f l)
-  where
-    go : (b : Bool) → eqb (count f l) 0 ≡ every (λ x. not (f x)) l → eqb (length (cond b (x ∷ keep f l) (keep f l))) 0 ≡ not b && every (λ x. not (f x)) l
-    go true ih = eqb·suc-zero (length (keep f l))
-    go false ih = ih
-
-none-sum : (f : ℕ → ℕ) (l : List ℕ) → eqb (sum f l) 0 ≡ every (λ i. eqb (f i) 0) l
-none-sum f [] = refl
-none-sum f (x ∷ l) = zero-sum (f x) (sum f l) ∙ ap (λ (b : Bool). eqb (f x) 0 && b) (none-sum f l)
-
-pub none-pairs : (f : ℕ → ℕ → Bool) (l m : List ℕ) → eqb (sum (λ i. count (f i) l) m) 0 ≡ every (λ i. every (λ k. not (f i k)) l) m
-none-pairs f l m = none-sum (λ i. count (f i) l) m ∙ (λ z. every (λ i. none-pass (f i) l z) m)
-
-pub length-pairs : {B : Type 0} (g : ℕ → ℕ → B) (f : ℕ → ℕ → Bool) (l m : List ℕ) → length (pairs g f l m) ≡ sum (λ i. count (f i) l) m
-length-pairs g f l [] = refl
-length-pairs g f l (i ∷ m) =
-    length-append (map (g i) (keep (f i) l)) (pairs g f l m) ∙ (λ z. length-map (keep (f i) l) (g i) z + length-pairs g f l m z)
+use Rattle.policy.proofs.Short.{nil-length, none-pass, none-pairs, length-pairs, left-count, look-is, fits, fits-as, granted}
 
 module _ (L : Layout) (t : Tables) where
   -- ---- how many rows the bits on package j leave
   left-all : (b : ℕ → ℕ → ℕ → Bool) (j : ℕ) → length (leftBy L t b j (λ z. true)) ≡ ones L t (λ i k. b i j k)
   left-all b j =
-      length-pairs (λ i k. callRow i (serviceAt t j k)) (λ i k. b i j k && true) (places L) (numbers L)
+      left-count L t b j (λ z. true)
       ∙ (λ z. sum (λ i. count (λ k. and-true (b i j k) z) (places L)) (numbers L))
 
   module _ (fm : Formed L t) where

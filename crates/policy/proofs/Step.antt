@@ -9,7 +9,7 @@ use lib.ListN.{length}
 use Rattle.policy.specs.Lists.{every}
 use Rattle.policy.specs.Contract.{Aid, Contract, validAid}
 use Rattle.policy.specs.Layout.{Layout, LayoutOk}
-use Rattle.policy.specs.Record.{Request, Change, load, remove, addService, removeService, addCall, removeCall, addGrant, removeGrant, addNeed, removeNeed, parse, proper}
+use Rattle.policy.specs.Record.{Request, Change, load, remove, addService, removeService, addCall, removeCall, addGrant, removeGrant, addNeed, removeNeed, replace, parse, proper}
 use Rattle.policy.specs.Causes.{Cause, _when_, answer}
 use Rattle.policy.specs.Machine.{Held, held, effect, causes8to11, causes3to11, machine}
 use Rattle.policy.specs.Tables.{Tables, Unmet, decode, encode}
@@ -89,6 +89,7 @@ module _ (L : Layout) (t : Tables) (a : Aid) where
   judge-causes k b (removeGrant r) = (tt, tt)
   judge-causes k b (addNeed r) = (tt, tt)
   judge-causes k b (removeNeed r) = (tt, tt)
+  judge-causes k b (replace p c g n) = (tt, tt)
 
   pub judge-ascends : (b : Bool) (c : Change) → T (ascends 2 (3 when b ∷ tableCauses L t a c))
   judge-ascends b c = ascends-front 2 (3 when b ∷ tableCauses L t a c) (lookCauses fine) (judge-causes fine b c .1)

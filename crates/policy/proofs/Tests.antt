@@ -12,7 +12,7 @@ use lib.ListN.{length, length-map}
 use Rattle.policy.specs.Lists.{SameSet, NoRepeat, exists, keep, upto, isSome, orElse}
 use Rattle.policy.specs.Contract.{Aid, Tok, eqTok, Row, eqRow, Contract, hasTok, hasRow, under, installed}
 use Rattle.policy.specs.Layout.{Layout}
-use Rattle.policy.specs.Record.{Change, load, remove, addService, removeService, addCall, removeCall, addGrant, removeGrant, addNeed, removeNeed}
+use Rattle.policy.specs.Record.{Change, load, remove, addService, removeService, addCall, removeCall, addGrant, removeGrant, addNeed, removeNeed, replace}
 use Rattle.policy.specs.Causes.{_when_}
 use Rattle.policy.specs.Machine.{causes4to7}
 use Rattle.policy.specs.Tables.{Tables, Unmet}
@@ -157,3 +157,4 @@ module _ (L : Layout) (t : Tables) (cs : List Contract) (formed : Formed L t) (s
   tests-agree a (removeGrant r) = λ i. 5 when absent-is a i ∷ 6 when not (grants-is a r i) ∷ []
   tests-agree a (addNeed r) = λ i. 5 when absent-is a i ∷ 6 when (not (calls-is a r i) || needs-is a r i) ∷ []
   tests-agree a (removeNeed r) = λ i. 5 when absent-is a i ∷ 6 when not (needs-is a r i) ∷ []
+  tests-agree a (replace p c g n) = λ i. 5 when absent-is a i ∷ []

@@ -12,8 +12,8 @@ use lib.Dec.{T, leb, leb→le, le→leb, ltb, ltb→lt, lit≤}
 use lib.ListN.{length, take, drop, length-append}
 use Rattle.policy.specs.Lists.{every, orElse}
 use Rattle.policy.specs.Contract.{Aid, eqAid, Tok, Contract, under, lawful, callsGranted, needsMet, unmetCalls, waitingGrants}
-use Rattle.policy.specs.Layout.{Layout, LayoutOk, cardOf, base, narrow, ahead, small, aidsAt, tokensAt, providesAt, callsAt, grantsAt, needsAt, unmetAt, waitingAt, size}
-use Rattle.policy.specs.Record.{Request, Change, load, remove, addService, removeService, addCall, removeCall, addGrant, removeGrant, addNeed, removeNeed, validTok, parse, proper}
+use Rattle.policy.specs.Layout.{Layout, LayoutOk, cardOf, base, narrow, ahead, renewed, small, aidsAt, tokensAt, providesAt, callsAt, grantsAt, needsAt, unmetAt, waitingAt, size}
+use Rattle.policy.specs.Record.{Request, Change, load, remove, addService, removeService, addCall, removeCall, addGrant, removeGrant, addNeed, removeNeed, replace, validTok, parse, proper}
 use Rattle.policy.specs.Causes.{Cause, _when_, answer}
 use Rattle.policy.specs.Machine.{Held, held, effect, altered, causes4to7, causes8to11, causes3to11, machine}
 use Rattle.policy.specs.Tables.{writeWaiting, writeList, decode, emptyImage}
@@ -22,9 +22,9 @@ use Rattle.policy.specs.Sound.{sound}
 use Rattle.policy.specs.Judge.{Out, refusal, judgeTables, judge, loadRecord}
 use Rattle.policy.specs.Records.{loadOf, requestOf}
 use Rattle.policy.specs.History.{SameContract, AllValid, AllAllowed, StandsFor, imageAfter, machineAnswers, contractsAfter}
-use Rattle.policy.specs.Marked.{Line, lineOf, linesFrom, removalOf, loadH, loadB, cases, CaseOver, providing128, calling128, holding127, casesConverted}
-use Rattle.policy.specs.Eras.{carried, Widens, Passes, answersOver, imageOver, machineAnswersOver, contractsOver, LeftOut, Stays, MarkedConverted, imageThen, contractsThen, SoFar}
-use Rattle.policy.specs.Claims.{MarkedCases, MarkedOver, Agreement, History, FitsLimits, AcceptedExactly, IsFirst, FirstCause, SoundStands, ShortIsFull, ReadOutAgain}
+use Rattle.policy.specs.Marked.{Line, lineOf, linesFrom, removalOf, loadH, loadB, cases, CaseOver, providing128, calling128, holding127, casesConverted, casesRenewed, replacing}
+use Rattle.policy.specs.Eras.{carried, Widens, SameBytes, Passes, answersOver, imageOver, machineAnswersOver, contractsOver, LeftOut, Stays, MarkedConverted, MarkedRenewed, imageThen, contractsThen, SoFar}
+use Rattle.policy.specs.Claims.{MarkedCases, MarkedOver, Agreement, History, FitsLimits, AcceptedExactly, IsFirst, FirstCause, SoundStands, ShortIsFull, ReadOutAgain, standing, ReplacingPlaces}
 use Rattle.policy.proofs.Sets.{and-l, and-r, and-i, test, not-e, cond-true, cond-false, every-in, exists-in, in-map, each-one}
 use Rattle.policy.proofs.Answers.{ascends, answer-append-zero, first-is, ascends-front, none-of-four, four-none}
 use Rattle.policy.proofs.ContractAt.{same-contract, stands-self}
@@ -35,6 +35,7 @@ use Rattle.policy.proofs.ReadOut.{read-out-parses, read-out-proper}
 use Rattle.policy.proofs.Tests.{packages-fit, services-fit}
 use Rattle.policy.proofs.AllKinds.{kinds}
 use Rattle.policy.proofs.Step.{stands-of, image-stands, standing-allowed, unsound-refused, step}
+use Rattle.policy.proofs.KindsRead.{renewed-others}
 use Rattle.policy.proofs.Eras.{refused-all, passage, stays, carried-is, history-from}
 
 -- ---- 2. one record
@@ -82,6 +83,7 @@ module _ (L : Layout) (lo : LayoutOk L) where
   causes-ascend cs ds a b (removeGrant r) = tt
   causes-ascend cs ds a b (addNeed r) = tt
   causes-ascend cs ds a b (removeNeed r) = tt
+  causes-ascend cs ds a b (replace p c g n) = tt
 
   machine-ascends : (cs : List Contract) (a : Aid) (b : Bool) (c : Change) → T (ascends 1 (2 when false ∷ 3 when b ∷ causes4to7 L cs a c))
   machine-ascends cs a b c = ascends-front 1 (2 when false ∷ 3 when b ∷ causes4to7 L cs a c) (causes8to11 L []) (causes-ascend cs [] a b c)
@@ -155,6 +157,7 @@ module _ (L : Layout) (lo : LayoutOk L) where
     below (removeGrant r) fit = early-below (causes4to7 L cs a (removeGrant r)) tt
     below (addNeed r) fit = early-below (causes4to7 L cs a (addNeed r)) tt
     below (removeNeed r) fit = early-below (causes4to7 L cs a (removeNeed r)) tt
+    below (replace p c g n) fit = early-below (causes4to7 L cs a (replace p c g n)) tt
 
   -- what the machine leaves of an accepted record
   accepted-contracts : (img s : List ℕ) (cs : List Contract) (q : Request) → StandsFor L img cs → parse L s ≡ some q → answer (causes3to11 L cs q) ≡ 0
@@ -243,15 +246,25 @@ module _ (L : Layout) (lo : LayoutOk L) where
               one-not-zero e = omega arith
 
 -- ---- the cards of eight packages
-pub card-ok : {m : ℕ} {e : Bool} → LayoutOk (cardOf m e)
-card-ok {m} {e} = record { header-size = three e; packages-fit = lit≤ tt; services-fit = lit≤ tt; rows-fit = lit≤ tt; counts-fit = lit≤ tt; records-fit = lit≤ tt }
+card-ok : {m : ℕ} {e : Bool} {r : ℕ → Bool} → T (r 1) → LayoutOk (cardOf m e r)
+card-ok {m} {e} {r} on = record
+    { header-size = three e; packages-fit = lit≤ tt; services-fit = lit≤ tt; rows-fit = lit≤ tt; counts-fit = lit≤ tt; load-read = on; records-fit = lit≤ tt }
   where
-    three : (e : Bool) → length (cardOf m e .header) ≡ 3
+    three : (e : Bool) → length (cardOf m e r .header) ≡ 3
     three true = refl
     three false = refl
 
+pub base-ok : LayoutOk base
+base-ok = card-ok tt
+
+pub narrow-ok : LayoutOk narrow
+narrow-ok = card-ok tt
+
+pub ahead-ok : LayoutOk ahead
+ahead-ok = card-ok tt
+
 pub small-ok : LayoutOk small
-small-ok = card-ok
+small-ok = card-ok tt
 
 -- where document 01 says that the parts stand, and its size; R-2: 'the image 1,110'
 abbrev partsOf : Layout → List ℕ
@@ -284,43 +297,59 @@ marked = (
 )
 
 -- ---- the changes of the rules
-same-room : {m n : ℕ} {d e : Bool} → Widens (cardOf m d) (cardOf n e)
+same-room : {m n : ℕ} {d e : Bool} {q r : ℕ → Bool} → Widens (cardOf m d q) (cardOf n e r)
 same-room = record { packages = lit≤ tt; services = lit≤ tt; capacity = lit≤ tt }
+
+same-bytes : {m n : ℕ} {e : Bool} {q r : ℕ → Bool} → SameBytes (cardOf m e q) (cardOf n e r)
+same-bytes = record { packages = refl; services = refl; width = refl; capacity = refl; header = refl; early = refl }
 
 -- R-7's
 narrow-stays : Stays base narrow
-narrow-stays = stays base narrow (record { packages = refl; services = refl; width = refl; capacity = refl; header = refl; early = refl }) card-ok
+narrow-stays = stays base narrow same-bytes narrow-ok
 
 narrow-allowed : (cs : List Contract) → AllValid narrow cs → AllAllowed base cs → AllAllowed narrow cs
 narrow-allowed cs v a c m = record { tokens = v c m; own = a c m .own }
 
 then-stands : (ss : List (List ℕ)) → StandsFor base (imageThen ss) (contractsThen ss)
-then-stands ss = history base card-ok ss .stands-for
+then-stands ss = history base base-ok ss .stands-for
 
 -- R-2's: bytes 3 to 788 are copied, behind the new header, and the waiting grants are written by their tokens
-pub ahead-carried : (img : List ℕ) → T (sound narrow img)
-    → carried narrow ahead img ≡ (4 ∷ 86 ∷ 2 ∷ []) ++ (take 786 (drop 3 img) ++ writeList ahead (writeWaiting ahead (decode narrow img .provides) (decode narrow img .tok)) 20 (decode narrow img .waiting))
-ahead-carried = carried-is narrow ahead card-ok refl refl refl refl
+pub converted-bytes : (img : List ℕ) → T (sound narrow img)
+    → carried narrow small img ≡ (4 ∷ 86 ∷ 2 ∷ []) ++ (take 786 (drop 3 img) ++ writeList small (writeWaiting small (decode narrow img .provides) (decode narrow img .tok)) 20 (decode narrow img .waiting))
+converted-bytes = carried-is narrow small narrow-ok refl refl refl refl
 
-ahead-passes : (cs : List Contract) → Passes narrow ahead cs
-ahead-passes cs = record {
-  is-ok = card-ok;
+-- to images of version 02 by any kinds that are read
+early-passes : {r : ℕ → Bool} → T (r 1) → (cs : List Contract) → Passes narrow (cardOf 128 true r) cs
+early-passes on cs = record {
+  is-ok = card-ok on;
   widens = same-room;
   allowed = λ a c m. let v = a c m .tokens in record { tokens = record { provides = v .provides; calls = v .calls; grants = v .grants }; own = λ late. absurd (late tt) };
 }
 
+-- R-1's: no byte changes, and the same contracts are allowed
+renewed-stays : Stays ahead renewed
+renewed-stays = stays ahead renewed same-bytes small-ok
+
+renewed-allowed : (cs : List Contract) → AllAllowed ahead cs → AllAllowed renewed cs
+renewed-allowed cs a c m = let v = a c m .tokens in record { tokens = record { provides = v .provides; calls = v .calls; grants = v .grants }; own = λ late. absurd (late tt) }
+
 pub so-far : SoFar
 so-far = record {
-  history = λ ss ts us v. history-from base card-ok (emptyImage base) [] (empty-stands base card-ok) ss _
-      (record { is-ok = card-ok; widens = same-room; allowed = narrow-allowed (contractsThen ss) v }, (ahead-passes _, tt));
+  history = λ ss ts us vs v. history-from base base-ok (emptyImage base) [] (empty-stands base base-ok) ss _ (
+    record { is-ok = narrow-ok; widens = same-room; allowed = narrow-allowed (contractsThen ss) v },
+    (early-passes tt _, (record { is-ok = small-ok; widens = same-room; allowed = renewed-allowed _ }, tt)),
+  );
   same-image = λ ss. narrow-stays .same-image (imageThen ss) (then-stands ss .is-sound);
   told = λ ss ok c m. narrow-stays .told (imageThen ss) (contractsThen ss) (then-stands ss) ok c m .tokens;
   goes-on = λ ss v.
       let f = then-stands ss in
       narrow-stays .goes-on (imageThen ss) (contractsThen ss) f (narrow-allowed (contractsThen ss) v (standing-allowed base (imageThen ss) (contractsThen ss) f));
   left-out = λ ss held. narrow-stays .left-out (imageThen ss) (contractsThen ss) (then-stands ss) (λ a. held (λ c m. a c m .tokens));
-  converted = λ img cs f. passage narrow ahead img cs f (ahead-passes cs);
-  refused = λ img ok. refused-all ahead img (λ h. sizes (sym (sound-sized narrow img ok) ∙ sound-sized ahead img h));
+  converted = λ img cs f. passage narrow small img cs f (early-passes tt cs);
+  refused = λ img ok. refused-all small img (λ h. sizes (sym (sound-sized narrow img ok) ∙ sound-sized small img h));
+  renewed-image = renewed-stays .same-image;
+  renewed-stands = λ img cs f. renewed-stays .goes-on img cs f (renewed-allowed cs (standing-allowed ahead img cs f));
+  renewed-others = renewed-others;
 }
   where
     sizes : _≡_ {A = ℕ} 1094 1110 → ⊥
@@ -373,8 +402,8 @@ goes-on : linesFrom narrow (imageThen (holding127 .before)) (holding127 .records
 unfolding linesOn imageOn emptyImage
 goes-on =
     let ss = holding127 .before in
-    sound-lines narrow card-ok (holding127 .records) (imageThen ss) (contractsThen ss) (so-far .goes-on ss holds-none)
-    ∙ ap (λ (img : List ℕ). linesOn narrow img (holding127 .records)) (sound-image base card-ok ss (emptyImage base) [] (empty-stands base card-ok))
+    sound-lines narrow narrow-ok (holding127 .records) (imageThen ss) (contractsThen ss) (so-far .goes-on ss holds-none)
+    ∙ ap (λ (img : List ℕ). linesOn narrow img (holding127 .records)) (sound-image base base-ok ss (emptyImage base) [] (empty-stands base base-ok))
 
 pub marked-over : MarkedOver
 marked-over i =
@@ -391,6 +420,23 @@ marked-converted = ap (λ (f : CaseOver → List Line). map f casesConverted) (�
         ≡ linesOn ahead (carried narrow ahead (imageOn narrow (emptyImage narrow) (c .before))) (c .records)
     computed c =
         let img = imageAfter narrow (emptyImage narrow) (c .before) in
-        let f = history narrow card-ok (c .before) .stands-for in
-        sound-lines ahead card-ok (c .records) (carried narrow ahead img) (contractsAfter narrow [] (c .before)) (so-far .converted img _ f .1)
-        ∙ ap (λ (z : List ℕ). linesOn ahead (carried narrow ahead z) (c .records)) (sound-image narrow card-ok (c .before) (emptyImage narrow) [] (empty-stands narrow card-ok))
+        let f = history narrow narrow-ok (c .before) .stands-for in
+        sound-lines ahead ahead-ok (c .records) (carried narrow ahead img) (contractsAfter narrow [] (c .before)) (passage narrow ahead img _ f (early-passes tt _) .1)
+        ∙ ap (λ (z : List ℕ). linesOn ahead (carried narrow ahead z) (c .records)) (sound-image narrow narrow-ok (c .before) (emptyImage narrow) [] (empty-stands narrow narrow-ok))
+
+pub marked-renewed : MarkedRenewed
+unfolding linesOn imageOn emptyImage
+marked-renewed = ap (λ (f : CaseOver → List Line). map f casesRenewed) (λ i c. computed c i)
+  where
+    computed : (c : CaseOver) → linesFrom renewed (imageAfter ahead (emptyImage ahead) (c .before)) (c .records)
+        ≡ linesOn renewed (imageOn ahead (emptyImage ahead) (c .before)) (c .records)
+    computed c =
+        let img = imageAfter ahead (emptyImage ahead) (c .before) in
+        let f = history ahead ahead-ok (c .before) .stands-for in
+        sound-lines renewed small-ok (c .records) img (contractsAfter ahead [] (c .before)) (so-far .renewed-stands img _ f)
+        ∙ ap (λ (z : List ℕ). linesOn renewed z (c .records)) (sound-image ahead ahead-ok (c .before) (emptyImage ahead) [] (empty-stands ahead ahead-ok))
+
+-- R-1's placing, computed
+pub replacing-places : ReplacingPlaces
+unfolding imageOn decode emptyImage
+replacing-places = ap (λ (img : List ℕ). standing small (decode small img)) (sound-image small small-ok (replacing .records) (emptyImage small) [] (empty-stands small small-ok))

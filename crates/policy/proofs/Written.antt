@@ -7,16 +7,16 @@ use mathlib.Core.Bool.{Bool}
 use mathlib.Core.List.{List, [], _∷_, _++_, append-assoc, append-nil}
 use mathlib.Core.List.{List·Memᴰ as In, List·Memᴰ·head as here, List·Memᴰ·tail as there}
 use lib.Dec.{eqb, eqb-refl, leb, le→leb}
-use lib.ListN.{length, length-append}
+use lib.ListN.{length, length-append, getD}
 use lib.Seq.{take-append-seam, drop-append-seam}
 use Rattle.policy.specs.Lists.{flat}
 use Rattle.policy.specs.Contract.{Aid, Tok, Row, Contract, validAid}
 use Rattle.policy.specs.Layout.{Layout, LayoutOk}
-use Rattle.policy.specs.Record.{Change, load, remove, addService, removeService, addCall, removeCall, addGrant, removeGrant, addNeed, removeNeed, Got, got, Reader, andThen, done, given, byte, bytes}
-use Rattle.policy.specs.Record.{numberFrom, number, aid, tokens, rowOf, validTok, validTokens, validRow, many, counted, rowList, aLoad, aService, change, fields, parse}
+use Rattle.policy.specs.Record.{Change, load, remove, addService, removeService, addCall, removeCall, addGrant, removeGrant, addNeed, removeNeed, replace, Got, got, bad, Reader, andThen, done, given, byte, bytes}
+use Rattle.policy.specs.Record.{numberFrom, number, aid, tokens, rowOf, validTok, validTokens, validRow, many, counted, rowList, aContract, aService, kinds, change, fields, parse}
 use Rattle.policy.specs.Tables.{writeNumber, writeTok}
 use Rattle.policy.specs.Judge.{aidBytes, rowBytes, rowsBytes, loadRecord}
-use Rattle.policy.specs.Records.{kindOf, requestOf, ValidAid, ValidTok, ValidRow, AtMost, changeBytes, bodyBytes, recordBytes, WithinChange, WrittenRead}
+use Rattle.policy.specs.Records.{kindOf, requestOf, ValidAid, ValidTok, ValidRow, AtMost, contractBytes, changeBytes, bodyBytes, recordBytes, WithinContract, WithinChange, WrittenRead}
 use Rattle.policy.proofs.Sets.{T-true}
 use Rattle.policy.proofs.Bits.{length-number}
 
@@ -104,9 +104,11 @@ module _ (L : Layout) (lo : LayoutOk L) where
   one-written : (f : Row → Change) (r : Row) (rest : List ℕ) → ValidRow L r → andThen (validRow L (rowBytes r ++ rest)) (λ x. got (f x)) ≡ got (f r) rest
   one-written f r rest v = ap (λ (z : Got Row). andThen z (λ x. got (f x))) (valid-row-written L r rest v)
 
-  change-written : (c : Change) (rest : List ℕ) → WithinChange L c → change L (kindOf c) (changeBytes L c ++ rest) ≡ got c rest
-  unfolding change aLoad aService
-  change-written (load p c g n) rest v =
+  -- kinds 1 and 11
+  contract-written : (f : List Tok → List Row → List Row → List Row → Change) (p : List Tok) (c g n : List Row) (rest : List ℕ) → WithinContract L p c g n
+      → aContract L f (contractBytes L p c g n ++ rest) ≡ got (f p c g n) rest
+  unfolding aContract
+  contract-written f p c g n rest v =
       let cs = rowsBytes L c in
       let gs = rowsBytes L g in
       let ns = rowsBytes L n in
@@ -120,6 +122,10 @@ module _ (L : Layout) (lo : LayoutOk L) where
         rows-written g (ns ++ rest) (v .2),
         rows-written n rest (v .3),
       )
+
+  change-written : (c : Change) (rest : List ℕ) → WithinChange L c → getD (kinds L) (kindOf c) (λ s. bad) (changeBytes L c ++ rest) ≡ got c rest
+  unfolding aService
+  change-written (load p c g n) rest v = contract-written load p c g n rest v
   change-written remove rest v = refl
   change-written (addService s l) rest v =
       rw (
@@ -133,19 +139,20 @@ module _ (L : Layout) (lo : LayoutOk L) where
   change-written (removeGrant r) rest v = one-written removeGrant r rest v
   change-written (addNeed r) rest v = one-written addNeed r rest v
   change-written (removeNeed r) rest v = one-written removeNeed r rest v
+  change-written (replace p c g n) rest v = contract-written replace p c g n rest v
 
   -- ---- the whole record
   pub written-read : WrittenRead L
-  unfolding parse fields byte
+  unfolding parse fields byte change
   written-read q v =
       let n : ℕ = 4 + length (bodyBytes L q) in
       let rest : List ℕ = L .version ∷ kindOf (q .change) ∷ bodyBytes L q in
       let e : length (recordBytes L q) ≡ n = length-number 2 n rest ∙ omega arith in
-      let h = v .1 in
+      let h = v .2 in
       let two : (0 * 256 + n / 256 % 256) * 256 + n % 256 ≡ n = omega arith in
-      let last : change L (kindOf (q .change)) (changeBytes L (q .change)) ≡ got (q .change) [] =
-      ap (change L (kindOf (q .change))) (sym (append-nil (changeBytes L (q .change)))) ∙ change-written (q .change) [] (v .0 .1) in
-      rw (e, two, T-true (eqb n n) (eqb-refl n), T-true (eqb (L .version) (L .version)) (eqb-refl (L .version)), aid-written (q .aid) (changeBytes L (q .change)) (v .0 .0), last)
+      let last : getD (kinds L) (kindOf (q .change)) (λ s. bad) (changeBytes L (q .change)) ≡ got (q .change) [] =
+      ap (getD (kinds L) (kindOf (q .change)) (λ s. bad)) (sym (append-nil (changeBytes L (q .change)))) ∙ change-written (q .change) [] (v .0 .1) in
+      rw (e, two, T-true (eqb n n) (eqb-refl n), T-true (eqb (L .version) (L .version)) (eqb-refl (L .version)), aid-written (q .aid) (changeBytes L (q .change)) (v .0 .0), T-true (L .reads (kindOf (q .change))) (v .1), last)
 
 -- reading out writes a load so
 pub load-record : (L : Layout) (c : Contract) → loadRecord L c ≡ recordBytes L (requestOf c)

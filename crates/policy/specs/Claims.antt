@@ -8,20 +8,20 @@ use mathlib.Core.List.{List·Memᴰ as In}
 use mathlib.Core.Option.{none, some}
 use lib.Dec.{T}
 use lib.ListN.{length, take, drop}
-use Rattle.policy.specs.Lists.{NoRepeat, orElse}
+use Rattle.policy.specs.Lists.{NoRepeat, keep, upto, orElse}
 use Rattle.policy.specs.Contract.{Row, Contract, ownGrants, validAid, lawful, unmetCalls, waitingGrants}
 use Rattle.policy.specs.Layout.{Layout, base, narrow, small, size}
 use Rattle.policy.specs.Record.{Request, load, parse, proper, firstAid}
 use Rattle.policy.specs.Causes.{Cause, _when_, answer}
 use Rattle.policy.specs.Machine.{machine, effect, causes4to7, causes3to11}
-use Rattle.policy.specs.Tables.{decode, emptyImage}
+use Rattle.policy.specs.Tables.{Tables, decode, emptyImage}
 use Rattle.policy.specs.Lookup.{contractAt}
 use Rattle.policy.specs.Sound.{sound}
 use Rattle.policy.specs.Draft.{look, draft}
 use Rattle.policy.specs.ShortCheck.{shortLook}
 use Rattle.policy.specs.Judge.{Out, refusal, tableCauses, judge, check, writeEmpty, loadRecord, readOut}
 use Rattle.policy.specs.History.{SameContract, StandsFor, answers, imageAfter, machineAnswers, contractsAfter}
-use Rattle.policy.specs.Marked.{linesFrom, cases, casesOver}
+use Rattle.policy.specs.Marked.{linesFrom, cases, casesOver, Standing, replacing}
 
 -- ---- 1. the marked cases: whole lines on the engine's definition, and answers on the machine
 abbrev pub MarkedCases : Type 0
@@ -34,6 +34,18 @@ abbrev pub MarkedOver : Type 0
 MarkedOver =
     map (λ c. linesFrom narrow (imageAfter base (emptyImage base) (c .before)) (c .records)) casesOver
     ≡ map (λ c. c .lines) casesOver
+
+-- where R-1's case leaves things, on the engine's definition
+abbrev pub standing : Layout → Tables → Standing
+standing L t = record {
+  places = keep (t .provides 0) (upto (L .services));
+  services = map (t .tok 0) (keep (t .provides 0) (upto (L .services)));
+  unmet = t .unmet;
+  waiting = t .waiting;
+}
+
+abbrev pub ReplacingPlaces : Type 0
+ReplacingPlaces = standing small (decode small (imageAfter small (emptyImage small) (replacing .records))) ≡ replacing .leaves
 
 -- ---- 2. one record: equal answers, and the image after it stands for the machine's contracts after it
 abbrev pub Agreement : Layout → Type 0

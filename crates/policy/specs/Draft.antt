@@ -5,11 +5,11 @@ use mathlib.Core.List.{List, [], _∷_, _++_, map}
 use mathlib.Core.Option.{Option, none, some}
 use lib.Dec.{eqb, leb, ltb}
 use lib.ListN.{length, getD}
-use Rattle.policy.specs.Lists.{implies, exists, keep, flat, isNil, isSome, orElse}
+use Rattle.policy.specs.Lists.{implies, exists, keep, first, flat, isNil, isSome, orElse}
 use Rattle.policy.specs.Contract.{Aid, eqAid, Tok, eqTok, Row, Contract, hasTok, hasRow}
 use Rattle.policy.specs.Layout.{Layout}
 use Rattle.policy.specs.Record.{Change, load, remove}
-use Rattle.policy.specs.Record.{addService, removeService, addCall, removeCall, addGrant, removeGrant, addNeed, removeNeed}
+use Rattle.policy.specs.Record.{addService, removeService, addCall, removeCall, addGrant, removeGrant, addNeed, removeNeed, replace}
 use Rattle.policy.specs.Tables.{Tables, Unmet, Waiting, noTok}
 use Rattle.policy.specs.Lookup.{Place, Spot, serviceAt, numbers, places}
 use Rattle.policy.specs.Lookup.{numberOf, serviceOf, serverOf, spotOf, freeNumber, freeService}
@@ -37,6 +37,18 @@ hasUnmet u l = exists (eqUnmet u) l
 
 abbrev pub hasWaiting : Waiting → List Waiting → Bool
 hasWaiting w l = exists (eqWaiting w) l
+
+-- ---- rows of a contract on tables: service z of package y is on the card and one of the rows; and a row whose service is not there
+abbrev pub namedOn : Tables → List Row → ℕ → ℕ → Bool
+namedOn t l y z = t .provides y z && hasRow (serviceAt t y z) l
+
+abbrev pub notServedOn : Layout → Tables → Row → Bool
+notServedOn L t r = not (isSome (serverOf L t r))
+
+-- the services of one package: the places that have one, and their tokens
+pub record Services : Type 0 where
+  pub tok : ℕ → Tok
+  pub provides : ℕ → Bool
 
 -- ---- a function changed at one place
 abbrev pub put : {A : Type 0} → ℕ → A → (ℕ → A) → ℕ → A
@@ -87,6 +99,16 @@ withNeeds n t = record {
   unmet = t .unmet;
   waiting = t .waiting;
 }
+
+-- ---- a service takes the lowest unused place, unless it has one; and so do services in order
+module _ (L : Layout) where
+  abbrev pub placeService : Services → Tok → Services
+  placeService v s = cond (exists (λ k. v .provides k && eqTok (v .tok k) s) (places L)) v
+      (orElse (first (λ k. not (v .provides k)) (places L)) v (λ k. record { tok = put k s (v .tok); provides = put k true (v .provides) }))
+
+  abbrev pub placeServices : Services → List Tok → Services
+  placeServices v [] = v
+  placeServices v (s ∷ l) = placeServices (placeService v s) l
 
 module _ (L : Layout) (t : Tables) where
   -- ---- kinds 5, 6, 9, 10: a row of package i; it is a bit where its service is on the card
@@ -217,13 +239,6 @@ module _ (L : Layout) (t : Tables) where
       waiting = t .waiting;
     }
 
-    -- service z of package y is on the card and one of the rows
-    abbrev pub namedIn : List Row → ℕ → ℕ → Bool
-    namedIn l y z = loadedProvides y z && hasRow (serviceAt loadedNames y z) l
-
-    abbrev pub notServed : Row → Bool
-    notServed r = not (isSome (serverOf L loadedNames r))
-
     abbrev pub loadAt : Draft
     loadAt = record {
       tables = record {
@@ -231,20 +246,82 @@ module _ (L : Layout) (t : Tables) where
         aid = loadedNames .aid;
         tok = loadedTok;
         provides = loadedProvides;
-        calls = λ x y z. cond (eqb x n) (namedIn (c .calls) y z)
+        calls = λ x y z. cond (eqb x n) (namedOn loadedNames (c .calls) y z)
             (cond (eqb y n) (loadedProvides n z && hasUnmet (callRow x (serviceAt loadedNames n z)) (t .unmet)) (t .calls x y z));
         grants = λ x y z. cond (eqb x n)
             (loadedProvides n z && (t .used y && hasRow (record { aid = t .aid y; tok = loadedTok n z }) (c .grants)))
             (cond (eqb y n) (t .provides x z && hasWaiting (record { caller = c .aid; callee = x; tok = t .tok x z }) (t .waiting))
             (t .grants x y z));
-        needs = λ x y z. cond (eqb x n) (namedIn (c .needs) y z) (t .needs x y z);
+        needs = λ x y z. cond (eqb x n) (namedOn loadedNames (c .needs) y z) (t .needs x y z);
         unmet = keep (λ u. not (eqAid (u .callee) (c .aid) && hasTok (u .tok) (c .provides))) (t .unmet)
-            ++ map (callRow n) (keep notServed (c .calls));
+            ++ map (callRow n) (keep (notServedOn L loadedNames) (c .calls));
         waiting = keep (λ w. not (eqAid (w .caller) (c .aid) && isSome (serviceOf L t (w .callee) (w .tok)))) (t .waiting)
             ++ map (grantRow n) (keep (λ r. not (isSome (numberOf L t (r .aid)) && hasTok (r .tok) (c .provides))) (c .grants));
       };
-      lost = map (callRow n) (keep notServed (c .needs));
+      lost = map (callRow n) (keep (notServedOn L loadedNames) (c .needs));
     }
+
+  -- ---- kind 11: the contract c in place of the one that package n has
+  -- a service of package n that c drops
+  abbrev pub droppedBy : Contract → ℕ → ℕ → Bool
+  droppedBy c n k = not (hasTok (t .tok n k) (c .provides))
+
+  -- 'Services in both contracts keep theirs; dropped ones free theirs,
+  abbrev pub keptServices : ℕ → Contract → Services
+  keptServices n c = record {
+    tok = λ k. cond (t .provides n k && hasTok (t .tok n k) (c .provides)) (t .tok n k) noTok;
+    provides = λ k. t .provides n k && hasTok (t .tok n k) (c .provides);
+  }
+
+  -- then the others take the lowest unused in record order.'
+  unfoldable pub newServices : ℕ → Contract → Services
+  newServices n c = placeServices L (keptServices n c) (c .provides)
+
+  -- with the services of package n at these places
+  module _ (n : ℕ) (c : Contract) (now : Services) where
+    -- 'The package keeps its number'
+    abbrev pub replacedNames : Tables
+    replacedNames = record {
+      used = t .used;
+      aid = t .aid;
+      tok = λ x y. cond (eqb x n) (now .tok y) (t .tok x y);
+      provides = λ x y. cond (eqb x n) (now .provides y) (t .provides x y);
+      calls = t .calls;
+      grants = t .grants;
+      needs = t .needs;
+      unmet = t .unmet;
+      waiting = t .waiting;
+    }
+
+    abbrev pub gone : ℕ → ℕ → Bool
+    gone y z = eqb y n && droppedBy c n z
+
+    -- 'The package's own list rows and rows now met leave; its unmet calls follow in record order, then other packages' calls on
+    -- dropped services by caller number and service number; its waiting grants follow in record order.'
+    abbrev pub replaceWith : Draft
+    replaceWith = record {
+      tables = record {
+        used = t .used;
+        aid = t .aid;
+        tok = replacedNames .tok;
+        provides = replacedNames .provides;
+        calls = λ x y z. cond (eqb x n) (namedOn replacedNames (c .calls) y z)
+            ((t .calls x y z && not (gone y z))
+            || (eqb y n && (replacedNames .provides n z && hasUnmet (callRow x (serviceAt replacedNames n z)) (t .unmet))));
+        grants = λ x y z. cond (eqb x n)
+            (replacedNames .provides n z && (t .used y && hasRow (record { aid = t .aid y; tok = replacedNames .tok n z }) (c .grants)))
+            (t .grants x y z);
+        needs = λ x y z. cond (eqb x n) (namedOn replacedNames (c .needs) y z) (t .needs x y z && not (gone y z));
+        unmet = keep (λ u. not (eqb (u .caller) n || (eqAid (u .callee) (c .aid) && hasTok (u .tok) (c .provides)))) (t .unmet)
+            ++ (map (callRow n) (keep (notServedOn L replacedNames) (c .calls)) ++ leftBy (t .calls) n (droppedBy c n));
+        waiting = keep (λ w. not (eqb (w .callee) n)) (t .waiting)
+            ++ map (grantRow n) (keep (λ r. not (isSome (numberOf L t (r .aid)) && hasTok (r .tok) (c .provides))) (c .grants));
+      };
+      lost = map (callRow n) (keep (notServedOn L replacedNames) (c .needs)) ++ leftBy (t .needs) n (droppedBy c n);
+    }
+
+  abbrev pub replaceAt : ℕ → Contract → Draft
+  replaceAt n c = replaceWith n c (newServices n c)
 
   -- ---- the draft of a record with first AID a; where a number is not found, nothing changes: a lower cause applies
   abbrev pub atPackage : Aid → (ℕ → Draft) → Draft
@@ -254,7 +331,7 @@ module _ (L : Layout) (t : Tables) where
   atService j s f = orElse (serviceOf L t j s) (kept t) f
 
   unfoldable pub draft : Aid → Change → Draft
-  unfolding numberOf serviceOf serverOf spotOf freeNumber freeService
+  unfolding numberOf serviceOf serverOf spotOf freeNumber freeService newServices
   draft a (load p c g n) =
       orElse (freeNumber L t) (kept t) (λ m. loadAt m (record { aid = a; provides = p; calls = c; grants = g; needs = n }))
   draft a remove = atPackage a removeAt
@@ -266,6 +343,7 @@ module _ (L : Layout) (t : Tables) where
   draft a (removeGrant r) = atPackage a (λ j. removeGrantAt j r (spotOf L t j r))
   draft a (addNeed r) = atPackage a (λ i. addNeedAt i r (serverOf L t r))
   draft a (removeNeed r) = atPackage a (λ i. removeNeedAt i r (serverOf L t r))
+  draft a (replace p c g n) = atPackage a (λ i. replaceAt i (record { aid = a; provides = p; calls = c; grants = g; needs = n }))
 
   -- the package number of an acceptance: the package's, or the one that a load takes
   unfoldable pub numberFor : Aid → ℕ

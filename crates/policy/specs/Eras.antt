@@ -2,17 +2,18 @@
 -- change; what a history had before was judged by the rules of then, and the machine goes on with the contracts it holds.'
 use Prim.Native.Nat.{ℕ, _≤_}
 use mathlib.Core.Path.{_≡_}
-use mathlib.Core.Bool.{_&&_, cond}
+use mathlib.Core.Bool.{Bool, _&&_, cond}
 use mathlib.Core.List.{List, [], _∷_, _++_, map}
 use lib.Dec.{T, eqb}
-use lib.ListN.{length}
+use lib.ListN.{length, getD}
 use Rattle.policy.specs.Contract.{Contract}
-use Rattle.policy.specs.Layout.{Layout, LayoutOk, base, narrow, ahead, size}
+use Rattle.policy.specs.Layout.{Layout, LayoutOk, base, narrow, ahead, renewed, small, size}
+use Rattle.policy.specs.Machine.{machine}
 use Rattle.policy.specs.Tables.{decode, encode, emptyImage}
 use Rattle.policy.specs.Sound.{sound}
 use Rattle.policy.specs.Judge.{Out, refusal, judge, check, readOut}
 use Rattle.policy.specs.History.{AllValid, AllAllowed, StandsFor, answers, imageAfter, machineAnswers, contractsAfter}
-use Rattle.policy.specs.Marked.{linesFrom, casesConverted}
+use Rattle.policy.specs.Marked.{linesFrom, casesConverted, casesRenewed}
 use Rattle.policy.specs.Claims.{CallsGranted, NeedsPresent}
 
 -- ---- the passage from the rules L to the rules M
@@ -48,6 +49,23 @@ pub record SameBytes (L M : Layout) : Type 0 where
   pub capacity : L .capacity ≡ M .capacity
   pub header : L .header ≡ M .header
   pub early : L .early ≡ M .early
+
+-- M's rules, with the kinds that r reads
+abbrev pub withReads : Layout → (ℕ → Bool) → Layout
+withReads M r = record {
+  packages = M .packages;
+  services = M .services;
+  width = M .width;
+  capacity = M .capacity;
+  header = M .header;
+  version = M .version;
+  countWidth = M .countWidth;
+  mostRows = M .mostRows;
+  mostCallers = M .mostCallers;
+  methods = M .methods;
+  early = M .early;
+  reads = r;
+}
 
 -- ---- histories over changes of the rules: records under the first rules, then the later eras, each on the image that the last one left
 pub record Era : Type 0 where
@@ -120,19 +138,35 @@ pub record Stays (L M : Layout) : Type 0 where
   pub goes-on : (img : List ℕ) (cs : List Contract) → StandsFor L img cs → AllAllowed M cs → StandsFor M img cs
   pub left-out : (img : List ℕ) (cs : List Contract) → StandsFor L img cs → (AllAllowed M cs → ⊥) → LeftOut M img
 
+-- a record that the rules L and M answer alike, with the same image and the same contracts left
+pub record JudgedAlike (L M : Layout) (s : List ℕ) : Type 0 where
+  pub engine : (img : List ℕ) → judge L img s ≡ judge M img s
+  pub answers : (cs : List Contract) → machine L cs s .answered ≡ machine M cs s .answered
+  pub contracts : (cs : List Contract) → machine L cs s .contracts ≡ machine M cs s .contracts
+
+-- where only the kinds that are read differ, a record of a kind that both read, or neither, is judged as before
+abbrev pub OtherKindsStay : Layout → (ℕ → Bool) → Type 0
+OtherKindsStay M r = (s : List ℕ) → r (getD s 3 0) ≡ M .reads (getD s 3 0) → JudgedAlike (withReads M r) M s
+
 -- a converter answers 0 with 0 and writes the carried image, or 1 with 255 and writes nothing
 pub record Converts (L M : Layout) (img b : List ℕ) : Type 0 where
   pub taken : T (sound L img) → length b ≡ size M → convert L M img b ≡ record { answered = 0; second = 0; bytes = carried L M img }
   pub not-sound : (T (sound L img) → ⊥) → convert L M img b ≡ refusal 1 255 b
   pub not-sized : (length b ≡ size M → ⊥) → convert L M img b ≡ refusal 1 255 b
 
--- the marked cases over R-2's conversion
+-- the marked cases over R-2's conversion, and over R-1's change
 abbrev pub MarkedConverted : Type 0
 MarkedConverted =
     map (λ c. linesFrom ahead (carried narrow ahead (imageAfter narrow (emptyImage narrow) (c .before))) (c .records)) casesConverted
     ≡ map (λ c. c .lines) casesConverted
 
--- ---- the card of eight packages so far: records by document 01's rules, R-7's change, records, R-2's conversion, records
+abbrev pub MarkedRenewed : Type 0
+MarkedRenewed =
+    map (λ c. linesFrom renewed (imageAfter ahead (emptyImage ahead) (c .before)) (c .records)) casesRenewed
+    ≡ map (λ c. c .lines) casesRenewed
+
+-- ---- the card of eight packages so far: records by document 01's rules, R-7's change, records, R-2's conversion, records, R-1's change,
+-- records
 -- the image and the contracts at R-7's change
 abbrev pub imageThen : List (List ℕ) → List ℕ
 imageThen ss = imageAfter base (emptyImage base) ss
@@ -142,16 +176,21 @@ contractsThen ss = contractsAfter base [] ss
 
 pub record SoFar : Type 0 where
   -- demand 3, where the card at R-7's change holds no method token of 128 or more
-  pub history : (ss ts us : List (List ℕ)) → AllValid narrow (contractsThen ss)
-      → HistoryOver base (emptyImage base) [] ss (record { rules = narrow; records = ts } ∷ record { rules = ahead; records = us } ∷ [])
+  pub history : (ss ts us vs : List (List ℕ)) → AllValid narrow (contractsThen ss)
+      → HistoryOver base (emptyImage base) [] ss
+      (record { rules = narrow; records = ts } ∷ record { rules = ahead; records = us } ∷ record { rules = renewed; records = vs } ∷ [])
   -- R-7: nothing is converted, and the check tells whether it does
   pub same-image : (ss : List (List ℕ)) → carried base narrow (imageThen ss) ≡ imageThen ss
   pub told : (ss : List (List ℕ)) → T (sound narrow (imageThen ss)) → AllValid narrow (contractsThen ss)
   pub goes-on : (ss : List (List ℕ)) → AllValid narrow (contractsThen ss) → StandsFor narrow (imageThen ss) (contractsThen ss)
   -- where it holds one
   pub left-out : (ss : List (List ℕ)) → (AllValid narrow (contractsThen ss) → ⊥) → LeftOut narrow (imageThen ss)
-  -- R-2: 'sound version 01 images, numbers and list order kept': the tables stay, and so do the contracts;
+  -- R-2: 'sound version 01 images, numbers and list order kept': the tables stay, and so do the contracts, by the rules in force;
   pub converted : (img : List ℕ) (cs : List Contract) → StandsFor narrow img cs
-      → (decode ahead (carried narrow ahead img) ≡ decode narrow img) × StandsFor ahead (carried narrow ahead img) cs
+      → (decode small (carried narrow small img) ≡ decode narrow img) × StandsFor small (carried narrow small img) cs
   -- 'the engine gives 1 for them'
-  pub refused : (img : List ℕ) → T (sound narrow img) → RefusedAll ahead img
+  pub refused : (img : List ℕ) → T (sound narrow img) → RefusedAll small img
+  -- R-1: nothing is converted and no card is left out; every record but those of kind 11 is judged as before
+  pub renewed-image : (img : List ℕ) → T (sound ahead img) → carried ahead renewed img ≡ img
+  pub renewed-stands : (img : List ℕ) (cs : List Contract) → StandsFor ahead img cs → StandsFor renewed img cs
+  pub renewed-others : (s : List ℕ) → (getD s 3 0 ≡ 11 → ⊥) → JudgedAlike renewed ahead s

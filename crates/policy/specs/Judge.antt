@@ -9,7 +9,7 @@ use Rattle.policy.specs.Lists.{flat, isSome, orElse}
 use Rattle.policy.specs.Contract.{Aid, Row, Contract, hasTok, hasRow}
 use Rattle.policy.specs.Layout.{Layout, size}
 use Rattle.policy.specs.Record.{Request, Change, load, remove, parse, proper}
-use Rattle.policy.specs.Record.{addService, removeService, addCall, removeCall, addGrant, removeGrant, addNeed, removeNeed}
+use Rattle.policy.specs.Record.{addService, removeService, addCall, removeCall, addGrant, removeGrant, addNeed, removeNeed, replace}
 use Rattle.policy.specs.Causes.{Cause, _when_, answer}
 use Rattle.policy.specs.Tables.{Tables, writeNumber, writeTok, decode, encode, emptyImage}
 use Rattle.policy.specs.Lookup.{usedNumbers, numberOf, freeNumber, freeService, contractAt}
@@ -68,6 +68,7 @@ module _ (L : Layout) where
         ∷ 6 when (not (holds a (λ k. hasRow r (k .calls))) || holds a (λ k. hasRow r (k .needs)))
         ∷ []
     tableCauses a (removeNeed r) = 5 when absent a ∷ 6 when not (holds a (λ k. hasRow r (k .needs))) ∷ []
+    tableCauses a (replace p c g n) = 5 when absent a ∷ []
 
   -- every cause of a record that was read, in order
   abbrev pub judgeCauses : Tables → Request → List Cause

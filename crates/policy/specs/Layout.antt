@@ -3,6 +3,7 @@ use Prim.Native.Nat.{ℕ, _+_, _*_, _-_, _^_, _≤_, _<_}
 use mathlib.Core.Path.{_≡_}
 use mathlib.Core.Bool.{Bool, true, false, cond}
 use mathlib.Core.List.{List, [], _∷_}
+use lib.Dec.{T, leb}
 use lib.ListN.{length}
 
 pub record Layout : Type 0 where
@@ -25,10 +26,19 @@ pub record Layout : Type 0 where
   pub methods : ℕ
   -- grants may be given before the service exists; the rows of waiting grants hold tokens, else service numbers
   pub early : Bool
+  -- the kinds of record that are read
+  pub reads : ℕ → Bool
+
+-- document 01's 'ten kinds of record', and R-1's 'kind 11'
+abbrev pub ten : ℕ → Bool
+ten k = leb k 10
+
+abbrev pub eleven : ℕ → Bool
+eleven k = leb k 11
 
 -- the card of eight packages, with method tokens below m
-abbrev pub cardOf : ℕ → Bool → Layout
-cardOf m e = record {
+abbrev pub cardOf : ℕ → Bool → (ℕ → Bool) → Layout
+cardOf m e r = record {
   packages = 8;
   services = 8;
   width = 1;
@@ -40,23 +50,28 @@ cardOf m e = record {
   mostCallers = 32;
   methods = m;
   early = e;
+  reads = r;
 }
 
 -- its rules by time: document 01's, 'Each token may be 0 to 255', in an image of 1,094 bytes;
 abbrev pub base : Layout
-base = cardOf 256 false
+base = cardOf 256 false ten
 
 -- R-7's, 'Method tokens stop at 127';
 abbrev pub narrow : Layout
-narrow = cardOf 128 false
+narrow = cardOf 128 false ten
 
 -- R-2's, 'Grants given before the service exists', in an image of 1,110 bytes;
 abbrev pub ahead : Layout
-ahead = cardOf 128 true
+ahead = cardOf 128 true ten
+
+-- R-1's, 'an applet's new release brings its whole contract'
+abbrev pub renewed : Layout
+renewed = cardOf 128 true eleven
 
 -- and those in force
 abbrev pub small : Layout
-small = ahead
+small = renewed
 
 -- bytes of an AID's place and of a row of unmet calls
 abbrev pub aidSize : ℕ
@@ -108,4 +123,5 @@ pub record LayoutOk (L : Layout) : Type 0 where
   pub services-fit : 2 ^ L .services ≤ 256 ^ L .width
   pub rows-fit : (L .packages - 1) * L .services + L .capacity ≤ L .mostRows
   pub counts-fit : L .mostRows < 256 ^ L .countWidth
+  pub load-read : T (L .reads 1)
   pub records-fit : 4 + (17 + ((1 + L .services * 2) + 3 * (L .countWidth + L .mostRows * 19))) < 256 ^ 2

@@ -10,7 +10,7 @@ use Rattle.policy.specs.Contract.{Aid, eqAid, eqTok, Row, eqRow, Contrac
 use Rattle.policy.specs.Contract.{callsGranted, needsMet, unmetCalls, waitingGrants}
 use Rattle.policy.specs.Layout.{Layout}
 use Rattle.policy.specs.Record.{Request, Change, load, remove, parse, proper}
-use Rattle.policy.specs.Record.{addService, removeService, addCall, removeCall, addGrant, removeGrant, addNeed, removeNeed}
+use Rattle.policy.specs.Record.{addService, removeService, addCall, removeCall, addGrant, removeGrant, addNeed, removeNeed, replace}
 use Rattle.policy.specs.Causes.{Cause, _when_, answer}
 
 -- ---- what a change makes of one contract; R-2: 'kind 4 keeps the grants', 'kind 3 takes once a grant that is in both places'
@@ -18,7 +18,7 @@ abbrev pub withoutRow : Row → List Row → List Row
 withoutRow r l = keep (λ x. not (eqRow r x)) l
 
 abbrev pub altered : Layout → Change → Contract → Contract
-altered L (load p c g n) k = record { aid = k .aid; provides = p; calls = c; grants = g; needs = n }
+altered L (load p c g n) k = k
 altered L remove k = k
 altered L (addService s l) k = record {
   aid = k .aid;
@@ -46,6 +46,7 @@ altered L (addNeed r) k =
     record { aid = k .aid; provides = k .provides; calls = k .calls; grants = k .grants; needs = k .needs ++ (r ∷ []) }
 altered L (removeNeed r) k =
     record { aid = k .aid; provides = k .provides; calls = k .calls; grants = k .grants; needs = withoutRow r (k .needs) }
+altered L (replace p c g n) k = record { aid = k .aid; provides = p; calls = c; grants = g; needs = n }
 
 -- the contract under a altered, and no other
 abbrev pub alter : Aid → (Contract → Contract) → List Contract → List Contract
@@ -63,6 +64,7 @@ effect L cs a (addGrant r) = alter a (altered L (addGrant r)) cs
 effect L cs a (removeGrant r) = alter a (altered L (removeGrant r)) cs
 effect L cs a (addNeed r) = alter a (altered L (addNeed r)) cs
 effect L cs a (removeNeed r) = alter a (altered L (removeNeed r)) cs
+effect L cs a (replace p c g n) = alter a (altered L (replace p c g n)) cs
 
 module _ (L : Layout) where
   -- ---- causes 4 to 7: 'by the contracts held too, 7 when a load finds eight contracts or kind 3 eight services in the package'
@@ -87,6 +89,7 @@ module _ (L : Layout) where
       ∷ 6 when (not (under cs a (λ k. hasRow r (k .calls))) || under cs a (λ k. hasRow r (k .needs)))
       ∷ []
   causes4to7 cs a (removeNeed r) = 5 when not (installed cs a) ∷ 6 when not (under cs a (λ k. hasRow r (k .needs))) ∷ []
+  causes4to7 cs a (replace p c g n) = 5 when not (installed cs a) ∷ []
 
   -- ---- causes 8 to 11, on the contracts that the record would leave
   abbrev pub causes8to11 : List Contract → List Cause

@@ -6,7 +6,9 @@ use mathlib.Core.Option.{Option, none, some}
 use lib.Dec.{eqb}
 use lib.ListN.{length, drop}
 use Rattle.policy.specs.Lists.{first, flat, from, upto}
+use Rattle.policy.specs.Contract.{Tok}
 use Rattle.policy.specs.Layout.{Layout}
+use Rattle.policy.specs.Tables.{Unmet, Waiting}
 use Rattle.policy.specs.Judge.{Out, judge}
 
 -- ---- lines, as the session prints them: 'kind (the fourth byte, known or not), answer, package number or `-` on a refusal'
@@ -60,9 +62,16 @@ rowOf n m = aidOf n ++ (0 ∷ m ∷ [])
 abbrev pub listOf : List (List ℕ) → List ℕ
 listOf l = length l ∷ flat (λ r. r) l
 
+-- a whole contract of package n, for kinds 1 and 11
+abbrev pub contractOf : ℕ → ℕ → List ℕ → List (List ℕ) → List (List ℕ) → List (List ℕ) → List ℕ
+contractOf kind n toks calls grants needs =
+    recordOf kind (aidOf n ++ (listOf (map (λ m. 0 ∷ m ∷ []) toks) ++ (listOf calls ++ (listOf grants ++ listOf needs))))
+
 abbrev pub loadOf : ℕ → List ℕ → List (List ℕ) → List (List ℕ) → List (List ℕ) → List ℕ
-loadOf n toks calls grants needs =
-    recordOf 1 (aidOf n ++ (listOf (map (λ m. 0 ∷ m ∷ []) toks) ++ (listOf calls ++ (listOf grants ++ listOf needs))))
+loadOf = contractOf 1
+
+abbrev pub releaseOf : ℕ → List ℕ → List (List ℕ) → List (List ℕ) → List (List ℕ) → List ℕ
+releaseOf = contractOf 11
 
 abbrev pub removalOf : ℕ → List ℕ
 removalOf n = recordOf 2 (aidOf n)
@@ -70,6 +79,10 @@ removalOf n = recordOf 2 (aidOf n)
 -- package n calls services 1 to m of the absent package 9
 abbrev pub callsOn9 : ℕ → List (List ℕ)
 callsOn9 m = map (rowOf 9) (from 1 m)
+
+-- it grants service 0 to m packages from number n on
+abbrev pub grantsFrom : ℕ → ℕ → List (List ℕ)
+grantsFrom n m = map (λ c. rowOf c 0) (from n m)
 
 -- kinds 5 to 10: package n, and service m of package k
 abbrev pub rowChange : ℕ → ℕ → ℕ → ℕ → List ℕ
@@ -158,6 +171,42 @@ cases =
     }
     -- interface tokens are 0 to 255
     ∷ record { records = recordOf 1 (aidOf 1 ++ (1 ∷ 255 ∷ 127 ∷ 0 ∷ 0 ∷ 0 ∷ [])) ∷ []; lines = taken 1 0 ∷ [] }
+    -- R-1: 'with 5 for an absent package'; a load's causes 2 and 3
+    ∷ record {
+      records = releaseOf 1 [] [] [] [] ∷ loadH ∷ loadOf 2 [] [] [] [] ∷ releaseOf 1 (from 0 9) [] [] [] ∷ releaseOf 1 (128 ∷ []) [] [] []
+          ∷ releaseOf 1 (0 ∷ 0 ∷ []) [] [] [] ∷ releaseOf 1 [] (rowOf 1 0 ∷ []) [] [] ∷ releaseOf 1 [] [] [] (rowOf 2 0 ∷ []) ∷ [];
+      lines = refused 11 5 ∷ taken 1 0 ∷ taken 1 1 ∷ refused 11 2 ∷ refused 11 2 ∷ refused 11 3 ∷ refused 11 3 ∷ refused 11 3 ∷ [];
+    }
+    -- a call and a need of its own that fail; 'Kinds 1 and 11 no longer give 3' for a grant of a service not provided
+    ∷ record {
+      records = loadOf 1 (0 ∷ []) [] [] [] ∷ loadOf 2 [] [] [] [] ∷ releaseOf 2 [] (rowOf 1 0 ∷ rowOf 9 0 ∷ []) [] (rowOf 9 0 ∷ [])
+          ∷ releaseOf 2 [] (rowOf 9 0 ∷ []) [] (rowOf 9 0 ∷ []) ∷ releaseOf 2 [] (rowOf 9 0 ∷ []) (rowOf 1 5 ∷ []) [] ∷ [];
+      lines = taken 1 0 ∷ taken 1 1 ∷ refused 11 8 ∷ refused 11 9 ∷ taken 11 1 ∷ [];
+    }
+    -- a service that another package needs may not be dropped, one that is called may; a call on a service that stays or comes asks for
+    -- its grant
+    ∷ record {
+      records = loadH ∷ loadC ∷ releaseOf 1 (1 ∷ []) [] [] [] ∷ releaseOf 2 [] (rowOf 1 0 ∷ []) [] [] ∷ releaseOf 1 (0 ∷ []) [] [] []
+          ∷ releaseOf 1 (1 ∷ []) [] [] [] ∷ releaseOf 1 (1 ∷ 0 ∷ []) [] [] [] ∷ releaseOf 1 (1 ∷ 0 ∷ []) [] (rowOf 2 0 ∷ []) [] ∷ [];
+      lines = taken 1 0 ∷ taken 1 1 ∷ refused 11 9 ∷ taken 11 1 ∷ refused 11 8 ∷ taken 11 0 ∷ refused 11 8 ∷ taken 11 0 ∷ [];
+    }
+    -- its own rows leave first: 16 unmet calls and 16 waiting grants make room for 16 others; a 17th does not fit
+    ∷ record {
+      records = loadOf 1 [] (callsOn9 16) (grantsFrom 20 16) [] ∷ releaseOf 1 [] (map (rowOf 10) (from 1 16)) (grantsFrom 50 16) []
+          ∷ releaseOf 1 [] (callsOn9 17) [] [] ∷ releaseOf 1 [] [] (grantsFrom 20 17) [] ∷ [];
+      lines = taken 1 0 ∷ taken 11 0 ∷ refused 11 10 ∷ refused 11 11 ∷ [];
+    }
+    -- dropped services free their numbers: eight others take them
+    ∷ record {
+      records = loadOf 1 (from 0 8) [] [] [] ∷ releaseOf 1 (from 10 8) [] [] [] ∷ releaseOf 1 (17 ∷ from 20 7) [] [] [] ∷ [];
+      lines = taken 1 0 ∷ taken 11 0 ∷ taken 11 0 ∷ [];
+    }
+    -- other packages' calls on dropped services that would make 17 unmet
+    ∷ record {
+      records = loadH ∷ loadOf 2 [] (rowOf 1 0 ∷ []) [] [] ∷ loadOf 3 [] (callsOn9 16) [] [] ∷ releaseOf 1 [] [] [] []
+          ∷ releaseOf 3 [] (callsOn9 15) [] [] ∷ releaseOf 1 [] [] [] [] ∷ [];
+      lines = taken 1 0 ∷ taken 1 1 ∷ taken 1 2 ∷ refused 11 10 ∷ taken 11 2 ∷ taken 11 0 ∷ [];
+    }
     ∷ []
 
 -- ---- cases over a change of the rules
@@ -217,7 +266,7 @@ casesConverted =
     -- 'Kind 3 takes once a grant that is in both places': 16 wait before it and after it; a 17th does not fit
     ∷ record {
       before = loadOf 1 [] [] [] [] ∷ [];
-      records = loadOf 2 [] [] (map (λ c. rowOf c 0) (from 20 15)) []
+      records = loadOf 2 [] [] (grantsFrom 20 15) []
           ∷ rowChange 7 1 9 0 ∷ addServiceTo 1 0 (9 ∷ []) ∷ rowChange 7 1 10 0 ∷ [];
       lines = taken 1 1 ∷ taken 7 0 ∷ taken 3 0 ∷ refused 7 11 ∷ [];
     }
@@ -228,3 +277,61 @@ casesConverted =
       lines = taken 7 0 ∷ taken 1 1 ∷ taken 3 0 ∷ [];
     }
     ∷ []
+
+-- by R-2's rules, and by R-1's
+abbrev pub casesRenewed : List CaseOver
+casesRenewed =
+    -- kind 11 was not read before; a grant that waited goes with the contract that gave it
+    record {
+      before =
+          loadOf 1 [] [] [] []
+          ∷ loadOf 2 [] (rowOf 1 0 ∷ []) [] []
+          ∷ releaseOf 1 (0 ∷ []) [] (rowOf 2 0 ∷ []) []
+          ∷ rowChange 7 1 2 0
+          ∷ [];
+      records = releaseOf 1 [] [] [] [] ∷ addService 1 0 ∷ releaseOf 1 [] [] (rowOf 2 0 ∷ []) [] ∷ addService 1 0 ∷ addService 1 0 ∷ [];
+      lines = taken 11 0 ∷ refused 3 8 ∷ taken 11 0 ∷ taken 3 0 ∷ refused 3 6 ∷ [];
+    }
+    ∷ []
+
+-- ---- where things stand after some records: the places and the tokens of the services of package number 0, and the lists
+pub record Standing : Type 0 where
+  pub places : List ℕ
+  pub services : List Tok
+  pub unmet : List Unmet
+  pub waiting : List Waiting
+
+pub record PlacingCase : Type 0 where
+  pub records : List (List ℕ)
+  pub leaves : Standing
+
+abbrev pub plainAid : ℕ → List ℕ
+plainAid n = 240 ∷ 0 ∷ 0 ∷ 0 ∷ n ∷ []
+
+abbrev pub tokOf : ℕ → Tok
+tokOf m = record { itf = 0; mth = m }
+
+-- package number i calls service m of package n, which is not there; package number j grants service m to package n, and it waits
+abbrev pub unmetOf : ℕ → ℕ → ℕ → Unmet
+unmetOf n m i = record { callee = plainAid n; tok = tokOf m; caller = i }
+
+abbrev pub waitingOf : ℕ → ℕ → ℕ → Waiting
+waitingOf j n m = record { caller = plainAid n; callee = j; tok = tokOf m }
+
+-- R-1: service 2 keeps its number 2, services 0 and 1 free theirs, 6 and 5 take them. The call of package 1 and that of package 3 on
+-- service 5, which is met, leave the list; those of package 1 follow, then those of packages 2 and 3 on services 0 and 1. The grants of
+-- package 1 leave and follow alike; that of package 2 to package 1 stays in place
+abbrev pub replacing : PlacingCase
+replacing = record {
+  records = loadOf 1 (0 ∷ 1 ∷ 2 ∷ []) (rowOf 9 1 ∷ []) (rowOf 8 1 ∷ rowOf 2 0 ∷ rowOf 2 1 ∷ rowOf 3 1 ∷ rowOf 3 2 ∷ []) []
+      ∷ loadOf 2 [] (rowOf 1 1 ∷ rowOf 1 0 ∷ []) (rowOf 1 4 ∷ []) []
+      ∷ loadOf 3 [] (rowOf 1 2 ∷ rowOf 1 5 ∷ rowOf 1 1 ∷ rowOf 9 7 ∷ []) [] []
+      ∷ releaseOf 1 (6 ∷ 2 ∷ 5 ∷ []) (rowOf 9 2 ∷ rowOf 9 1 ∷ []) (rowOf 8 6 ∷ rowOf 3 5 ∷ rowOf 2 9 ∷ rowOf 3 2 ∷ []) []
+      ∷ [];
+  leaves = record {
+    places = 0 ∷ 1 ∷ 2 ∷ [];
+    services = tokOf 6 ∷ tokOf 5 ∷ tokOf 2 ∷ [];
+    unmet = unmetOf 9 7 2 ∷ unmetOf 9 2 0 ∷ unmetOf 9 1 0 ∷ unmetOf 1 0 1 ∷ unmetOf 1 1 1 ∷ unmetOf 1 1 2 ∷ [];
+    waiting = waitingOf 1 1 4 ∷ waitingOf 0 8 6 ∷ waitingOf 0 2 9 ∷ [];
+  };
+}

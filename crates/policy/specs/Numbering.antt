@@ -8,7 +8,7 @@ use lib.ListN.{length, take}
 use Rattle.policy.specs.Contract.{Aid, Contract}
 use Rattle.policy.specs.Layout.{Layout}
 use Rattle.policy.specs.Record.{Request, Change, load, remove, parse}
-use Rattle.policy.specs.Record.{addService, removeService, addCall, removeCall, addGrant, removeGrant, addNeed, removeNeed}
+use Rattle.policy.specs.Record.{addService, removeService, addCall, removeCall, addGrant, removeGrant, addNeed, removeNeed, replace}
 use Rattle.policy.specs.Tables.{Tables, decode}
 use Rattle.policy.specs.Lookup.{contractAt}
 use Rattle.policy.specs.Sound.{sound}
@@ -32,6 +32,7 @@ Numbered before after a (addGrant r) m = HasNumber after a m
 Numbered before after a (removeGrant r) m = HasNumber after a m
 Numbered before after a (addNeed r) m = HasNumber after a m
 Numbered before after a (removeNeed r) m = HasNumber after a m
+Numbered before after a (replace p c g n) m = HasNumber after a m
 
 abbrev pub SecondNumber : Layout → Type 0
 SecondNumber L = (img s : List ℕ) (q : Request) → T (sound L img) → parse L s ≡ some q → judge L img s .answered ≡ 0

@@ -9,13 +9,14 @@ use Rattle.policy.specs.Lists.{every, distinct, orElse}
 use Rattle.policy.specs.Contract.{Aid, eqAid, Tok, eqTok, Row, eqRow, hasTok, hasRow, validAid}
 use Rattle.policy.specs.Layout.{Layout}
 
--- what follows the first AID, by kind: 1 to 10 in order
+-- what follows the first AID, by kind: 1 to 11 in order
 pub data Change : Type 0 where
   load : List Tok → List Row → List Row → List Row → Change
   remove : Change
   addService : Tok → List Aid → Change
   removeService : Tok → Change
   addCall removeCall addGrant removeGrant addNeed removeNeed : Row → Change
+  replace : List Tok → List Row → List Row → List Row → Change
 
 -- a record: the first AID, and the change of its contract
 pub record Request : Type 0 where
@@ -132,14 +133,15 @@ module _ (L : Layout) where
   abbrev pub callerList : Reader (List Aid)
   callerList = counted 1 (L .mostCallers) aid
 
-  unfoldable pub aLoad : Reader Change
+  -- a whole contract, for kind 1; R-1: 'Kind 11 has a load's layout'
+  unfoldable pub aContract : (List Tok → List Row → List Row → List Row → Change) → Reader Change
   unfolding counted rowOf validTokens
-  aLoad = do
+  aContract f = do
     p ← tokenList
     c ← rowList
     g ← rowList
     n ← rowList
-    done (load p c g n)
+    done (f p c g n)
 
   unfoldable pub aService : Reader Change
   unfolding counted validTokens aid
@@ -152,7 +154,7 @@ module _ (L : Layout) where
   abbrev pub kinds : List (Reader Change)
   kinds =
       (λ s. bad)
-      ∷ aLoad
+      ∷ aContract load
       ∷ done remove
       ∷ aService
       ∷ (validTokens >>= λ s. done (removeService s))
@@ -162,11 +164,12 @@ module _ (L : Layout) where
       ∷ (validRow >>= λ r. done (removeGrant r))
       ∷ (validRow >>= λ r. done (addNeed r))
       ∷ (validRow >>= λ r. done (removeNeed r))
+      ∷ aContract replace
       ∷ []
 
   unfoldable pub change : ℕ → Reader Change
-  unfolding aLoad aService rowOf validTokens
-  change k = getD kinds k (λ s. bad)
+  unfolding aContract aService rowOf validTokens
+  change k = given (L .reads k) (getD kinds k (λ s. bad))
 
   -- a record of l bytes: 'its whole length in two bytes, big-endian, then the version byte, then a kind byte'
   unfoldable pub fields : ℕ → Reader Request
@@ -185,15 +188,19 @@ module _ (L : Layout) where
   parse s = whole (fields (length s) s)
 
 -- ---- cause 3: 'repeated row, own AID as the other end, need not called, grant of a service not provided (kind 1);
--- own AID or a repeated AID (kind 3); own AID as the other end (5 to 10)'; R-2: no longer for a grant of a service not provided
+-- own AID or a repeated AID (kind 3); own AID as the other end (5 to 10)'; R-2: no longer for a grant of a service not provided;
+-- R-1: kind 11 has a load's 'causes 2 and 3'
 abbrev pub notOwn : Aid → List Row → Bool
 notOwn a l = every (λ r. not (eqAid (r .aid) a)) l
 
-unfoldable pub proper : Layout → Aid → Change → Bool
-proper L a (load p c g n) =
+abbrev pub properContract : Layout → Aid → List Tok → List Row → List Row → List Row → Bool
+properContract L a p c g n =
     (distinct eqTok p && distinct eqRow c && distinct eqRow g && distinct eqRow n)
     && (notOwn a c && notOwn a g && notOwn a n)
     && (every (λ r. hasRow r c) n && (L .early || every (λ r. hasTok (r .tok) p) g))
+
+unfoldable pub proper : Layout → Aid → Change → Bool
+proper L a (load p c g n) = properContract L a p c g n
 proper L a remove = true
 proper L a (addService s l) = every (λ b. not (eqAid b a)) l && distinct eqAid l
 proper L a (removeService s) = true
@@ -203,6 +210,7 @@ proper L a (addGrant r) = not (eqAid (r .aid) a)
 proper L a (removeGrant r) = not (eqAid (r .aid) a)
 proper L a (addNeed r) = not (eqAid (r .aid) a)
 proper L a (removeNeed r) = not (eqAid (r .aid) a)
+proper L a (replace p c g n) = properContract L a p c g n
 
 -- the first AID of a record, which stands from its byte 5 on; an empty part for cause 2
 unfoldable pub firstAid : Layout → List ℕ → Aid

@@ -1,4 +1,4 @@
--- Requests as records: document 01, 'Records'. How each of the ten kinds is written, what a request must meet, and the claims on both.
+-- Requests as records: document 01, 'Records'. How each of the eleven kinds is written, what a request must meet, and the claims on both.
 use Prim.Native.Nat.{ℕ, _+_, _*_, _^_, _≤_, _<_, max}
 use mathlib.Core.Path.{_≡_}
 use mathlib.Core.List.{List, [], _∷_, _++_}
@@ -10,7 +10,7 @@ use Rattle.policy.specs.Lists.{flat}
 use Rattle.policy.specs.Contract.{Aid, Tok, Row, Contract, validAid}
 use Rattle.policy.specs.Layout.{Layout}
 use Rattle.policy.specs.Record.{Request, Change, load, remove, validTok, parse}
-use Rattle.policy.specs.Record.{addService, removeService, addCall, removeCall, addGrant, removeGrant, addNeed, removeNeed}
+use Rattle.policy.specs.Record.{addService, removeService, addCall, removeCall, addGrant, removeGrant, addNeed, removeNeed, replace}
 use Rattle.policy.specs.Tables.{writeNumber, writeTok}
 use Rattle.policy.specs.Judge.{aidBytes, rowBytes, rowsBytes, readOut}
 
@@ -26,6 +26,7 @@ kindOf (addGrant r) = 7
 kindOf (removeGrant r) = 8
 kindOf (addNeed r) = 9
 kindOf (removeNeed r) = 10
+kindOf (replace p c g n) = 11
 
 -- the load of a contract
 abbrev pub loadOf : Contract → Change
@@ -56,8 +57,11 @@ module _ (L : Layout) where
   -- ---- writing
   -- what follows the first AID: document 01's table.
   -- 'An AID is written as a length byte and its bytes. A list is a count byte and its rows.'
+  abbrev pub contractBytes : List Tok → List Row → List Row → List Row → List ℕ
+  contractBytes p c g n = (length p ∷ flat writeTok p) ++ (rowsBytes L c ++ (rowsBytes L g ++ rowsBytes L n))
+
   abbrev pub changeBytes : Change → List ℕ
-  changeBytes (load p c g n) = (length p ∷ flat writeTok p) ++ (rowsBytes L c ++ (rowsBytes L g ++ rowsBytes L n))
+  changeBytes (load p c g n) = contractBytes p c g n
   changeBytes remove = []
   changeBytes (addService s l) = writeTok s ++ (length l ∷ flat aidBytes l)
   changeBytes (removeService s) = writeTok s
@@ -67,6 +71,7 @@ module _ (L : Layout) where
   changeBytes (removeGrant r) = rowBytes r
   changeBytes (addNeed r) = rowBytes r
   changeBytes (removeNeed r) = rowBytes r
+  changeBytes (replace p c g n) = contractBytes p c g n
 
   abbrev pub bodyBytes : Request → List ℕ
   bodyBytes q = aidBytes (q .aid) ++ changeBytes (q .change)
@@ -76,9 +81,12 @@ module _ (L : Layout) where
   recordBytes q = writeNumber 2 (4 + length (bodyBytes q)) (L .version ∷ kindOf (q .change) ∷ bodyBytes q)
 
   -- ---- what can be written: every AID and method token is valid, and each list is within the layout's limits
-  abbrev pub WithinChange : Change → Type 0
-  WithinChange (load p c g n) =
+  abbrev pub WithinContract : List Tok → List Row → List Row → List Row → Type 0
+  WithinContract p c g n =
       AtMost (L .services) ValidTok p × AtMost (L .mostRows) ValidRow c × AtMost (L .mostRows) ValidRow g × AtMost (L .mostRows) ValidRow n
+
+  abbrev pub WithinChange : Change → Type 0
+  WithinChange (load p c g n) = WithinContract p c g n
   WithinChange remove = Unit {0}
   WithinChange (addService s l) = ValidTok s × AtMost (L .mostCallers) ValidAid l
   WithinChange (removeService s) = ValidTok s
@@ -88,15 +96,16 @@ module _ (L : Layout) where
   WithinChange (removeGrant r) = ValidRow r
   WithinChange (addNeed r) = ValidRow r
   WithinChange (removeNeed r) = ValidRow r
+  WithinChange (replace p c g n) = WithinContract p c g n
 
   abbrev pub Within : Request → Type 0
   Within q = ValidAid (q .aid) × WithinChange (q .change)
 
-  -- and two bytes hold the length
+  -- the kind is one that is read, and two bytes hold the length
   abbrev pub Writable : Request → Type 0
-  Writable q = Within q × (length (recordBytes q) < 256 ^ 2)
+  Writable q = Within q × T (L .reads (kindOf (q .change))) × (length (recordBytes q) < 256 ^ 2)
 
-  -- ---- the longest record: its head, an AID of 16 bytes, and the longest of a load, of kind 3 and of a row
+  -- ---- the longest record: its head, an AID of 16 bytes, and the longest of a contract, of kind 3 and of a row
   abbrev pub longestLoad : ℕ
   longestLoad = (1 + L .services * 2) + 3 * (L .countWidth + L .mostRows * 19)
 

@@ -9,10 +9,10 @@ use Rattle.policy.specs.Lists.{implies, every, exists, keep, isSome, orE
 use Rattle.policy.specs.Contract.{Aid, eqAid, Tok, Contract, hasTok, hasRow}
 use Rattle.policy.specs.Layout.{Layout}
 use Rattle.policy.specs.Record.{Change, load, remove}
-use Rattle.policy.specs.Record.{addService, removeService, addCall, removeCall, addGrant, removeGrant, addNeed, removeNeed}
+use Rattle.policy.specs.Record.{addService, removeService, addCall, removeCall, addGrant, removeGrant, addNeed, removeNeed, replace}
 use Rattle.policy.specs.Tables.{Tables, Unmet}
 use Rattle.policy.specs.Lookup.{Place, Spot, numbers, places, numberOf, serviceOf, serverOf, spotOf}
-use Rattle.policy.specs.Draft.{Look, asksFor, hasWaiting, installedAid, nowGranted}
+use Rattle.policy.specs.Draft.{Look, asksFor, hasWaiting, installedAid, nowGranted, droppedBy}
 
 -- how many pass
 abbrev pub count : {A : Type 0} → (A → Bool) → List A → ℕ
@@ -115,6 +115,31 @@ module _ (L : Layout) (t : Tables) where
           + count (λ r. not (isSome (numberOf L t (r .aid)) && hasTok (r .tok) (c .provides))) (c .grants));
     }
 
+  -- ---- kind 11: the same of the contract c in place of package n's, which others may call and need
+  module _ (n : ℕ) (c : Contract) where
+    -- its calls are granted to it
+    abbrev pub ownRights : Bool
+    ownRights = every (λ r. orElse (serverOf L t r) true (λ p. t .grants (p .callee) n (p .service))) (c .calls)
+
+    -- calls on services that it keeps are granted by it
+    abbrev pub keptRights : Bool
+    keptRights = every (λ i. every (λ k. implies (t .calls i n k && not (droppedBy L t c n k))
+        (hasRow (record { aid = t .aid i; tok = t .tok n k }) (c .grants))) (places L)) (numbers L)
+
+    -- and no other package needs a service that it drops
+    abbrev pub othersNeeds : Bool
+    othersNeeds = every (λ i. every (λ k. not (t .needs i n k && droppedBy L t c n k)) (places L)) (numbers L)
+
+    abbrev pub shortReplace : Look
+    shortReplace = record {
+      granted = ownRights && (othersRights c && keptRights);
+      needed = newcomerNeeds c && othersNeeds;
+      unmetFits = fits (count (λ u. not (eqb (u .caller) n || nowMet c u)) (t .unmet)
+          + (count (λ r. not (isSome (serverOf L t r))) (c .calls) + ones (λ i k. t .calls i n k && droppedBy L t c n k)));
+      waitingFits = fits (count (λ w. not (eqb (w .callee) n)) (t .waiting)
+          + count (λ r. not (isSome (numberOf L t (r .aid)) && hasTok (r .tok) (c .provides))) (c .grants));
+    }
+
   -- ---- by kind, with first AID a
   abbrev pub shortAt : Aid → (ℕ → Look) → Look
   shortAt a f = orElse (numberOf L t a) fine f
@@ -134,3 +159,4 @@ module _ (L : Layout) (t : Tables) where
   shortLook a (removeGrant r) = shortAt a (λ j. shortRemoveGrant j (spotOf L t j r))
   shortLook a (addNeed r) = shortAddNeed (serverOf L t r)
   shortLook a (removeNeed r) = fine
+  shortLook a (replace p c g n) = shortAt a (λ i. shortReplace i (record { aid = a; provides = p; calls = c; grants = g; needs = n }))
