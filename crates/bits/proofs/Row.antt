@@ -183,6 +183,14 @@ within-back : (a b : Bool) → implies a b ≡ true → a && b ≡ a
 within-back true b e = e
 within-back false b e = refl
 
+-- a & b, and a & !b
+pub and-both : (n a b : ℕ) → a < 2 ^ n → b < 2 ^ n → bitAnd a b ≡ rowOf n (λ k. bit a k && bit b k)
+and-both n a b h l = row-is n (bitAnd a b) (λ k. bit a k && bit b k) (and-lt n a b h l) (λ k _. bit-and a b k)
+
+pub and-others : (n a b : ℕ) → a < 2 ^ n → b < 2 ^ n → bitAnd a (2 ^ n - 1 - b) ≡ rowOf n (λ k. bit a k && not (bit b k))
+and-others n a b h l = row-is n (bitAnd a (2 ^ n - 1 - b)) (λ k. bit a k && not (bit b k)) (and-lt n a (2 ^ n - 1 - b) h (ones-sub-lt n b))
+    (λ k m. bit-and a (2 ^ n - 1 - b) k ∙ ap (λ (x : Bool). bit a k && x) (bit-inv n b k l m))
+
 -- a & b == a: each bit of a is one of b's
 pub and-subset : (n a b : ℕ) → a < 2 ^ n → b < 2 ^ n → eqb (bitAnd a b) a ≡ every (λ k. implies (bit a k) (bit b k)) (upto n)
 and-subset n a b h l =
@@ -223,6 +231,13 @@ module _ (n : ℕ) (f : ℕ → Bool) (r : ℕ) (e : r ≡ rowOf n f) where
   row-count h q p =
       p ∙ ap (λ (x : ℕ). length (keep (bit x) (upto 16))) e
       ∙ ap length (keep-row n 16 (rowOf n f) h (rowOf-lt n f) ∙ keep-ext (bit (rowOf n f)) f (upto n) (λ k m. bit-rowOf n f k (upto-in n m)))
+
+-- a row of n bits with a test beside it, in a wider word
+pub row-beside : (n m : ℕ) (f g : ℕ → Bool) (r : ℕ) → n ≤ m → r ≡ rowOf n f → rowOf m (λ k. bit r k && g k) ≡ rowOf n (λ k. f k && g k)
+row-beside n m f g r h e =
+    row-narrow n (λ k. bit r k && g k) (λ k p. ap (λ (b : Bool). b && g k) (ap (λ (x : ℕ). bit x k) e ∙ bit-past n (rowOf n f) k (rowOf-lt n f) p)) m h
+    ∙ row-is n (rowOf n (λ k. bit r k && g k)) (λ k. f k && g k) (rowOf-lt n (λ k. bit r k && g k))
+    (λ k p. bit-rowOf n (λ k. bit r k && g k) k p ∙ ap (λ (b : Bool). b && g k) (row-bit n f r e k p))
 
 -- a bit of a row that was read
 pub bit-seen : (n : ℕ) (f : ℕ → Bool) (row k : ℕ) (b : Bool) → b ≡ bit row k → row ≡ rowOf n f → k < n → b ≡ f k

@@ -51,3 +51,17 @@ pub fn subset(a: u16, b: u16) -> bool
 {
     a & b == a
 }
+
+// The bits that a and b have both.
+pub fn common(a: u16, b: u16) -> u16
+    ensures { λ r. ⌜ r ≡ rowOf 16 (λ k. bit a k && bit b k) ⌝ }
+{
+    a & b
+}
+
+// The bits of a that b has not.
+pub fn others(a: u16, b: u16) -> u16
+    ensures { λ r. ⌜ r ≡ rowOf 16 (λ k. bit a k && not (bit b k)) ⌝ }
+{
+    a & !b
+}

@@ -90,6 +90,15 @@ pub number-in-row : (l : Kept) → (17 ≤ numberIn l) × (numberIn l < 20)
 number-in-row UnmetCalls = (omega arith, omega arith)
 number-in-row WaitingGrants = (omega arith, omega arith)
 
+-- the tokens of package j's services stand one after another
+pub record TokenRow (c : Card) (j : ℕ) : Type 0 where
+  pub some : 0 < layoutOf c .services
+  pub inside : tokAt (layoutOf c) j 0 + layoutOf c .services * 2 ≤ size (layoutOf c)
+  pub each : (k : ℕ) → tokAt (layoutOf c) j k ≡ tokAt (layoutOf c) j 0 + k * 2
+
+pub token-row : (c : Card) (j : ℕ) → j < layoutOf c .packages → TokenRow c j
+token-row Small j h = record { some = omega arith; inside = omega arith; each = λ k. omega arith }
+
 pub tokens-in-row : (l : Kept) → (17 ≤ tokensIn l) × (tokensIn l + 1 < 20)
 tokens-in-row UnmetCalls = (omega arith, omega arith)
 tokens-in-row WaitingGrants = (omega arith, omega arith)

@@ -24,7 +24,7 @@ use Rattle.geometry.specs.declared.Table.the-variants.{Calls, Grants, Needs}
 use Rattle.geometry.specs.Geometry.{layoutOf}
 use Rattle.geometry.proofs.Bounds.{layout-ok}
 use Rattle.image.specs.Laid.{tableOf, Laid, withTok, withProvides, withTable, withEntry}
-use Rattle.image.specs.Wrote.{Wrote, withoutPackage, rowIn, inColumn, inRow, withoutService, withoutServices}
+use Rattle.image.specs.Wrote.{Wrote, withoutRow, withoutPackage, rowIn, inColumn, inRow, withoutService, withoutServices}
 use Rattle.image.proofs.Laid.{entry-in, laid-length}
 
 -- bits of a table by row, column and service
@@ -80,6 +80,9 @@ module _ (p : ℕ → Bits) (b : Bits) where
           (λ e. let k = h tt e in in-exists (λ k. p k x y z) (in-upto n (k .0) (k .1)) (k .2)))
 
 -- what turn k of each loop clears
+abbrev pub alongRow : ℕ → ℕ → Bits
+alongRow n k x y z = eqb x n && eqb y k
+
 abbrev pub cross : ℕ → ℕ → Bits
 cross n k x y z = (eqb x n && eqb y k) || (eqb x k && eqb y n)
 
@@ -116,6 +119,11 @@ module _ (c : Card) (tb : Table) where
         change (λ (b : Bits) (x y z : ℕ). cond (eqb x i && eqb y j) (bit 0 z) (b x y z)) b (λ x y z. b x y z && not (eqb x i && eqb y j))
         (λ r x y z. (ap (λ (v : Bool). cond (eqb x i && eqb y j) v (b x y z)) (bit-none z) ∙ off (eqb x i && eqb y j) (b x y z)) r)
 
+    pub row-turn : (n m : ℕ) (b : Bits) {img img′ : List ℕ} → Wrote L img (withTable tb (clearedBy (alongRow n) m b) t) → Wrote L img′ (withEntry tb n m (bit 0) (decode L img))
+        → Wrote L img′ (withTable tb (clearedBy (alongRow n) (m + 1) b) t)
+    row-turn n m b {img′ = img′} h w =
+        subst (λ (z : Bits). Wrote L img′ (withTable tb z t)) (cleared-more (alongRow n) b m) (entry-cleared n m (clearedBy (alongRow n) m b) h w)
+
     pub cross-turn : (n m : ℕ) (b : Bits) {img one two : List ℕ} → Wrote L img (withTable tb (clearedBy (cross n) m b) t) → Wrote L one (withEntry tb n m (bit 0) (decode L img))
         → Wrote L two (withEntry tb m n (bit 0) (decode L one)) → Wrote L two (withTable tb (clearedBy (cross n) (m + 1) b) t)
     cross-turn n m b {two = two} h u v =
@@ -145,6 +153,10 @@ module _ (c : Card) (tb : Table) where
     done p q {img} f g w =
         subst (λ (z : Bits). Wrote L img (withTable tb z t))
         (cleared-all p b q m f (λ x y z s e. let o = entry-in L t (laid .room) tb x y z s in g x y z (omega arith) (omega arith) e)) w
+
+    pub along-done : (k : ℕ) {img : List ℕ} → Wrote L img (withTable tb (clearedBy (alongRow k) m b) t) → Wrote L img (withTable tb (withoutRow k b) t)
+    along-done k =
+        done (alongRow k) (λ x y z. eqb x k) (λ i x y z s. and-l (eqb x k) (eqb y i) s) (λ x y z p q s. (y, q, and-i (eqb x k) (eqb y y) s (eqb-refl y)))
 
     pub cross-done : (k : ℕ) {img : List ℕ} → Wrote L img (withTable tb (clearedBy (cross k) m b) t) → Wrote L img (withTable tb (withoutPackage k b) t)
     cross-done k =
@@ -257,4 +269,4 @@ module _ (L : Layout) (n : ℕ) where
 pub laid-same : (c : Card) {old img : List ℕ} → Laid (layoutOf c) img → Laid (layoutOf c) old → length img ≡ length old
 laid-same c h g = laid-length (layoutOf c) (layout-ok c) h ∙ sym (laid-length (layoutOf c) (layout-ok c) g)
 
-pub ruleset clears = (laid-same, cleared-start, row-low, service-turn, cross-done, service-done, toks-start, toks-turn, services-done, pow-pos, needs)
+pub ruleset clears = (laid-same, cleared-start, row-low, row-turn, service-turn, along-done, cross-done, service-done, toks-start, toks-turn, services-done, pow-pos, needs)

@@ -5,18 +5,19 @@ use native.Mathlib.Nat.{lt-of-lt-of-le, zero-add, add-zero, add-suc, suc-add}
 use native.Mathlib.Numerals.{one-add}
 use mathlib.Core.Path.{_≡_, refl, sym, ap, ap₂, _∙_}
 use mathlib.Core.Bool.{Bool, true, false, not, _&&_, _||_, cond}
+use mathlib.Core.List.{List·Memᴰ as In, List·Memᴰ·head as here, List·Memᴰ·tail as there}
 use mathlib.Core.List.{List, [], _∷_}
 use lib.ListN.{length, getD, drop, length-drop, drop-of-length-le}
 use lib.Seq.{drop-cons}
 use lib.Pow.{pow-mono}
-use lib.Bits.{bitAnd, and-lt}
+use lib.Bits.{bitAnd, bitOr, and-lt, or-lt}
 use lib.Count.{ones, ones-step}
 use mir.Syntax.{w32}
 use mir.Val.{boolByte, Fits}
 use Rattle.policy.specs.Lists.{exists, keep, upto}
 use Rattle.policy.specs.Tables.{bit, rowOf}
 use Rattle.policy.proofs.Bits.{rowOf-lt, bit-rowOf}
-use Rattle.bits.proofs.Row.{bit-and, bit-ext, ones-count}
+use Rattle.bits.proofs.Row.{bit-and, bit-or, bit-ext, ones-count}
 use Rattle.rows.specs.Area.{keepFrom, keepRows}
 use Rattle.image.specs.Read.{maskOf}
 
@@ -88,6 +89,11 @@ module _ {A : Type 0} (f : A → Bool) where
   pub keep-mask : (l : List A) → keepRows (maskOf f l) l ≡ keep (λ x. not (f x)) l
   keep-mask l = keep-from 0 (maskOf f l) l (λ r d h. ap (bit (maskOf f l)) (zero-add r) ∙ mask-bit l r d h)
 
+-- the same pass
+pub mask-ext : {A : Type 0} (f g : A → Bool) (l : List A) → ((x : A) → In x l → f x ≡ g x) → maskOf f l ≡ maskOf g l
+mask-ext f g [] h = refl
+mask-ext f g (x ∷ l) h = ap₂ (λ (b : Bool) (m : ℕ). cond b 1 0 + 2 * m) (h x (here refl)) (mask-ext f g l (λ y m. h y (there m)))
+
 -- both pass
 pub mask-and : {A : Type 0} (f g : A → Bool) (l : List A) → bitAnd (maskOf f l) (maskOf g l) ≡ maskOf (λ x. f x && g x) l
 mask-and f g [] = refl
@@ -95,6 +101,14 @@ mask-and f g (x ∷ l) =
     bit-ext (length (x ∷ l)) (bitAnd (maskOf f (x ∷ l)) (maskOf g (x ∷ l))) (maskOf (λ y. f y && g y) (x ∷ l))
     (and-lt (length (x ∷ l)) (maskOf f (x ∷ l)) (maskOf g (x ∷ l)) (mask-lt f (x ∷ l)) (mask-lt g (x ∷ l))) (mask-lt (λ y. f y && g y) (x ∷ l))
     (λ k h. bit-and (maskOf f (x ∷ l)) (maskOf g (x ∷ l)) k ∙ ap₂ _&&_ (mask-bit f (x ∷ l) k x h) (mask-bit g (x ∷ l) k x h) ∙ sym (mask-bit (λ y. f y && g y) (x ∷ l) k x h))
+
+-- one passes
+pub mask-or : {A : Type 0} (f g : A → Bool) (l : List A) → bitOr (maskOf f l) (maskOf g l) ≡ maskOf (λ x. f x || g x) l
+mask-or f g [] = refl
+mask-or f g (x ∷ l) =
+    bit-ext (length (x ∷ l)) (bitOr (maskOf f (x ∷ l)) (maskOf g (x ∷ l))) (maskOf (λ y. f y || g y) (x ∷ l))
+    (or-lt (length (x ∷ l)) (maskOf f (x ∷ l)) (maskOf g (x ∷ l)) (mask-lt f (x ∷ l)) (mask-lt g (x ∷ l))) (mask-lt (λ y. f y || g y) (x ∷ l))
+    (λ k h. bit-or (maskOf f (x ∷ l)) (maskOf g (x ∷ l)) k ∙ ap₂ _||_ (mask-bit f (x ∷ l) k x h) (mask-bit g (x ∷ l) k x h) ∙ sym (mask-bit (λ y. f y || g y) (x ∷ l) k x h))
 
 -- ---- the loop: m is the mask of the elements from r on
 pub mask-start : {A : Type 0} (f : A → Bool) (l : List A) (r : ℕ) → r ≡ length l → 0 ≡ maskOf f (drop r l)

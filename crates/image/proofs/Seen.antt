@@ -1,11 +1,11 @@
 -- What code reads in a laid image of a card, in the form in which the needs ask it: `search seen`.
-use Prim.Native.Nat.{ℕ, _+_, _-_, _≤_, _<_}
+use Prim.Native.Nat.{ℕ, _+_, _*_, _-_, _≤_, _<_}
 use native.Mathlib.Omega.{arith}
 use mathlib.Core.Path.{_≡_, refl, sym, ap, ap₂, _∙_}
 use mathlib.Core.Bool.{Bool, true, false, not, _&&_, and-true, and-false}
 use mathlib.Core.List.{List, [], _∷_, _++_, append-nil}
 use lib.Dec.{eqb}
-use lib.ListN.{length, getD, take, drop, length-take, length-drop, drop-of-length-le}
+use lib.ListN.{length, getD, take, drop, length-take, length-drop, drop-of-length-le, List·getD-append}
 use borrow.Author.Tests.{not-true, not-false, ne-eqb}
 use Rattle.policy.specs.Lists.{eqBytes, first, upto}
 use Rattle.policy.specs.Contract.{Aid, eqAid, Tok, eqTok}
@@ -19,12 +19,12 @@ use Rattle.policy.proofs.Pieces.{length-aid}
 use Rattle.bits.proofs.Loops.{first-ext}
 use Rattle.bits.proofs.Row.{lowest-row}
 use Rattle.rows.specs.Area.{part, over}
-use Rattle.rows.proofs.Over.{getD-part}
+use Rattle.rows.proofs.Over.{length-part, getD-part}
 use Rattle.rows.proofs.Same.{head-long, same-last}
 use Rattle.geometry.specs.declared.Card.{Card}
 use Rattle.geometry.specs.declared.Table.{Table}
 use Rattle.geometry.specs.Geometry.{layoutOf, aidAt, tokAt, provAt, entryAt}
-use Rattle.geometry.proofs.Bounds.{layout-ok, early, limits, geo}
+use Rattle.geometry.proofs.Bounds.{layout-ok, early, limits, token-row, geo}
 use Rattle.image.specs.Laid.{Laid, tableOf}
 use Rattle.image.specs.Read.{numberOr, aidIn, tokensIn}
 use Rattle.image.proofs.Laid.{laid-length}
@@ -151,6 +151,21 @@ module _ (c : Card) (img : List ℕ) (h : Laid (layoutOf c) img) where
 
     pub tokens-read : (s : Tok) → s ≡ tokensIn img a → s ≡ decode (layoutOf c) img .tok j k
     tokens-read s e = e ∙ tokens-seen
+
+  -- the tokens of package j's services, copied to the front of old
+  pub tokens-copied : (j a e m : ℕ) → j < layoutOf c .packages → a ≡ tokAt (layoutOf c) j 0 → m ≡ layoutOf c .services * 2 → e ≡ a + m → (old : List ℕ) {new : List ℕ}
+      → new ≡ over 0 (take (e - a) (drop a img)) old → (k : ℕ) → k < layoutOf c .services → tokensIn new (k * 2) ≡ decode (layoutOf c) img .tok j k
+  tokens-copied j a e m p q d s old {new} w k l =
+      let at = token-row c j p in
+      let n : e - a ≡ m = omega arith in
+      let here : a + k * 2 ≡ tokAt (layoutOf c) j k = omega (arith, at .each k) in
+      let copied : (i : ℕ) → i < m → getD new i 0 ≡ getD img (a + i) 0 = λ i lt.
+      ap (λ (z : List ℕ). getD z i 0) (w ∙ ap (λ (x : ℕ). over 0 (take x (drop a img)) old) n)
+      ∙ List·getD-append (part a m img) (drop (0 + length (part a m img)) old) 0 i (rw (length-part a m img (omega (arith, laid-size, at .inside))) lt)
+      ∙ getD-part a m img i lt in
+      let next : a + (k * 2 + 1) ≡ a + k * 2 + 1 = omega arith in
+      (λ i. record { itf = copied (k * 2) (omega arith) i; mth = (copied (k * 2 + 1) (omega arith) ∙ ap (λ (x : ℕ). getD img x 0) next) i })
+      ∙ tokens-seen j k (a + k * 2) p l here
 
   module _ (j k row : ℕ) (s : Tok) (b : Bool) (p : j < layoutOf c .packages) (l : k < layoutOf c .services)
       (e : row ≡ rowOf (layoutOf c .services) (decode (layoutOf c) img .provides j)) (d : b ≡ bit row k) where

@@ -15,7 +15,10 @@ pub record Wrote (L : Layout) (img : List ℕ) (t : Tables) : Type 0 where
   pub laid : Laid L img
   pub tables : decode L img ≡ t
 
--- ---- a table without package n: row n and column n are clear
+-- ---- a table without row n, and without package n: row n and column n are clear
+abbrev pub withoutRow : ℕ → (ℕ → ℕ → ℕ → Bool) → ℕ → ℕ → ℕ → Bool
+withoutRow n b x y z = b x y z && not (eqb x n)
+
 abbrev pub withoutPackage : ℕ → (ℕ → ℕ → ℕ → Bool) → ℕ → ℕ → ℕ → Bool
 withoutPackage n b x y z = b x y z && not (eqb x n || eqb y n)
 

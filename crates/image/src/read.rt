@@ -1,7 +1,7 @@
 // Reading the places of a laid image: rows of bits, and numbers found by AID and tokens.
 ghost use mathlib.Core.Path.{_≡_};
 ghost use mathlib.Core.Bool.{_&&_};
-ghost use Prim.Native.Nat.{_+_, _≤_, _<_};
+ghost use Prim.Native.Nat.{ℕ, _+_, _*_, _≤_, _<_};
 ghost use lib.ListN.{length, getD};
 ghost use Rattle.policy.specs.Contract.{Aid, eqAid, eqTok};
 ghost use Rattle.policy.specs.Tables.{rowOf, writeAid};
@@ -102,6 +102,20 @@ pub fn tokens_at(img: &[u8], c: Card, j: usize, k: usize) -> Tokens
 {
     let at = geometry::tok_at(c, j, k);
     tokens_in(img, at)
+}
+
+// The tokens of the services of package j, one after another, of those that it does not provide too.
+pub fn token_row(img: &[u8], c: Card, j: usize) -> [u8; 32]
+    requires laid { ⌜ Laid (layoutOf c) (now img) ⌝ }
+    requires inside { ⌜ j < layoutOf c .packages ⌝ }
+    ensures { λ r. ⌜ ((k : ℕ) → k < layoutOf c .services → tokensIn r (k * 2) ≡ tablesOf c (now (img .entry)) .tok j k) ⌝ }
+{
+    let at = geometry::tok_at(c, j, 0);
+    let size = geometry::services(c) * 2;
+    let end = at + size;
+    let mut row = [0u8; 32];
+    rows::put(&mut row, 0, &img[at..end]);
+    row
 }
 
 // The AID of package n in its place, 17 bytes: length, bytes, zero fill.

@@ -10,7 +10,7 @@ ghost use Rattle.geometry.specs.Geometry.{layoutOf, tokOf, tablesOf};
 ghost use Rattle.rows.specs.Area.{over, HasRoom, keepRows, appended};
 ghost use Rattle.image.specs.Laid.{Laid, tableOf, withUsed, withAid, withTok, withProvides, withTable, withEntry, withItems};
 ghost use Rattle.image.specs.Read.{itemsOf, item, tailOf};
-ghost use Rattle.image.specs.Wrote.{Wrote, withoutPackage, rowIn, withoutService, withoutServices};
+ghost use Rattle.image.specs.Wrote.{Wrote, withoutRow, withoutPackage, rowIn, withoutService, withoutServices};
 use geometry::Card;
 use geometry::Kept;
 use geometry::Table;
@@ -164,6 +164,19 @@ pub fn drop_rows(img: &mut [u8], c: Card, l: Kept, mask: u32)
     let end = geometry::list_end(c, l);
     let width = geometry::row_size(c, l);
     rows::drop_rows(&mut img[at..end], width, mask);
+}
+
+// Row n of a table clear.
+pub fn clear_row(img: &mut [u8], c: Card, tb: Table, n: usize)
+    requires laid { ⌜ Laid (layoutOf c) (now img) ⌝ }
+    requires inside { ⌜ n < layoutOf c .packages ⌝ }
+    ensures { λ _. ⌜ Wrote (layoutOf c) (now (img .exit))
+        (withTable tb (withoutRow n (tableOf tb (tablesOf c (now (img .entry))))) (tablesOf c (now (img .entry)))) ⌝ }
+{
+    let size = geometry::packages(c);
+    for x in 0..size {
+        set_entry(img, c, tb, n, x, 0);
+    }
 }
 
 // Row n and column n of a table clear.
