@@ -2,19 +2,24 @@
 use Prim.Native.Nat.{ℕ, suc, zero, _≤_, _<_}
 use mathlib.Core.Path.{_≡_, refl, ap, sym, _∙_}
 use mathlib.Core.Bool.{Bool, true, false, cond}
+use mathlib.Core.Logic.{_⊎_, inl, inr}
 use mathlib.Core.List.{List}
 use mathlib.Core.Option.{none, some}
 use native.Mathlib.Omega.{arith}
 use lib.Dec.{ltb}
-use lib.ListN.{length, drop, drop-of-length-le, List·getD-eq-default}
+use lib.ListN.{length, drop, getD, drop-of-length-le, List·getD-eq-default}
 use lib.Seq.{drop-cons}
-use borrow.Author.Tests.{ltb-true, ltb-false}
+use borrow.Author.Tests.{ltb-true, ltb-false, le-leb}
 use Rattle.policy.specs.Layout.{Layout}
-use Rattle.policy.specs.Record.{Got, got, bad, Reader, Change, andThen, aid, tokens, validRow, tokenList, callerList, whole, change, kinds, aLoad, aService}
+use Rattle.policy.specs.Record.{Got, got, bad, Reader, Change, andThen, given, aid, tokens, validRow, tokenList, callerList, whole, change, kinds, aContract, aService}
+use Rattle.geometry.specs.declared.Card.{Card}
+use Rattle.geometry.specs.declared.Card.the-variants.{Small}
 use Rattle.geometry.specs.declared.Tokens.{Tokens}
-use Rattle.record.specs.Meaning.{Takes, Places, PlacesRows, Served, RowStands, rowIn, changeOf, kindOf, KindFits}
-use Rattle.record.specs.Meaning.{loadBy, loadOf, serviceBy, serviceOf, rowKind, Bodies}
+use Rattle.geometry.specs.Geometry.{layoutOf}
+use Rattle.record.specs.Meaning.{Takes, Places, PlacesRows, Served, RowStands, rowIn, wholeOf, changeOf, kindOf, KindFits}
+use Rattle.record.specs.Meaning.{contractBy, contractOf, broughtAs, Brings, serviceBy, serviceOf, contractKind, rowKind, Bodies}
 use Rattle.record.specs.declared.Sort.the-variants as sort
+use Rattle.record.specs.declared.Lists.{Lists}
 use Rattle.record.specs.declared.Placed.{Placed}
 use Rattle.record.specs.declared.Placed.the-variants as placed
 use Rattle.record.specs.declared.ListAt.{ListAt}
@@ -22,12 +27,15 @@ use Rattle.record.specs.declared.RowsAt.{RowsAt}
 use Rattle.record.specs.declared.Service.{Service}
 use Rattle.record.specs.declared.Service.the-variants as service
 use Rattle.record.specs.declared.TokensAt.{TokensAt}
+use Rattle.record.specs.declared.Brought.the-variants as brought
+use Rattle.record.specs.declared.Body.{Body}
 use Rattle.record.specs.declared.Body.the-variants as body
 use Rattle.record.specs.declared.RowAt.{RowAt}
 use Rattle.record.specs.declared.Took.the-variants.{Bytes}
+use Rattle.record.specs.declared.ContractKind.{ContractKind}
 use Rattle.record.specs.declared.RowKind.{RowKind}
 use Rattle.record.specs.declared.Kind.{Kind}
-use Rattle.record.specs.declared.Kind.the-variants.{Load, Remove, AddService, RemoveService, Row}
+use Rattle.record.specs.declared.Kind.the-variants.{Contract, Remove, AddService, RemoveService, Row}
 use Rattle.record.proofs.Fronts.{took, valid-only}
 
 module _ (L : Layout) where
@@ -47,52 +55,31 @@ module _ (L : Layout) where
   body-whole : {g : Got Change} {end : ℕ} (s : List ℕ) (k : Kind) → KindFits s k → g ≡ got (kindOf s k) (drop end s) → length s ≤ end → Bodies L g s (body.Whole k)
   body-whole {end = end} s k f e m = record { fits = f; same = sym (rw e (whole-all (kindOf s k) end s m)) }
 
-  -- there is no such kind
-  pub kind-none : (k at : ℕ) (s : List ℕ) → k < 5 → (k ≡ 1 → ⊥) → (k ≡ 2 → ⊥) → (k ≡ 3 → ⊥) → (k ≡ 4 → ⊥) → Bodies L (change L k (drop at s)) s body.Malformed
-  unfolding change
-  kind-none zero at s h h1 h2 h3 h4 = body-bad refl
-  kind-none (suc zero) at s h h1 h2 h3 h4 = absurd (h1 refl)
-  kind-none (suc (suc zero)) at s h h1 h2 h3 h4 = absurd (h2 refl)
-  kind-none (suc (suc (suc zero))) at s h h1 h2 h3 h4 = absurd (h3 refl)
-  kind-none (suc (suc (suc (suc zero)))) at s h h1 h2 h3 h4 = absurd (h4 refl)
-  kind-none (suc (suc (suc (suc (suc k))))) at s h h1 h2 h3 h4 = absurd (omega arith)
+  -- the last part that was read ends the record, or bytes are left over: what the answer w is by that test
+  ends : {g : Got Change} (end : ℕ) (s : List ℕ) (k : Kind) → KindFits s k → g ≡ got (kindOf s k) (drop end s)
+      → (w : Bool → Body) → w true ≡ body.Malformed → w false ≡ body.Whole k → (b : Bool) → ltb end (length s) ≡ b → Bodies L g s (w b)
+  ends end s k f e w p q true t = rw p (body-left s e (ltb-true end (length s) t))
+  ends end s k f e w p q false t = rw q (body-whole s k f e (ltb-false end (length s) t))
 
-  pub kind-over : (k at : ℕ) (s : List ℕ) → 10 < k → Bodies L (change L k (drop at s)) s body.Malformed
-  unfolding change
-  kind-over k at s h = body-bad (ap (λ (p : Reader Change). p (drop at s)) (List·getD-eq-default (kinds L) (λ t. bad) h))
-
-  -- nothing after the AID
-  module _ (s : List ℕ) (at : ℕ) where
-    pub remove-left : at < length s → Bodies L (change L 2 (drop at s)) s body.Malformed
-    unfolding change
-    remove-left m = body-left s refl m
-
-    pub remove-good : length s ≤ at → Bodies L (change L 2 (drop at s)) s (body.Whole Remove)
-    unfolding change
-    remove-good m = body-whole s Remove tt refl m
-
-  -- the last part that was read ends the record, or bytes are left over
-  ends : {g : Got Change} (end : ℕ) (s : List ℕ) (k : Kind) → KindFits s k → g ≡ got (kindOf s k) (drop end s) → (b : Bool) → ltb end (length s) ≡ b → Bodies L g s (cond b body.Malformed (body.Whole k))
-  ends end s k f e true t = body-left s e (ltb-true end (length s) t)
-  ends end s k f e false t = body-whole s k f e (ltb-false end (length s) t)
-
-  -- a load: the services, and three lists of rows
   module _ (s : List ℕ) {at : ℕ} where
-    load-by : (p c g n : Placed) {end : ℕ} (hp : Places tokens (tokenList L) at s (record { list = p; next = end })) {last : ℕ}
+    -- a contract: the services, and three lists of rows
+    contract-by : (k : ContractKind) (p c g n : Placed) {end : ℕ} (hp : Places tokens (tokenList L) at s (record { list = p; next = end })) {last : ℕ}
         → PlacesRows L end s (record { calls = c; grants = g; needs = n; next = last })
-        → Bodies L (aLoad L (drop at s)) s (loadBy (length s) last p c g n)
-    unfolding aLoad
-    load-by placed.Malformed c g n hp h = body-bad (rw (← (hp .same)))
-    load-by (placed.Found p) placed.Malformed g n hp h = body-bad (rw (← (hp .same), ← (h .calls .same)))
-    load-by (placed.Found p) (placed.Found c) placed.Malformed n hp h = body-bad (rw (← (hp .same), ← (h .calls .same), ← (h .grants .same)))
-    load-by (placed.Found p) (placed.Found c) (placed.Found g) placed.Malformed hp h =
+        → Bodies L (aContract L (wholeOf k) (drop at s)) s (broughtAs k (contractBy (length s) last p c g n))
+    unfolding aContract
+    contract-by k placed.Malformed c g n hp h = body-bad (rw (← (hp .same)))
+    contract-by k (placed.Found p) placed.Malformed g n hp h = body-bad (rw (← (hp .same), ← (h .calls .same)))
+    contract-by k (placed.Found p) (placed.Found c) placed.Malformed n hp h = body-bad (rw (← (hp .same), ← (h .calls .same), ← (h .grants .same)))
+    contract-by k (placed.Found p) (placed.Found c) (placed.Found g) placed.Malformed hp h =
         body-bad (rw (← (hp .same), ← (h .calls .same), ← (h .grants .same), ← (h .needs .same)))
-    load-by (placed.Found p) (placed.Found c) (placed.Found g) (placed.Found n) hp {last} h =
-        ends last s (Load (record { provides = p; calls = c; grants = g; needs = n })) (hp .fits, h .calls .fits, h .grants .fits, h .needs .fits)
-        (rw (← (hp .same), ← (h .calls .same), ← (h .grants .same), ← (h .needs .same))) (ltb last (length s)) refl
+    contract-by k (placed.Found p) (placed.Found c) (placed.Found g) (placed.Found n) hp {last} h =
+        let l : Lists = record { provides = p; calls = c; grants = g; needs = n } in
+        ends last s (Contract k l) (hp .fits, h .calls .fits, h .grants .fits, h .needs .fits)
+        (rw (← (hp .same), ← (h .calls .same), ← (h .grants .same), ← (h .needs .same)))
+        (λ b. broughtAs k (cond b brought.Malformed (brought.Found l))) refl refl (ltb last (length s)) refl
 
-    pub load-is : (p : ListAt) (r : RowsAt) → Places tokens (tokenList L) at s p → PlacesRows L (p .next) s r → Bodies L (aLoad L (drop at s)) s (loadOf (length s) p r)
-    load-is p r hp h = load-by (p .list) (r .calls) (r .grants) (r .needs) hp h
+    pub contract-is : (p : ListAt) (r : RowsAt) → Places tokens (tokenList L) at s p → PlacesRows L (p .next) s r → Brings L at s (contractOf (length s) p r)
+    contract-is p r hp h k = contract-by k (p .list) (r .calls) (r .grants) (r .needs) hp h
 
     -- a service and its callers
     service-by : (t : Service) (l : Placed) {end last : ℕ} → Served L at s (record { service = t; next = end })
@@ -100,54 +87,101 @@ module _ (L : Layout) where
     unfolding aService
     service-by service.Malformed l ht hl = body-bad (rw (← (ht .same)))
     service-by (service.Found t) placed.Malformed ht hl = body-bad (rw (← (ht .same), ← (hl .same)))
-    service-by (service.Found t) (placed.Found l) {last = last} ht hl = ends last s (AddService t l) (hl .fits) (rw (← (ht .same), ← (hl .same))) (ltb last (length s)) refl
+    service-by (service.Found t) (placed.Found l) {last = last} ht hl =
+        ends last s (AddService t l) (hl .fits) (rw (← (ht .same), ← (hl .same))) (λ b. cond b body.Malformed (body.Whole (AddService t l))) refl refl (ltb last (length s)) refl
 
     pub service-is : (t : TokensAt) (l : ListAt) → Served L at s t → Places aid (callerList L) (t .next) s l → Bodies L (aService L (drop at s)) s (serviceOf (length s) t l)
     service-is t l ht hl = service-by (t .service) (l .list) ht hl
 
+-- what reads nothing reads nothing under a test
+given-bad : (b : Bool) (p : Reader Change) (t : List ℕ) → p t ≡ bad → given b p t ≡ bad
+given-bad true p t e = e
+given-bad false p t e = refl
+
+-- every card reads the kinds up to 11
+pub reads-on : (c : Card) (k : ℕ) → k ≤ 11 → layoutOf c .reads k ≡ true
+reads-on Small k h = le-leb k 11 h
+
+-- ---- by kind
+module _ (c : Card) where
+  abbrev L : Layout
+  L = layoutOf c
+
+  kind-read : (k : ℕ) (t : List ℕ) → k ≤ 11 → change L k t ≡ getD (kinds L) k (λ u. bad) t
+  unfolding change
+  kind-read k t h = rw (reads-on c k h)
+
+  pub kind-is : (k : ℕ) (t : List ℕ) {s : List ℕ} {r : Body} → k ≤ 11 → Bodies L (getD (kinds L) k (λ u. bad) t) s r → Bodies L (change L k t) s r
+  kind-is k t h b = rw (kind-read k t h) b
+
+  -- there is no such kind
+  none-read : (k : ℕ) (t : List ℕ) → (k ≡ 11 → ⊥) → (0 < k → 10 < k) → getD (kinds L) k (λ u. bad) t ≡ bad
+  none-read zero t n h = refl
+  none-read (suc k) t n h =
+      let l : 12 ≤ suc k = omega (arith, h (omega arith)) in
+      ap (λ (p : Reader Change). p t) (List·getD-eq-default (kinds L) (λ u. bad) l)
+
+  pub kind-none : (k at : ℕ) (s : List ℕ) → (k ≡ 11 → ⊥) → (0 < k → 10 < k) → Bodies L (change L k (drop at s)) s body.Malformed
+  unfolding change
+  kind-none k at s n h = body-bad L (given-bad (L .reads k) (getD (kinds L) k (λ u. bad)) (drop at s) (none-read k (drop at s) n h))
+
+  -- a whole contract
+  pub kind-contract : (k : ℕ) (t : List ℕ) {w : ContractKind} {s : List ℕ} {r : Body} → (k ≡ 1) ⊎ (k ≡ 11) → w ≡ contractKind k
+      → Bodies L (aContract L (wholeOf w) t) s r → Bodies L (change L k t) s r
+  unfolding contractKind
+  kind-contract k t (inl e) q b = rw e (kind-is 1 t (omega arith) (rw (q, e) at b))
+  kind-contract k t (inr e) q b = rw e (kind-is 11 t (omega arith) (rw (q, e) at b))
+
+  module _ (s : List ℕ) (at : ℕ) where
+    -- nothing after the AID
+    pub remove-left : at < length s → Bodies L (change L 2 (drop at s)) s body.Malformed
+    remove-left m = kind-is 2 (drop at s) (omega arith) (body-left L s refl m)
+
+    pub remove-good : length s ≤ at → Bodies L (change L 2 (drop at s)) s (body.Whole Remove)
+    remove-good m = kind-is 2 (drop at s) (omega arith) (body-whole L s Remove tt refl m)
+
+  module _ (s : List ℕ) {at : ℕ} where
     -- a service alone
     module _ {t : TokensAt} (h : Served L at s t) where
       pub alone-bad : t .service ≡ service.Malformed → Bodies L (change L 4 (drop at s)) s body.Malformed
-      unfolding change
-      alone-bad e = body-bad (rw (← (h .same), e))
+      alone-bad e = kind-is 4 (drop at s) (omega arith) (body-bad L (rw (← (h .same), e)))
 
       module _ {x : Tokens} (e : t .service ≡ service.Found x) where
         alone-got : change L 4 (drop at s) ≡ got (kindOf s (RemoveService x)) (drop (t .next) s)
-        unfolding change
-        alone-got = rw (← (h .same), e)
+        alone-got = kind-read 4 (drop at s) (omega arith) ∙ rw (← (h .same), e)
 
         pub alone-left : t .next < length s → Bodies L (change L 4 (drop at s)) s body.Malformed
-        alone-left m = body-left s alone-got m
+        alone-left m = body-left L s alone-got m
 
         pub alone-good : length s ≤ t .next → Bodies L (change L 4 (drop at s)) s (body.Whole (RemoveService x))
-        alone-good m = body-whole s (RemoveService x) tt alone-got m
+        alone-good m = body-whole L s (RemoveService x) tt alone-got m
 
   -- one row
-  change-row : (k : ℕ) (t : List ℕ) → 5 ≤ k → k ≤ 10 → change L k t ≡ andThen (validRow L t) (λ r u. got (changeOf (rowKind k) r) u)
-  unfolding change rowKind
-  change-row zero t l h = absurd (omega arith)
-  change-row (suc zero) t l h = absurd (omega arith)
-  change-row (suc (suc zero)) t l h = absurd (omega arith)
-  change-row (suc (suc (suc zero))) t l h = absurd (omega arith)
-  change-row (suc (suc (suc (suc zero)))) t l h = absurd (omega arith)
-  change-row (suc (suc (suc (suc (suc zero))))) t l h = refl
-  change-row (suc (suc (suc (suc (suc (suc zero)))))) t l h = refl
-  change-row (suc (suc (suc (suc (suc (suc (suc zero))))))) t l h = refl
-  change-row (suc (suc (suc (suc (suc (suc (suc (suc zero)))))))) t l h = refl
-  change-row (suc (suc (suc (suc (suc (suc (suc (suc (suc zero))))))))) t l h = refl
-  change-row (suc (suc (suc (suc (suc (suc (suc (suc (suc (suc zero)))))))))) t l h = refl
-  change-row (suc (suc (suc (suc (suc (suc (suc (suc (suc (suc (suc k))))))))))) t l h = absurd (omega arith)
+  row-read : (k : ℕ) (t : List ℕ) → 5 ≤ k → k ≤ 10 → getD (kinds L) k (λ u. bad) t ≡ andThen (validRow L t) (λ r u. got (changeOf (rowKind k) r) u)
+  unfolding rowKind
+  row-read zero t l h = absurd (omega arith)
+  row-read (suc zero) t l h = absurd (omega arith)
+  row-read (suc (suc zero)) t l h = absurd (omega arith)
+  row-read (suc (suc (suc zero))) t l h = absurd (omega arith)
+  row-read (suc (suc (suc (suc zero)))) t l h = absurd (omega arith)
+  row-read (suc (suc (suc (suc (suc zero))))) t l h = refl
+  row-read (suc (suc (suc (suc (suc (suc zero)))))) t l h = refl
+  row-read (suc (suc (suc (suc (suc (suc (suc zero))))))) t l h = refl
+  row-read (suc (suc (suc (suc (suc (suc (suc (suc zero)))))))) t l h = refl
+  row-read (suc (suc (suc (suc (suc (suc (suc (suc (suc zero))))))))) t l h = refl
+  row-read (suc (suc (suc (suc (suc (suc (suc (suc (suc (suc zero)))))))))) t l h = refl
+  row-read (suc (suc (suc (suc (suc (suc (suc (suc (suc (suc (suc k))))))))))) t l h = absurd (omega arith)
 
   module _ (s : List ℕ) (k at : ℕ) (l : 5 ≤ k) (h : k ≤ 10) where
     pub row-bad : validRow L (drop at s) ≡ bad → Bodies L (change L k (drop at s)) s body.Malformed
-    row-bad e = body-bad (rw (change-row k (drop at s) l h, e))
+    row-bad e = kind-is k (drop at s) (omega arith) (body-bad L (rw (row-read k (drop at s) l h, e)))
 
     module _ {n : ℕ} (t : Takes (validRow L) (drop at s) (Bytes n)) {x : RowAt} (w : RowStands at s x) where
       row-got : change L k (drop at s) ≡ got (changeOf (rowKind k) (rowIn s (x .row))) (drop (x .next) s)
-      row-got = rw (change-row k (drop at s) l h, took t .1 ∙ sym (valid-only L sort.Row _ _ _ (took t .1)), w .same)
+      row-got = kind-read k (drop at s) (omega arith) ∙ rw (row-read k (drop at s) l h, took t .1 ∙ sym (valid-only L sort.Row _ _ _ (took t .1)), w .same)
 
       pub row-left : x .next < length s → Bodies L (change L k (drop at s)) s body.Malformed
-      row-left m = body-left s row-got m
+      row-left m = body-left L s row-got m
 
       pub row-good : {r : RowKind} → r ≡ rowKind k → length s ≤ x .next → Bodies L (change L k (drop at s)) s (body.Whole (Row r (x .row)))
-      row-good q m = rw q (body-whole s (Row (rowKind k) (x .row)) (w .other) row-got m)
+      row-good q m = rw q (body-whole L s (Row (rowKind k) (x .row)) (w .other) row-got m)

@@ -42,6 +42,8 @@ use Rattle.record.proofs.Service as Q
 use Rattle.record.proofs.Service.Laws as Q′
 use Rattle.record.proofs.TokensAt as S
 use Rattle.record.proofs.TokensAt.Laws as S′
+use Rattle.record.proofs.Brought as Z
+use Rattle.record.proofs.Brought.Laws as Z′
 use Rattle.record.proofs.Body as Y
 use Rattle.record.proofs.Body.Laws as Y′
 use Rattle.record.proofs.reader.Reader as T
@@ -60,6 +62,9 @@ pub record Shown (R : RattleType) : Type 2 where
 
 abbrev pub three-lists : Shown N.the-row
 three-lists = record { mir = N′.mir; val = LL.val N.the-type N′.the-laws; tells = LL.tells N.the-type N′.the-laws; typed = λ 𝓤 H A W r is. LL.lawful N.the-type N′.the-laws 𝓤 H A W .typed r _ is .0 }
+
+abbrev pub four-lists : Shown Z.the-row
+four-lists = record { mir = Z′.mir; val = EL.val Z.the-type Z′.the-laws; tells = EL.tells Z.the-type Z′.the-laws; typed = λ 𝓤 H A W r is. EL.lawful Z.the-type Z′.the-laws 𝓤 H A W tt .typed r _ is .0 }
 
 abbrev pub a-body : Shown Y.the-row
 a-body = record { mir = Y′.mir; val = EL.val Y.the-type Y′.the-laws; tells = EL.tells Y.the-type Y′.the-laws; typed = λ 𝓤 H A W r is. EL.lawful Y.the-type Y′.the-laws 𝓤 H A W tt .typed r _ is .0 }

@@ -5,12 +5,15 @@ use mathlib.Core.Bool.{Bool, true, false, not, _&&_, and-false, and-true}
 use mathlib.Core.List.{List}
 use Rattle.policy.specs.Lists.{every, exists, distinct}
 use Rattle.policy.specs.Contract.{Aid as Bytes, Tok, Row, eqAid, eqTok, eqRow, hasRow}
-use Rattle.policy.specs.Record.{Reader, load, notOwn, proper}
+use Rattle.policy.specs.Layout.{Layout}
+use Rattle.policy.specs.Record.{Reader, notOwn, properContract, proper}
 use Rattle.geometry.specs.declared.Card.{Card}
 use Rattle.geometry.specs.Geometry.{layoutOf}
 use Rattle.geometry.proofs.Bounds.{early}
-use Rattle.record.specs.Meaning.{itemsIn, changeOf, Uncons}
+use Rattle.record.specs.Meaning.{itemsIn, wholeOf, changeOf, Uncons}
 use Rattle.record.specs.declared.Items.{Items}
+use Rattle.record.specs.declared.ContractKind.{ContractKind}
+use Rattle.record.specs.declared.ContractKind.the-variants.{Load, Replace}
 use Rattle.record.specs.declared.RowKind.{RowKind}
 use Rattle.record.specs.declared.RowKind.the-variants.{AddCall, RemoveCall, AddGrant, RemoveGrant, AddNeed, RemoveNeed}
 use Rattle.record.proofs.Loops.{Todo, todo-cons, todo-next}
@@ -47,7 +50,7 @@ module _ {A : Type 0} {p : Reader A} {s : List ℕ} {todo rest : Items} (own : A
     pub once-next : r ≡ false → Todo p s rest (others own eq) b
     once-next e = todo-next h u (others own eq) (rw (sym w ∙ f, sym q ∙ e))
 
--- ---- the lists of a load, in the order of the code
+-- ---- the lists of a contract, in the order of the code
 arranged : (dp dc dg dn oc og on x : Bool)
     → ((dp && dc && dg && dn) && (oc && og && on) && (x && true)) ≡ ((((dp && (oc && dc)) && (og && dg)) && (on && dn)) && x)
 arranged false dc dg dn oc og on x = refl
@@ -65,34 +68,39 @@ arranged true true true true true false on x = refl
 arranged true true true true true true false x = refl
 arranged true true true true true true true x = and-true x
 
+-- R-1: kind 11 has a load's 'causes 2 and 3'
+pub whole-proper : (L : Layout) (a : Bytes) (w : ContractKind) (p : List Tok) (c g n : List Row) → proper L a (wholeOf w p c g n) ≡ properContract L a p c g n
+unfolding proper
+whole-proper L a Load p c g n = refl
+whole-proper L a Replace p c g n = refl
+
 -- R-2: a grant of a service that is not provided is proper. The answers so far decide: whether the four lists are proper, and the needs called
 module _ (a : Bytes) (p : List Tok) (c g n : List Row) (rp rc rg rn x : Bool) (hp : rp ≡ distinct eqTok p) (hc : rc ≡ (notOwn a c && distinct eqRow c))
-    (hg : rg ≡ (notOwn a g && distinct eqRow g)) (hn : rn ≡ (notOwn a n && distinct eqRow n)) (hx : x ≡ every (λ r. hasRow r c) n) (k : Card) where
+    (hg : rg ≡ (notOwn a g && distinct eqRow g)) (hn : rn ≡ (notOwn a n && distinct eqRow n)) (hx : x ≡ every (λ r. hasRow r c) n) (k : Card) (w : ContractKind) where
   abbrev whole : Bool → Bool → Bool → Bool → Bool → Bool
   whole b d e f y = (((b && d) && e) && f) && y
 
-  all : whole rp rc rg rn x ≡ proper (layoutOf k) a (load p c g n)
-  unfolding proper
+  all : whole rp rc rg rn x ≡ proper (layoutOf k) a (wholeOf w p c g n)
   all =
-      rw (early k, hp, hc, hg, hn, hx)
+      rw (whole-proper (layoutOf k) a w p c g n, early k, hp, hc, hg, hn, hx)
       (sym (arranged (distinct eqTok p) (distinct eqRow c) (distinct eqRow g) (distinct eqRow n) (notOwn a c) (notOwn a g) (notOwn a n) (every (λ r. hasRow r c) n)))
 
-  pub stop-1 : not rp ≡ true → false ≡ proper (layoutOf k) a (load p c g n)
+  pub stop-1 : not rp ≡ true → false ≡ proper (layoutOf k) a (wholeOf w p c g n)
   stop-1 h = sym (λ i. whole (not-true rp h i) rc rg rn x) ∙ all
 
   module _ (h1 : not rp ≡ false) where
-    pub stop-2 : not rc ≡ true → false ≡ proper (layoutOf k) a (load p c g n)
+    pub stop-2 : not rc ≡ true → false ≡ proper (layoutOf k) a (wholeOf w p c g n)
     stop-2 h = sym (λ i. whole (not-false rp h1 i) (not-true rc h i) rg rn x) ∙ all
 
     module _ (h2 : not rc ≡ false) where
-      pub stop-3 : not rg ≡ true → false ≡ proper (layoutOf k) a (load p c g n)
+      pub stop-3 : not rg ≡ true → false ≡ proper (layoutOf k) a (wholeOf w p c g n)
       stop-3 h = sym (λ i. whole (not-false rp h1 i) (not-false rc h2 i) (not-true rg h i) rn x) ∙ all
 
       module _ (h3 : not rg ≡ false) where
-        pub stop-4 : not rn ≡ true → false ≡ proper (layoutOf k) a (load p c g n)
+        pub stop-4 : not rn ≡ true → false ≡ proper (layoutOf k) a (wholeOf w p c g n)
         stop-4 h = sym (λ i. whole (not-false rp h1 i) (not-false rc h2 i) (not-false rg h3 i) (not-true rn h i) x) ∙ all
 
-        pub last-decides : not rn ≡ false → x ≡ proper (layoutOf k) a (load p c g n)
+        pub last-decides : not rn ≡ false → x ≡ proper (layoutOf k) a (wholeOf w p c g n)
         last-decides h = sym (λ i. whole (not-false rp h1 i) (not-false rc h2 i) (not-false rg h3 i) (not-false rn h i) x) ∙ all
 
 -- ---- a row whose other end is b

@@ -8,8 +8,8 @@ use lib.Dec.{eqb, ltb}
 use lib.ListN.{length, take, drop, getD}
 use Rattle.policy.specs.Contract.{Aid as Bytes, Tok, Row, Contract}
 use Rattle.policy.specs.Layout.{Layout}
-use Rattle.policy.specs.Record.{Got, got, bad, Reader, number, aid, tokens, aRow, validTokens, validRow, many, counted, rowList}
-use Rattle.policy.specs.Record.{Change, load, remove, addService, removeService, whole, Request, parse}
+use Rattle.policy.specs.Record.{Got, got, bad, Reader, number, aid, tokens, aRow, validTokens, validRow, many, counted, rowList, aContract}
+use Rattle.policy.specs.Record.{Change, load, remove, addService, removeService, replace, whole, Request, parse}
 use Rattle.policy.specs.Record.{addCall, removeCall, addGrant, removeGrant, addNeed, removeNeed}
 use Rattle.geometry.specs.Geometry.{tokOf}
 use Rattle.record.specs.declared.Took.{Took}
@@ -24,12 +24,16 @@ use Rattle.record.specs.declared.Aid.{Aid}
 use Rattle.record.specs.declared.Row.{Row as RowRead}
 use Rattle.record.specs.declared.Items.{Items}
 use Rattle.record.specs.declared.Lists.{Lists}
+use Rattle.record.specs.declared.ContractKind.{ContractKind}
+use Rattle.record.specs.declared.ContractKind.the-variants.{Load, Replace}
 use Rattle.record.specs.declared.RowKind.{RowKind}
 use Rattle.record.specs.declared.RowKind.the-variants.{AddCall, RemoveCall, AddGrant, RemoveGrant, AddNeed, RemoveNeed}
 use Rattle.record.specs.declared.Kind.{Kind}
 use Rattle.record.specs.declared.Kind.the-variants as kind
 use Rattle.record.specs.declared.Body.{Body}
 use Rattle.record.specs.declared.Body.the-variants as body
+use Rattle.record.specs.declared.Brought.{Brought}
+use Rattle.record.specs.declared.Brought.the-variants as brought
 use Rattle.record.specs.declared.Read.{Read}
 use Rattle.record.specs.declared.Read.the-variants as read
 use Rattle.record.specs.declared.Record.{Record}
@@ -162,9 +166,21 @@ rowIn s r = record { aid = aidIn s (r .other); tok = tokOf (r .tokens) }
 abbrev pub itemsIn : {A : Type 0} → Reader A → List ℕ → Items → List A
 itemsIn p s i = itemsOf p (i .count) (drop (i .at) s)
 
--- the four lists of a load, as a change, and as the contract of the package with the AID a
+-- the change of a whole contract; R-1: 'Kind 11 has a load's layout'
+abbrev pub wholeOf : ContractKind → List Tok → List Row → List Row → List Row → Change
+wholeOf Load = load
+wholeOf Replace = replace
+
+-- the four lists of a contract, as a change, and as the contract of the package with the AID a
+abbrev pub wholeIn : ContractKind → List ℕ → Lists → Change
+wholeIn k s l =
+    wholeOf k (itemsIn tokens s (l .provides)) (itemsIn aRow s (l .calls)) (itemsIn aRow s (l .grants)) (itemsIn aRow s (l .needs))
+
 abbrev pub loadIn : List ℕ → Lists → Change
-loadIn s l = load (itemsIn tokens s (l .provides)) (itemsIn aRow s (l .calls)) (itemsIn aRow s (l .grants)) (itemsIn aRow s (l .needs))
+loadIn s l = wholeIn Load s l
+
+abbrev pub replaceIn : List ℕ → Lists → Change
+replaceIn s l = wholeIn Replace s l
 
 abbrev pub contractIn : List ℕ → Bytes → Lists → Contract
 contractIn s a l =
@@ -186,7 +202,7 @@ changeOf AddNeed r = addNeed r
 changeOf RemoveNeed r = removeNeed r
 
 abbrev pub kindOf : List ℕ → Kind → Change
-kindOf s (kind.Load l) = loadIn s l
+kindOf s (kind.Contract k l) = wholeIn k s l
 kindOf s kind.Remove = remove
 kindOf s (kind.AddService t l) = addService (tokOf t) (itemsIn aid s l)
 kindOf s (kind.RemoveService t) = removeService (tokOf t)
@@ -206,7 +222,7 @@ abbrev pub ListsStand : List ℕ → Lists → Type 0
 ListsStand s l = Stands tokens s (l .provides) × Stands aRow s (l .calls) × Stands aRow s (l .grants) × Stands aRow s (l .needs)
 
 abbrev pub KindFits : List ℕ → Kind → Type 0
-KindFits s (kind.Load l) = ListsStand s l
+KindFits s (kind.Contract k l) = ListsStand s l
 KindFits s kind.Remove = Unit {0}
 KindFits s (kind.AddService t l) = Stands aid s l
 KindFits s (kind.RemoveService t) = Unit {0}
@@ -275,7 +291,10 @@ abbrev pub UnconsTokens : List ℕ → Items → TokensStep → Type 0
 UnconsTokens s items r = Uncons tokens s items (tokOf (r .tokens)) (r .rest)
 
 -- ---- the change, and the whole record
--- what a record of one row does with it, by its kind byte
+-- what a record of a whole contract, or of one row, does with it, by its kind byte
+unfoldable pub contractKind : ℕ → ContractKind
+contractKind k = cond (eqb k 1) Load Replace
+
 unfoldable pub rowKind : ℕ → RowKind
 rowKind k =
     cond (eqb k 5) AddCall
@@ -297,29 +316,34 @@ pub record Bodies (L : Layout) (g : Got Change) (s : List ℕ) (r : Body) : Type
   pub fits : BodyFits s r
   pub same : bodyOf s r ≡ whole g
 
--- the body of k where the part that was read last ends at end of len bytes
-abbrev pub endsAt : ℕ → ℕ → Kind → Body
-endsAt len end k = cond (ltb end len) body.Malformed (body.Whole k)
+-- a contract's lists, and a service and its callers, each read after the one before it; Malformed where one is, or bytes are left over
+abbrev pub contractBy : ℕ → ℕ → Placed → Placed → Placed → Placed → Brought
+contractBy len end (placed.Found p) (placed.Found c) (placed.Found g) (placed.Found n) =
+    cond (ltb end len) brought.Malformed (brought.Found (record { provides = p; calls = c; grants = g; needs = n }))
+contractBy len end (placed.Found p) (placed.Found c) (placed.Found g) placed.Malformed = brought.Malformed
+contractBy len end (placed.Found p) (placed.Found c) placed.Malformed n = brought.Malformed
+contractBy len end (placed.Found p) placed.Malformed g n = brought.Malformed
+contractBy len end placed.Malformed c g n = brought.Malformed
 
--- a load's lists, and a service and its callers, each read after the one before it; Malformed where one is, or bytes are left over
-abbrev pub loadBy : ℕ → ℕ → Placed → Placed → Placed → Placed → Body
-loadBy len end (placed.Found p) (placed.Found c) (placed.Found g) (placed.Found n) =
-    endsAt len end (kind.Load (record { provides = p; calls = c; grants = g; needs = n }))
-loadBy len end (placed.Found p) (placed.Found c) (placed.Found g) placed.Malformed = body.Malformed
-loadBy len end (placed.Found p) (placed.Found c) placed.Malformed n = body.Malformed
-loadBy len end (placed.Found p) placed.Malformed g n = body.Malformed
-loadBy len end placed.Malformed c g n = body.Malformed
-
-abbrev pub loadOf : ℕ → ListAt → RowsAt → Body
-loadOf len p r = loadBy len (r .next) (p .list) (r .calls) (r .grants) (r .needs)
+abbrev pub contractOf : ℕ → ListAt → RowsAt → Brought
+contractOf len p r = contractBy len (r .next) (p .list) (r .calls) (r .grants) (r .needs)
 
 abbrev pub serviceBy : ℕ → ℕ → Service → Placed → Body
-serviceBy len end (service.Found t) (placed.Found l) = endsAt len end (kind.AddService t l)
+serviceBy len end (service.Found t) (placed.Found l) = cond (ltb end len) body.Malformed (body.Whole (kind.AddService t l))
 serviceBy len end (service.Found t) placed.Malformed = body.Malformed
 serviceBy len end service.Malformed l = body.Malformed
 
 abbrev pub serviceOf : ℕ → TokensAt → ListAt → Body
 serviceOf len t l = serviceBy len (l .next) (t .service) (l .list)
+
+-- a contract that was read, with what is done with it
+abbrev pub broughtAs : ContractKind → Brought → Body
+broughtAs k (brought.Found l) = body.Whole (kind.Contract k l)
+broughtAs k brought.Malformed = body.Malformed
+
+-- r is the contract that is read from a position to the end of s, whatever is done with it
+abbrev pub Brings : Layout → ℕ → List ℕ → Brought → Type 0
+Brings L at s r = (k : ContractKind) → Bodies L (aContract L (wholeOf k) (drop at s)) s (broughtAs k r)
 
 abbrev pub recordOf : List ℕ → Record → Request
 recordOf s r = record { aid = aidIn s (r .aid); change = kindOf s (r .kind) }

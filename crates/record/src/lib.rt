@@ -2,11 +2,11 @@
 ghost use mathlib.Core.Path.{_≡_};
 ghost use Prim.Native.Nat.{_+_, _-_, _≤_, _<_};
 ghost use lib.ListN.{length, drop};
-ghost use Rattle.policy.specs.Record.{aid, tokens, aRow, validRow, many, tokenList, callerList, change, firstAid};
+ghost use Rattle.policy.specs.Record.{aid, tokens, aRow, validRow, many, tokenList, callerList, aContract, change, firstAid};
 ghost use Rattle.geometry.specs.Geometry.{layoutOf, tokOf};
 ghost use Rattle.record.specs.Meaning.{Takes, TokensTaken, reader, validReader, widthOf, mostOf, listReader, Counts, Finds};
 ghost use Rattle.record.specs.Meaning.{Places, PlacesRows, Served, tokAt, Good, RowStands, AidFits, aidIn};
-ghost use Rattle.record.specs.Meaning.{Bodies, loadOf, serviceOf, rowKind, Parses};
+ghost use Rattle.record.specs.Meaning.{Bodies, wholeOf, contractOf, serviceOf, contractKind, rowKind, Parses};
 use geometry::Card;
 use geometry::Tokens;
 
@@ -62,12 +62,18 @@ pub struct Items {
     pub count: usize,
 }
 
-// The four lists of a load.
+// The four lists of a contract.
 pub struct Lists {
     pub provides: Items,
     pub calls: Items,
     pub grants: Items,
     pub needs: Items,
+}
+
+// What a record of a whole contract does with it: kinds 1 and 11.
+pub enum ContractKind {
+    Load,
+    Replace,
 }
 
 // What a record of one row does with it: the kinds from 5 to 10.
@@ -80,9 +86,9 @@ pub enum RowKind {
     RemoveNeed,
 }
 
-// What follows the first AID, for the kinds from 1 to 10.
+// What follows the first AID, for the kinds from 1 to 11.
 pub enum Kind {
-    Load(Lists),
+    Contract(ContractKind, Lists),
     Remove,
     AddService(Tokens, Items),
     RemoveService(Tokens),
@@ -104,6 +110,12 @@ pub enum Read {
 // What follows the first AID, with no bytes left over.
 pub enum Body {
     Whole(Kind),
+    Malformed,
+}
+
+// The four lists of a contract, with no bytes left over, or that they are malformed.
+pub enum Brought {
+    Found(Lists),
     Malformed,
 }
 
@@ -281,7 +293,7 @@ fn list_at(rec: &[u8], at: usize, c: Card, sort: Sort) -> ListAt
     ListAt { list, next }
 }
 
-// The services of a load, at a position of the record.
+// The services of a contract, at a position of the record.
 fn services_at(rec: &[u8], at: usize, c: Card) -> ListAt
     requires { ⌜ at ≤ length (now rec) ⌝ }
     ensures { λ r. ⌜ Places tokens (tokenList (layoutOf c)) at (now (rec .entry)) r ⌝ }
@@ -297,7 +309,7 @@ fn callers_at(rec: &[u8], at: usize, c: Card) -> ListAt
     list_at(rec, at, c, Sort::Caller)
 }
 
-// The calls, grants and needs of a load, from a position of the record on.
+// The calls, grants and needs of a contract, from a position of the record on.
 fn rows_at(rec: &[u8], at: usize, c: Card) -> RowsAt
     requires { ⌜ at ≤ length (now rec) ⌝ }
     ensures { λ r. ⌜ PlacesRows (layoutOf c) at (now (rec .entry)) r ⌝ }
@@ -344,28 +356,28 @@ fn read_tokens(rec: &[u8], at: usize, c: Card) -> TokensAt
     TokensAt { service, next }
 }
 
-// A load: the services, and three lists of rows after them, with no bytes left over.
-fn load_of(rec: &[u8], first: ListAt, rows: RowsAt) -> Body
-    ensures { λ r. ⌜ r ≡ loadOf (length (now (rec .entry))) first rows ⌝ }
+// A contract: the services, and three lists of rows after them, with no bytes left over.
+fn contract_of(rec: &[u8], first: ListAt, rows: RowsAt) -> Brought
+    ensures { λ r. ⌜ r ≡ contractOf (length (now (rec .entry))) first rows ⌝ }
 {
     let p = first.list;
     let q = rows.calls;
     let g = rows.grants;
     let n = rows.needs;
     let Placed::Found(provides) = p else {
-        return Body::Malformed;
+        return Brought::Malformed;
     };
     let Placed::Found(calls) = q else {
-        return Body::Malformed;
+        return Brought::Malformed;
     };
     let Placed::Found(grants) = g else {
-        return Body::Malformed;
+        return Brought::Malformed;
     };
     let Placed::Found(needs) = n else {
-        return Body::Malformed;
+        return Brought::Malformed;
     };
     if rows.next < rec.len() {
-        return Body::Malformed;
+        return Brought::Malformed;
     }
     let lists = Lists {
         provides,
@@ -373,7 +385,28 @@ fn load_of(rec: &[u8], first: ListAt, rows: RowsAt) -> Body
         grants,
         needs,
     };
-    Body::Whole(Kind::Load(lists))
+    Brought::Found(lists)
+}
+
+// What a record of a whole contract does with it, by its kind byte.
+fn contract_kind(kind: u8) -> ContractKind
+    ensures { λ r. ⌜ r ≡ contractKind kind ⌝ }
+{
+    match kind {
+        1 => ContractKind::Load,
+        _ => ContractKind::Replace,
+    }
+}
+
+// A whole contract, from a position to the record's end.
+fn read_contract(rec: &[u8], at: usize, c: Card, kind: ContractKind) -> Body
+    requires { ⌜ at ≤ length (now rec) ⌝ }
+    ensures { λ r. ⌜ Bodies (layoutOf c) (aContract (layoutOf c) (wholeOf kind) (drop at (now (rec .entry)))) (now (rec .entry)) r ⌝ }
+{
+    let Brought::Found(lists) = reader::read_lists(rec, at, c) else {
+        return Body::Malformed;
+    };
+    Body::Whole(Kind::Contract(kind, lists))
 }
 
 // A service and the list of its callers, read after it, with no bytes left over.
@@ -459,7 +492,7 @@ fn read_body(rec: &[u8], at: usize, c: Card, kind: u8) -> Body
     ensures { λ r. ⌜ Bodies (layoutOf c) (change (layoutOf c) kind (drop at (now (rec .entry)))) (now (rec .entry)) r ⌝ }
 {
     match kind {
-        1 => reader::read_load(rec, at, c),
+        1 | 11 => read_contract(rec, at, c, contract_kind(kind)),
         2 => {
             if at < rec.len() {
                 return Body::Malformed;
@@ -468,15 +501,8 @@ fn read_body(rec: &[u8], at: usize, c: Card, kind: u8) -> Body
         }
         3 => reader::read_add_service(rec, at, c),
         4 => read_remove_service(rec, at, c),
-        _ => {
-            if kind < 5 {
-                return Body::Malformed;
-            }
-            if 10 < kind {
-                return Body::Malformed;
-            }
-            read_row(rec, at, c, kind)
-        }
+        5..=10 => read_row(rec, at, c, kind),
+        _ => Body::Malformed,
     }
 }
 

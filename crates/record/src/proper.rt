@@ -6,8 +6,9 @@ ghost use Rattle.policy.specs.Contract.{Tok, Row as RowOf, eqAid, eqTok, eqRow,
 ghost use Rattle.policy.specs.Record.{aid, tokens, aRow, addService, notOwn, proper};
 ghost use Rattle.geometry.specs.declared.Card.{Card};
 ghost use Rattle.geometry.specs.Geometry.{layoutOf, tokOf};
+ghost use Rattle.record.specs.declared.ContractKind.{ContractKind};
 ghost use Rattle.record.specs.declared.RowKind.{RowKind};
-ghost use Rattle.record.specs.Meaning.{AidFits, Stands, ListsStand, aidIn, itemsIn, loadIn, changeOf};
+ghost use Rattle.record.specs.Meaning.{AidFits, Stands, ListsStand, aidIn, itemsIn, wholeIn, changeOf};
 use crate::Aid;
 use crate::Items;
 use crate::Lists;
@@ -119,7 +120,7 @@ fn rows_proper(rec: &[u8], own: &[u8], of: Items) -> bool
     true
 }
 
-// Whether each row of a list is among those of another: the needs of a load among its calls.
+// Whether each row of a list is among those of another: the needs of a contract among its calls.
 fn all_called(rec: &[u8], needs: Items, calls: Items) -> bool
     requires { ⌜ Stands aRow (now rec) needs × Stands aRow (now rec) calls ⌝ }
     ensures { λ r. ⌜ r ≡ every (λ x. hasRow x (itemsIn aRow (now (rec .entry)) calls)) (itemsIn aRow (now (rec .entry)) needs) ⌝ }
@@ -136,10 +137,11 @@ fn all_called(rec: &[u8], needs: Items, calls: Items) -> bool
     true
 }
 
-// Kind 1: whether the lists of a load are proper.
-pub fn load_proper(rec: &[u8], own: &[u8], l: Lists) -> bool
+// Kinds 1 and 11: whether the lists of a contract are proper.
+pub fn contract_proper(rec: &[u8], own: &[u8], l: Lists) -> bool
     requires { ⌜ ListsStand (now rec) l ⌝ }
-    ensures { λ r. ⌜ ((c : Card) → r ≡ proper (layoutOf c) (now (own .entry)) (loadIn (now (rec .entry)) l)) ⌝ }
+    ensures { λ r. ⌜ ((c : Card) (k : ContractKind)
+        → r ≡ proper (layoutOf c) (now (own .entry)) (wholeIn k (now (rec .entry)) l)) ⌝ }
 {
     if !tokens_proper(rec, l.provides) {
         return false;

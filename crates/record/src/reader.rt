@@ -1,11 +1,12 @@
-// A reader: a record and a position in it. Its methods are thin, over covered functions. A load's lists, and a service and its
+// A reader: a record and a position in it. Its methods are thin, over covered functions. A contract's lists, and a service and its
 // callers, are read by one reader that moves on.
 ghost use Prim.Native.Nat.{_≤_};
 ghost use lib.ListN.{length, drop};
-ghost use Rattle.policy.specs.Record.{aid, tokens, tokenList, callerList, aLoad, aService};
+ghost use Rattle.policy.specs.Record.{aid, tokens, tokenList, callerList, aService};
 ghost use Rattle.geometry.specs.Geometry.{layoutOf};
-ghost use Rattle.record.specs.Meaning.{Places, PlacesRows, Served, Bodies};
+ghost use Rattle.record.specs.Meaning.{Places, PlacesRows, Served, Brings, Bodies};
 use crate::Body;
+use crate::Brought;
 use crate::ListAt;
 use crate::RowsAt;
 use crate::TokensAt;
@@ -17,7 +18,7 @@ pub struct Reader<'a> {
 }
 
 impl<'a> Reader<'a> {
-    // The services of a load, at the position.
+    // The services of a contract, at the position.
     pub fn services(self, c: Card) -> ListAt
         requires { ⌜ self .at ≤ length (now (self .src)) ⌝ }
         ensures { λ r. ⌜ Places tokens (tokenList (layoutOf c)) (self .entry .at) (now (self .entry .src)) r ⌝ }
@@ -25,7 +26,7 @@ impl<'a> Reader<'a> {
         crate::services_at(self.src, self.at, c)
     }
 
-    // The calls, grants and needs of a load, from the position on.
+    // The calls, grants and needs of a contract, from the position on.
     pub fn rows(self, c: Card) -> RowsAt
         requires { ⌜ self .at ≤ length (now (self .src)) ⌝ }
         ensures { λ r. ⌜ PlacesRows (layoutOf c) (self .entry .at) (now (self .entry .src)) r ⌝ }
@@ -50,16 +51,16 @@ impl<'a> Reader<'a> {
     }
 }
 
-// A load's four lists, from a position to the record's end.
-pub fn read_load(rec: &[u8], at: usize, c: Card) -> Body
+// A contract's four lists, from a position to the record's end.
+pub fn read_lists(rec: &[u8], at: usize, c: Card) -> Brought
     requires { ⌜ at ≤ length (now rec) ⌝ }
-    ensures { λ r. ⌜ Bodies (layoutOf c) (aLoad (layoutOf c) (drop at (now (rec .entry)))) (now (rec .entry)) r ⌝ }
+    ensures { λ r. ⌜ Brings (layoutOf c) at (now (rec .entry)) r ⌝ }
 {
     let mut r = Reader { src: rec, at };
     let services = r.services(c);
     r.at = services.next;
     let rows = r.rows(c);
-    crate::load_of(rec, services, rows)
+    crate::contract_of(rec, services, rows)
 }
 
 // A service and its callers, from a position to the record's end.

@@ -1,44 +1,44 @@
 -- `record::read_body` meets its contract: the number picks the same case of `change`.
+use mathlib.Core.Path.{_≡_}
+use mathlib.Core.Logic.{inl, inr}
+use native.Mathlib.Omega.{arith}
 use denote.Ref.{now}
-use Rattle.geometry.specs.Geometry.{layoutOf}
-use Rattle.policy.specs.Record.{change}
-use Rattle.record.proofs.Bodies.{remove-left, remove-good, kind-none, kind-over}
+use Rattle.record.proofs.Bodies.{kind-is, kind-none, kind-contract, remove-left, remove-good}
 use borrow.Author.Needs.{needs}
 use Rattle.record.proofs.read_body.Statement.{statement}
 use Rattle.record.proofs.read_body.Tie as tie
 
-returns-2 : tie.Need-returns-2
-returns-2 c =
+-- none of 1 to 4, and not 11
+read-row-requires : tie.Need-read-row-requires
+read-row-requires c κs =
+    let a = c .before .before .before .before in
+    let d : a .args .kind ≡ 1 → ⊥ = λ e. c .before .before .match .rest .0 .0 .0 .1 (inl e) in
+    (a .pre, omega arith, omega arith)
+
+returns-7 : tie.Need-returns-7
+returns-7 c =
     let a = c .before .before .before .args in
-    let r = c .before .match .rest in
-    kind-none (layoutOf (a .c)) (a .kind) (a .at) (now (a .rec)) (c .if2 .taken) (r .0 .0 .0 .1) (r .0 .0 .1) (r .0 .1) (r .1)
+    kind-none (a .c) (a .kind) (a .at) (now (a .rec)) (λ e. c .before .match .rest .0 .0 .0 .1 (inr e)) (λ h. omega arith)
 
-returns-3 : tie.Need-returns-3
-returns-3 c =
+returns-8 : tie.Need-returns-8
+returns-8 c =
     let a = c .before .before .before .before .args in
-    kind-over (layoutOf (a .c)) (a .kind) (a .at) (now (a .rec)) (c .if3 .taken)
-
-returns-4 : tie.Need-returns-4
-unfolding change
-returns-4 c = rw (c .before .match .keys1) (c .read-load .ensures)
-
-returns-6 : tie.Need-returns-6
-unfolding change
-returns-6 c = rw (c .before .match .keys3) (c .read-add-service .ensures)
+    kind-none (a .c) (a .kind) (a .at) (now (a .rec)) (λ e. c .before .before .match .rest .0 .0 .0 .1 (inr e)) (λ h. c .if3 .left)
 
 pub read-body-spec : {M : Type 1} → statement M
 read-body-spec =
     tie.close
     (tie.spec
     (λ c κs. search needs)
-    (λ c. rw (c .before .match .keys2) (remove-left _ _ _ (c .if1 .taken)))
+    (λ c κs. search needs)
+    (λ c. rw (c .before .match .keys2) (remove-left (c .before .before .before .args .c) _ _ (c .if1 .taken)))
     (λ c κs. search needs)
     (λ c κs. search needs)
-    returns-2
-    returns-3
-    (λ c κs. search needs)
-    returns-4
-    (λ c. rw (c .before .match .keys2) (remove-good _ _ _ (c .if1 .left)))
-    returns-6
+    read-row-requires
+    (λ c. kind-contract (c .before .before .before .before .args .c) _ _ (c .before .before .match .keys1) (c .before .contract-kind .ensures) (c .read-contract .ensures))
+    (λ c. rw (c .before .match .keys2) (remove-good (c .before .before .before .args .c) _ _ (c .if1 .left)))
+    (λ c. rw (c .before .match .keys3) (kind-is (c .before .before .before .args .c) 3 _ (omega arith) (c .read-add-service .ensures)))
     (λ c. rw (c .before .match .keys4) (c .read-remove-service .ensures))
-    (λ c. search needs))
+    (λ c. search needs)
+    returns-7
+    returns-8)

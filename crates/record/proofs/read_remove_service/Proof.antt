@@ -5,10 +5,10 @@ use Rattle.record.proofs.read_remove_service.Statement.{statement}
 use Rattle.record.proofs.read_remove_service.Tie as tie
 
 returns-2 : tie.Need-returns-2
-returns-2 c = alone-left _ _ (c .before .before .before .before .before .read-tokens .ensures) (c .before .before .before .service .given .1) (c .if1 .taken)
+returns-2 c = let t = c .before .before .before .before .before in alone-left (t .before .before .args .c) _ (t .read-tokens .ensures) (c .before .before .before .service .given .1) (c .if1 .taken)
 
 returns-3 : tie.Need-returns-3
-returns-3 c = alone-good _ _ (c .before .before .before .before .before .read-tokens .ensures) (c .before .before .before .service .given .1) (c .if1 .left)
+returns-3 c = let t = c .before .before .before .before .before in alone-good (t .before .before .args .c) _ (t .read-tokens .ensures) (c .before .before .before .service .given .1) (c .if1 .left)
 
 pub read-remove-service-spec : {M : Type 1} → statement M
 read-remove-service-spec =
@@ -17,6 +17,6 @@ read-remove-service-spec =
     (λ c κs. search needs)
     (λ c. search needs)
     (λ c. search needs)
-    (λ c. alone-bad _ _ (c .before .before .read-tokens .ensures) (c .enum-told .given .1))
+    (λ c. alone-bad (c .before .before .before .before .args .c) _ (c .before .before .read-tokens .ensures) (c .enum-told .given .1))
     returns-2
     returns-3)

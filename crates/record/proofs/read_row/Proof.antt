@@ -23,7 +23,7 @@ front c =
 returns : tie.Need-returns
 returns c =
     let a = c .before .before .before .before .before in
-    row-bad _ (now (a .args .rec)) (a .args .kind) (a .args .at) (a .pre .1) (a .pre .2)
+    row-bad (a .args .c) (now (a .args .rec)) (a .args .kind) (a .args .at) (a .pre .1) (a .pre .2)
     (took-bad (at-part (now (a .args .rec)) (a .args .at) (c .enum-told2 .given .1) (c .before .before .row-end .ensures)))
 
 row-at-requires : tie.Need-row-at-requires
@@ -34,14 +34,14 @@ row-at-requires c κs =
 returns-2 : tie.Need-returns-2
 returns-2 c =
     let a = c .before .before .before .before .before .before .before .before in
-    row-left _ _ _ _ (a .pre .1) (a .pre .2) (front (c .before .before .before)) (c .before .before .row-at .ensures) (c .if1 .taken)
+    row-left (a .args .c) _ _ _ (a .pre .1) (a .pre .2) (front (c .before .before .before)) (c .before .before .row-at .ensures) (c .if1 .taken)
 
 returns-3 : tie.Need-returns-3
 returns-3 c =
     let met = c .before .before in
     let told = met .before .before .before in
     let a = told .before .before .before .before .before in
-    row-good _ _ _ _ (a .pre .1) (a .pre .2) (front told) (met .before .before .row-at .ensures) (c .row-kind .ensures) (met .if1 .left)
+    row-good (a .args .c) _ _ _ (a .pre .1) (a .pre .2) (front told) (met .before .before .row-at .ensures) (c .row-kind .ensures) (met .if1 .left)
 
 pub read-row-spec : {M : Type 1} → statement M
 read-row-spec =

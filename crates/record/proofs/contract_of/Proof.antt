@@ -1,8 +1,8 @@
--- `record::load_of` meets its contract: each list that is not malformed is told by its things.
+-- `record::contract_of` meets its contract: each list that is not malformed is told by its things.
 use borrow.Author.Needs.{needs}
 use borrow.Author.Tests.{lt-ltb, le-ltb}
-use Rattle.record.proofs.load_of.Statement.{statement}
-use Rattle.record.proofs.load_of.Tie as tie
+use Rattle.record.proofs.contract_of.Statement.{statement}
+use Rattle.record.proofs.contract_of.Tie as tie
 
 returns-4 : tie.Need-returns-4
 returns-4 c =
@@ -24,8 +24,8 @@ returns-6 c =
     let q = g .before .before .before in
     rw (q .before .before .before .p .given .1, q .q .given .1, g .g .given .1, n .n .given .1, le-ltb _ _ (c .if1 .left))
 
-pub load-of-spec : {M : Type 1} → statement M
-load-of-spec =
+pub contract-of-spec : {M : Type 1} → statement M
+contract-of-spec =
     tie.close
     (tie.spec
     (λ c. search needs)
