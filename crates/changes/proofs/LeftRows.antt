@@ -21,9 +21,9 @@ use Rattle.geometry.specs.Geometry.{layoutOf}
 use Rattle.image.specs.Read.{Item, item}
 use Rattle.image.specs.Laid.{Laid, tableOf, withUnmet, withWaiting}
 use Rattle.image.specs.Wrote.{Wrote}
-use Rattle.changes.specs.Left.{only, byList, behind, leftOne}
+use Rattle.changes.specs.Left.{only, byList, behind, namedOne}
 use Rattle.changes.proofs.AppendedRows.{wrote-as, behind-none}
-use Rattle.policy.proofs.ShortRemove.{length-pairs}
+use Rattle.policy.proofs.Short.{length-pairs}
 
 -- ---- rows where a test has them
 pub only-keep : {A : Type 0} (f : ℕ → Bool) (g : ℕ → A) (l : List ℕ) → flat (λ k. only (f k) (g k)) l ≡ map g (keep f l)
@@ -46,7 +46,7 @@ module _ {A : Type 0} (g : ℕ → ℕ → A) (f : ℕ → ℕ → Bool) (l m : 
 pub only-room : {A : Type 0} (b r : Bool) (x : A) (n most : ℕ) → r ≡ b → not r ≡ false → n + length (only b x) ≤ most → n < most
 only-room b r x n most e q h = let z : length (only b x) ≡ 1 = ap (λ (y : Bool). length (only y x)) (sym e ∙ not-false r q) in omega arith
 
-module _ (c : Card) (l : Kept) (img : List ℕ) (h : Laid (layoutOf c) img) (a : Aid) (j i row k : ℕ) (b : Bool) (e : b ≡ bit row k) where
+module _ (c : Card) (l : Kept) (img : List ℕ) (h : Laid (layoutOf c) img) (tk : ℕ → Tok) (a : Aid) (i row k : ℕ) (b : Bool) (e : b ≡ bit row k) where
   abbrev L : Layout
   L = layoutOf c
 
@@ -56,12 +56,12 @@ module _ (c : Card) (l : Kept) (img : List ℕ) (h : Laid (layoutOf c) img) (a :
   abbrev rows : Bool → Tok → List (Item l)
   rows z s = only z (item l a s i)
 
-  pub left-none : not b ≡ true → Wrote L img (behind l (leftOne l t a j i (bit row) k) t)
-  left-none q = record { laid = h; tables = sym (ap (λ (z : Bool). behind l (rows z (t .tok j k)) t) (sym e ∙ not-true b q) ∙ behind-none l t) }
+  pub named-none : not b ≡ true → Wrote L img (behind l (namedOne l tk a i (bit row) k) (decode L img))
+  named-none q = record { laid = h; tables = sym (ap (λ (z : Bool). behind l (rows z (tk k)) t) (sym e ∙ not-true b q) ∙ behind-none l t) }
 
-  pub left-some : not b ≡ false → (s : Tok) → s ≡ decode L img .tok j k
-      → {img′ : List ℕ} → Wrote L img′ (behind l (item l a s i ∷ []) (decode L img)) → Wrote L img′ (behind l (leftOne l (decode L img) a j i (bit row) k) (decode L img))
-  left-some q s z w = let on : true ≡ bit row k = sym (not-false b q) ∙ e in wrote-as L (λ v. behind l (rows (on v) (z v)) t) w
+  pub named-some : not b ≡ false → (s : Tok) → s ≡ tk k
+      → {img′ : List ℕ} → Wrote L img′ (behind l (item l a s i ∷ []) (decode L img)) → Wrote L img′ (behind l (namedOne l tk a i (bit row) k) (decode L img))
+  named-some q s z w = let on : true ≡ bit row k = sym (not-false b q) ∙ e in wrote-as L (λ v. behind l (rows (on v) (z v)) t) w
 
 -- ---- rows read from an image whose lists alone were changed
 pub table-apart : (tb : Table) (t : Tables) (u : List Unmet) (w : List Waiting) → tableOf tb (withUnmet u (withWaiting w t)) ≡ tableOf tb t

@@ -164,5 +164,6 @@ module _ (L : Layout) (t : Tables) (n met due : ℕ) (fit : TakesIn L n met due 
   unfolding numberOf serviceOf spotOf
   met-dues = subst (λ (v : Tables). (r : ℕ) → r < length (v .waiting) → DueAt L due v r) (sym (w₁ .tables)) (fit .dues-on)
 
-  pub taken-in : {i₂ i₃ : List ℕ} → Wrote L i₂ (settledAll L due (decode L i₁)) → Wrote L i₃ (withoutRows met due (decode L i₂)) → Wrote L i₃ (takenIn L n met due t)
-  taken-in w₂ w₃ = wrote-then L (withoutRows met due) (wrote-then L (settledAll L due) w₁ w₂) w₃
+  pub taken-in : (calls grants : ℕ) {i₂ i₃ : List ℕ} → Wrote L i₂ (settledAll L due (decode L i₁)) → Wrote L i₃ (withoutRows calls grants (decode L i₂))
+      → Wrote L i₃ (takenIn L n met due calls grants t)
+  taken-in calls grants w₂ w₃ = wrote-then L (withoutRows calls grants) (wrote-then L (settledAll L due) w₁ w₂) w₃

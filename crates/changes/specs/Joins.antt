@@ -70,9 +70,10 @@ module _ (L : Layout) where
   abbrev pub CallOn : ℕ → ℕ → Tables → ℕ → Type 0
   CallOn mask n t r = T (bit mask r) → T (isSome (serviceOf L t n (unmetRow t r .tok)))
 
-  -- the unmet calls of one mask, on package n's services, and the waiting grants of the other have become bits and left their lists
-  abbrev pub takenIn : ℕ → ℕ → ℕ → Tables → Tables
-  takenIn n met due t = withoutRows met due (settledAll due (metAll met n t))
+  -- the unmet calls of one mask, on package n's services, and the waiting grants of another have become bits, and the unmet calls and
+  -- waiting grants of two more have left their lists
+  abbrev pub takenIn : ℕ → ℕ → ℕ → ℕ → ℕ → Tables → Tables
+  takenIn n met due calls grants t = withoutRows calls grants (settledAll due (metAll met n t))
 
   -- what that asks of the tables: numbers in range, and for each row that a mask names its service and caller on the card
   pub record TakesIn (n met due : ℕ) (t : Tables) : Type 0 where

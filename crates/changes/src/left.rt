@@ -1,7 +1,7 @@
 // What goes leaves behind: bits of others become rows of the two lists.
 ghost use mathlib.Core.Path.{_≡_};
 ghost use mathlib.Core.Bool.{true};
-ghost use Prim.Native.Nat.{_≤_, _<_};
+ghost use Prim.Native.Nat.{_*_, _≤_, _<_};
 ghost use lib.Dec.{eqb, leb};
 ghost use lib.ListN.{length};
 ghost use Rattle.policy.specs.Causes.{answer};
@@ -10,9 +10,10 @@ ghost use Rattle.policy.specs.Judge.{lookCauses};
 ghost use Rattle.geometry.specs.Geometry.{layoutOf, tablesOf};
 ghost use Rattle.image.specs.Laid.{Laid};
 ghost use Rattle.image.specs.Wrote.{Wrote};
-ghost use Rattle.changes.specs.Left.{byList, behind, RoomBehind, leftOne, leftRow};
+ghost use Rattle.changes.specs.Left.{byList, behind, RoomBehind, namedOne, leftOne, tokenIn, namedRow, leftRow, inColumn};
 use geometry::Card;
 use geometry::Kept;
+use geometry::Table;
 
 // x for the unmet calls, y for the waiting grants.
 pub fn by_list(l: Kept, x: usize, y: usize) -> usize
@@ -64,6 +65,64 @@ pub fn leave_one(
     }
     let t = image::read::tokens_at(img, c, j, k);
     image::write::append_row(img, c, l, aid, t, i);
+}
+
+// One row more of list l, where `row` has bit k: of package i for the service with the tokens in place k of these, with this AID.
+fn leave_tokens(
+    img: &mut [u8],
+    c: Card,
+    l: Kept,
+    aid: &[u8],
+    tokens: &[u8],
+    i: usize,
+    row: u16,
+    k: usize,
+)
+    requires laid { ⌜ Laid (layoutOf c) (now img) ⌝ }
+    requires inside { ⌜ (i < layoutOf c .packages) × (k < layoutOf c .services) × (layoutOf c .services * 2 ≤ length (now tokens)) ⌝ }
+    requires short { ⌜ length (now aid) ≤ 16 ⌝ }
+    requires room { ⌜ RoomBehind l (layoutOf c) (namedOne l (tokenIn (now tokens)) (now aid) i (bit row) k) (tablesOf c (now img)) ⌝ }
+    ensures { λ _. ⌜ Wrote (layoutOf c) (now (img .exit))
+        (behind l (namedOne l (tokenIn (now (tokens .entry))) (now (aid .entry)) i (bit row) k) (tablesOf c (now (img .entry)))) ⌝ }
+{
+    if !bits::has_bit(row, k) {
+        return;
+    }
+    let t = image::read::tokens_in(tokens, k * 2);
+    image::write::append_row(img, c, l, aid, t, i);
+}
+
+// The rows of package i for the services that `row` has, whose tokens are these, with this AID.
+pub fn leave_from(img: &mut [u8], c: Card, l: Kept, aid: &[u8], tokens: &[u8], i: usize, row: u16)
+    requires laid { ⌜ Laid (layoutOf c) (now img) ⌝ }
+    requires inside { ⌜ (i < layoutOf c .packages) × (layoutOf c .services * 2 ≤ length (now tokens)) ⌝ }
+    requires short { ⌜ length (now aid) ≤ 16 ⌝ }
+    requires room { ⌜ RoomBehind l (layoutOf c) (namedRow (layoutOf c) l (tokenIn (now tokens)) (now aid) i (bit row))
+        (tablesOf c (now img)) ⌝ }
+    ensures { λ _. ⌜ Wrote (layoutOf c) (now (img .exit))
+        (behind l (namedRow (layoutOf c) l (tokenIn (now (tokens .entry))) (now (aid .entry)) i (bit row))
+        (tablesOf c (now (img .entry)))) ⌝ }
+{
+    let size = geometry::services(c);
+    for k in 0..size {
+        leave_tokens(img, c, l, aid, tokens, i, row, k);
+    }
+}
+
+// How many bits of the services d column n of a table has.
+pub fn column(img: &[u8], c: Card, tb: Table, n: usize, d: u16) -> usize
+    requires laid { ⌜ Laid (layoutOf c) (now img) ⌝ }
+    requires inside { ⌜ n < layoutOf c .packages ⌝ }
+    ensures { λ r. ⌜ (r ≡ inColumn (layoutOf c) tb (tablesOf c (now (img .entry))) n (bit d)) × (r ≤ 256) ⌝ }
+{
+    let size = geometry::packages(c);
+    let mut total: usize = 0;
+    for i in 0..size {
+        let row = image::read::entry(img, c, tb, i, n);
+        let named = bits::common(row, d);
+        total += bits::count(named);
+    }
+    total
 }
 
 // The rows of package i for the services of package j that `row` has, with this AID.

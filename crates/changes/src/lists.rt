@@ -1,9 +1,7 @@
 // Rows of the two lists that become bits: unmet calls that are met, and waiting grants that are due.
 ghost use mathlib.Core.Path.{_≡_};
-ghost use mathlib.Core.Bool.{not};
 ghost use Prim.Native.Nat.{ℕ, _<_};
 ghost use lib.ListN.{length};
-ghost use Rattle.policy.specs.Tables.{Unmet, Waiting, bit};
 ghost use Rattle.policy.specs.ShortCheck.{count};
 ghost use Rattle.geometry.specs.Geometry.{layoutOf, tablesOf};
 ghost use Rattle.image.specs.Laid.{Laid};
@@ -101,21 +99,22 @@ fn meet(img: &mut [u8], c: Card, n: usize, met: u32)
 }
 
 // The unmet calls and the waiting grants of the masks go.
-fn drop_listed(img: &mut [u8], c: Card, met: u32, due: u32)
+fn drop_listed(img: &mut [u8], c: Card, calls: u32, grants: u32)
     requires { ⌜ Laid (layoutOf c) (now img) ⌝ }
-    ensures { λ _. ⌜ Wrote (layoutOf c) (now (img .exit)) (withoutRows met due (tablesOf c (now (img .entry)))) ⌝ }
+    ensures { λ _. ⌜ Wrote (layoutOf c) (now (img .exit)) (withoutRows calls grants (tablesOf c (now (img .entry)))) ⌝ }
 {
-    image::write::drop_rows(img, c, Kept::UnmetCalls, met);
-    image::write::drop_rows(img, c, Kept::WaitingGrants, due);
+    image::write::drop_rows(img, c, Kept::UnmetCalls, calls);
+    image::write::drop_rows(img, c, Kept::WaitingGrants, grants);
 }
 
-// The unmet calls of one mask, on package n's services, and the waiting grants of the other become bits and leave their lists.
-pub fn take_in(img: &mut [u8], c: Card, n: usize, met: u32, due: u32)
+// The unmet calls `met`, on package n's services, and the waiting grants `due` become bits; the unmet calls `calls` and the waiting
+// grants `grants` leave their lists.
+pub fn take_in(img: &mut [u8], c: Card, n: usize, met: u32, due: u32, calls: u32, grants: u32)
     requires laid { ⌜ Laid (layoutOf c) (now img) ⌝ }
     requires fit { ⌜ TakesIn (layoutOf c) n met due (tablesOf c (now img)) ⌝ }
-    ensures { λ _. ⌜ Wrote (layoutOf c) (now (img .exit)) (takenIn (layoutOf c) n met due (tablesOf c (now (img .entry)))) ⌝ }
+    ensures { λ _. ⌜ Wrote (layoutOf c) (now (img .exit)) (takenIn (layoutOf c) n met due calls grants (tablesOf c (now (img .entry)))) ⌝ }
 {
     meet(img, c, n, met);
     settle(img, c, due);
-    drop_listed(img, c, met, due);
+    drop_listed(img, c, calls, grants);
 }

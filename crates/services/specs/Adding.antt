@@ -59,13 +59,13 @@ module _ (L : Layout) where
 
   -- all of them, by the masks of the unmet calls on the service and of the waiting grants that are due: the service is opened first
   abbrev pub added : ℕ → ℕ → ℕ → ℕ → Tok → List Aid → Tables → Tables
-  added asking due j k s l t = grantedToAll j k s l (takenIn L j asking due (opened j k s t))
+  added asking due j k s l t = grantedToAll j k s l (takenIn L j asking due asking due (opened j k s t))
 
   -- what the writes ask of the tables
   pub record AddFits (asking due j k : ℕ) (s : Tok) (l : List Aid) (t : Tables) : Type 0 where
     pub service-in : k < L .services
     pub takes-in : TakesIn L j asking due (opened j k s t)
-    pub room : RoomFor j s l (takenIn L j asking due (opened j k s t))
+    pub room : RoomFor j s l (takenIn L j asking due asking due (opened j k s t))
 
   -- ---- the checks
   -- a waiting grant of the mask is to package n

@@ -1,7 +1,7 @@
 // Kind 3: a service with its grants. Unmet calls on it and waiting grants of it become bits; a grant waits, once, where its caller is not
 // installed.
 ghost use mathlib.Core.Path.{_≡_};
-ghost use mathlib.Core.Bool.{Bool, true, false, not, _&&_, _||_};
+ghost use mathlib.Core.Bool.{Bool, true, false, _&&_, _||_};
 ghost use Prim.Native.Nat.{_+_, _<_};
 ghost use lib.Dec.{T, eqb, leb};
 ghost use lib.ListN.{length};
@@ -376,7 +376,7 @@ fn serve(
         (tablesOf c (now (img .entry)))) ⌝ }
 {
     changes::service::open_service(img, c, j, k, t);
-    changes::lists::take_in(img, c, j, met, due);
+    changes::lists::take_in(img, c, j, met, due, met, due);
     grant_all(img, c, rec, callers, j, k, t);
 }
 

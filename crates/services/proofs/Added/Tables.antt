@@ -293,7 +293,7 @@ module _ (L : Layout) (t : Tables) (formed : Formed L t) (j : ℕ) (s : Tok) whe
 
     -- ---- the rows that stay
     abbrev then : Tables
-    then = takenIn L j asking due on
+    then = takenIn L j asking due asking due on
 
     stay-is : keepRows due (t .waiting) ≡ keep stay (t .waiting)
     stay-is = ap (λ (m : ℕ). keepRows m (t .waiting)) ed ∙ keep-mask (nowGranted L t j s) (t .waiting)
@@ -317,7 +317,7 @@ module _ (L : Layout) (t : Tables) (formed : Formed L t) (j : ℕ) (s : Tok) whe
     unfolding numberOf
     lone-then a = ap (λ (b : Bool). not (installedAid L t a || b)) (waits-in left (then .waiting) refl a ∙ ap (hasWaiting (waits a)) stay-is) ∙ still-waits a
 
-    pub room-then : (l : List Aid) → T (shortAddService L t j s l .waitingFits) → RoomFor L j s l (takenIn L j asking due (opened j k s t))
+    pub room-then : (l : List Aid) → T (shortAddService L t j s l .waitingFits) → RoomFor L j s l (takenIn L j asking due asking due (opened j k s t))
     room-then l h = subst (λ (n : ℕ). n ≤ L .capacity)
         (sym (ap₂ (λ (x y : ℕ). x + y) (ap length stay-is) (λ i. count (λ a. lone-then a i) l))) (leb→le (count stay (t .waiting) + count lone l) (L .capacity) h)
 

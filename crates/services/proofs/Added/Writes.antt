@@ -16,9 +16,9 @@ module _ (L : Layout) (t : Tables) (met due j k : ℕ) (s : Tok) (l : List Aid) 
   pub opened-takes : TakesIn L j met due (decode L img₁)
   opened-takes = subst (TakesIn L j met due) (sym (w₁ .tables)) (fit .takes-in)
 
-  module _ {img₂ : List ℕ} (w₂ : Wrote L img₂ (takenIn L j met due (decode L img₁))) where
-    taken : Wrote L img₂ (takenIn L j met due (opened j k s t))
-    taken = wrote-then L (takenIn L j met due) w₁ w₂
+  module _ {img₂ : List ℕ} (w₂ : Wrote L img₂ (takenIn L j met due met due (decode L img₁))) where
+    taken : Wrote L img₂ (takenIn L j met due met due (opened j k s t))
+    taken = wrote-then L (takenIn L j met due met due) w₁ w₂
 
     pub taken-room : RoomFor L j s l (decode L img₂)
     taken-room = subst (RoomFor L j s l) (sym (taken .tables)) (fit .room)

@@ -10,7 +10,7 @@ use Rattle.policy.specs.Tables.{Tables, decode}
 use Rattle.policy.specs.Lookup.{numbers, numberOf, serviceOf, contractAt}
 use Rattle.policy.specs.ShortCheck.{count, shortRemoveService, fine, shortLook, shortService}
 use Rattle.policy.specs.Judge.{lookCauses, tableCauses}
-use Rattle.policy.proofs.ShortRemove.{none-pass}
+use Rattle.policy.proofs.Short.{none-pass}
 use Rattle.geometry.specs.declared.Table.the-variants.{Calls, Grants}
 use Rattle.geometry.specs.declared.Kept.the-variants.{UnmetCalls, WaitingGrants}
 use Rattle.services.specs.Removal.{rowsWithBits, RoomWithoutService, listsWithoutService}

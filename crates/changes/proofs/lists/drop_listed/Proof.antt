@@ -20,7 +20,7 @@ same-length c = search needs
 returns : tie.Need-returns
 returns c =
     let x = c .before .before .before .before .before .before .before .before .before .args in
-    wrote-then (layoutOf (x .c)) (λ (t : Tables). withWaiting (keepRows (x .due) (t .waiting)) t) (c .before .before .before .before .before .before .drop-rows .ensures) (c .before .before .drop-rows2 .ensures)
+    wrote-then (layoutOf (x .c)) (λ (t : Tables). withWaiting (keepRows (x .grants) (t .waiting)) t) (c .before .before .before .before .before .before .drop-rows .ensures) (c .before .before .drop-rows2 .ensures)
 
 pub drop-listed-spec : {M : Type 1} → statement M
 drop-listed-spec = tie.close (tie.spec drop-rows-requires drop-rows-requires-2 same-length returns)

@@ -15,7 +15,7 @@ returns c =
     let d = c .before .before in
     let s = d .before .before .before .before in
     let m = s .before .before .before .before in
-    taken-in _ _ _ _ _ (m .before .before .before .pre .1) (m .meet .ensures) (s .settle .ensures) (d .drop-listed .ensures)
+    taken-in _ _ _ _ _ (m .before .before .before .pre .1) (m .meet .ensures) _ _ (s .settle .ensures) (d .drop-listed .ensures)
 
 pub take-in-spec : {M : Type 1} → statement M
 take-in-spec = tie.close (tie.spec (λ c κs. search needs) settle-requires (λ c κs. search needs) (λ c. search needs) returns)
