@@ -1,9 +1,2 @@
-pub mod Checks
-pub mod ShortCheck
 pub mod Decided
-pub mod Folds
-pub mod Joined
-pub mod OwnRows
-pub mod Newcomer
-pub mod Opened
 pub mod Written

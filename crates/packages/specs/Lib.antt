@@ -1,3 +1,3 @@
-pub mod Loads
+pub mod Decides
 pub mod Writes
 pub mod Removal

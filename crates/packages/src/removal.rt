@@ -4,11 +4,11 @@ ghost use Prim.Native.Nat.{_≤_, _<_};
 ghost use lib.ListN.{length};
 ghost use Rattle.policy.specs.Record.{remove as removal};
 ghost use Rattle.policy.specs.Causes.{answer};
-ghost use Rattle.policy.specs.ShortCheck.{count, ones, shortRemove};
+ghost use Rattle.policy.specs.ShortCheck.{shortRemove};
 ghost use Rattle.policy.specs.Judge.{lookCauses};
 ghost use Rattle.policy.specs.Settled.{settled, Gives};
 ghost use Rattle.geometry.specs.Geometry.{layoutOf, tablesOf};
-ghost use Rattle.image.specs.Laid.{Laid, tableOf};
+ghost use Rattle.image.specs.Laid.{Laid};
 ghost use Rattle.image.specs.Wrote.{Wrote};
 ghost use Rattle.changes.specs.Asked.{Asked};
 ghost use Rattle.changes.specs.Left.{behind, RoomBehind};
@@ -20,22 +20,6 @@ use geometry::Kept;
 use geometry::Table;
 
 // ---- kind 2
-// How many bits column n of a table has.
-fn column(img: &[u8], c: Card, tb: Table, n: usize) -> usize
-    requires laid { ⌜ Laid (layoutOf c) (now img) ⌝ }
-    requires inside { ⌜ n < layoutOf c .packages ⌝ }
-    ensures { λ r. ⌜ (r ≡ ones (layoutOf c) (tablesOf c (now (img .entry))) (λ i k. tableOf tb (tablesOf c (now (img .entry))) i n k))
-        × (r ≤ 256) ⌝ }
-{
-    let size = geometry::packages(c);
-    let mut total: usize = 0;
-    for i in 0..size {
-        let row = image::read::entry(img, c, tb, i, n);
-        total += bits::count(row);
-    }
-    total
-}
-
 // How many rows list l has when package n has gone: its own go, and those that it leaves behind are added.
 fn rows_after(img: &[u8], c: Card, l: Kept, tb: Table, n: usize) -> usize
     requires laid { ⌜ Laid (layoutOf c) (now img) ⌝ }
@@ -45,7 +29,7 @@ fn rows_after(img: &[u8], c: Card, l: Kept, tb: Table, n: usize) -> usize
     let all = image::lists::count(img, c, l);
     let mask = image::lists::with_number(img, c, l, n);
     let own = image::lists::mask_count(mask);
-    let left = column(img, c, tb, n);
+    let left = changes::left::column(img, c, tb, n, 65535);
     let rest = all - own;
     let total = rest + left;
     total
@@ -58,7 +42,7 @@ fn remove_cause(img: &[u8], c: Card, n: usize) -> u8
     ensures { λ r. ⌜ r ≡ answer (lookCauses (shortRemove (layoutOf c) (tablesOf c (now (img .entry))) n)) ⌝ }
 {
     let most = geometry::capacity(c);
-    let needed = column(img, c, Table::Needs, n);
+    let needed = changes::left::column(img, c, Table::Needs, n, 65535);
     let unmet = rows_after(img, c, Kept::UnmetCalls, Table::Calls, n);
     let waiting = rows_after(img, c, Kept::WaitingGrants, Table::Grants, n);
     changes::left::first_cause(most, needed, unmet, waiting)

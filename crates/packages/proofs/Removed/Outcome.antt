@@ -10,7 +10,7 @@ use Rattle.policy.specs.Tables.{Tables, decode}
 use Rattle.policy.specs.Lookup.{numbers, places, numberOf}
 use Rattle.policy.specs.ShortCheck.{ones, shortRemove, fine, shortLook}
 use Rattle.policy.specs.Judge.{lookCauses, tableCauses}
-use Rattle.policy.proofs.ShortRemove.{none-pairs}
+use Rattle.policy.proofs.Short.{none-pairs}
 use Rattle.geometry.specs.declared.Table.the-variants.{Calls, Grants}
 use Rattle.geometry.specs.declared.Kept.the-variants.{UnmetCalls, WaitingGrants}
 use Rattle.packages.specs.Removal.{rowsWithout, RoomWithout, listsWithout, tablesWithout}

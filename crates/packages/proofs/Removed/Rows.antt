@@ -1,16 +1,17 @@
 -- Kind 2: the rows that a package leaves behind, how many they are, and the lists with them. Assumes nothing.
 use Prim.Native.Nat.{ℕ, _+_, _-_, _≤_}
 use native.Mathlib.Omega.{arith}
-use mathlib.Core.Path.{_≡_, sym, ap, _∙_, subst}
-use mathlib.Core.Bool.{Bool, true, not, and-true}
+use native.Mathlib.Nat.{lt-of-lt-of-le}
+use mathlib.Core.Path.{_≡_, refl, sym, ap, _∙_, subst}
+use mathlib.Core.Bool.{Bool, true, not, _&&_, and-true}
 use mathlib.Core.List.{List, map}
 use lib.ListN.{length}
 use Rattle.policy.specs.Lists.{keep, upto, flat}
 use Rattle.policy.specs.Contract.{Aid}
 use Rattle.policy.specs.Layout.{Layout}
 use Rattle.policy.specs.Tables.{Tables, Unmet, Waiting, bit, rowOf, decode}
-use Rattle.policy.specs.ShortCheck.{count, ones}
-use Rattle.policy.proofs.Sets.{flat-ext, upto-in}
+use Rattle.policy.specs.ShortCheck.{count, sum, ones}
+use Rattle.policy.proofs.Sets.{flat-ext, keep-ext, upto-in}
 use Rattle.geometry.specs.declared.Table.{Table}
 use Rattle.geometry.specs.declared.Table.the-variants.{Calls, Grants}
 use Rattle.geometry.specs.declared.Kept.{Kept}
@@ -18,7 +19,7 @@ use Rattle.geometry.specs.declared.Kept.the-variants.{UnmetCalls, WaitingGrants
 use Rattle.image.specs.Read.{Item, item, maskOf, itemsOf, itemNumber}
 use Rattle.image.specs.Laid.{tableOf, withUnmet, withWaiting, withItems}
 use Rattle.image.specs.Wrote.{Wrote}
-use Rattle.changes.specs.Left.{only, byList, behind, leftOne, leftRow, RoomBehind}
+use Rattle.changes.specs.Left.{only, byList, behind, leftOne, leftRow, RoomBehind, inColumn}
 use Rattle.changes.proofs.AppendedRows.{wrote-as, items-are, apart, behind-items}
 use lib.Dec.{eqb}
 use Rattle.policy.specs.Lookup.{numbers, places, serviceAt}
@@ -30,6 +31,7 @@ use Rattle.bits.proofs.Gathered.{count-others}
 use Rattle.rows.specs.Area.{keepRows}
 use Rattle.image.proofs.Clears.{wrote-then}
 use Rattle.changes.proofs.LeftRows.{table-apart}
+use Rattle.bits.proofs.Loops.{every-at}
 use Rattle.bits.proofs.Row.{row-bit}
 
 module _ (L : Layout) (l : Kept) (t : Tables) (tb : Table) where
@@ -46,6 +48,17 @@ module _ (L : Layout) (l : Kept) (t : Tables) (tb : Table) where
 module _ (L : Layout) (l : Kept) (t : Tables) (tb : Table) where
   pub left-length : (a : Aid) (n : ℕ) → length (leftRows L l t tb a n) ≡ ones L t (λ i k. tableOf tb t i n k)
   left-length a n = length-only (λ i k. item l a (t .tok (byList l n i) k) i) (λ i k. tableOf tb t i n k) (places L) (numbers L)
+
+-- column n, of all services
+module _ (L : Layout) (t : Tables) (tb : Table) where
+  pub whole-column : L .services ≤ 16 → (n : ℕ) → inColumn L tb t n (bit 65535) ≡ ones L t (λ i k. tableOf tb t i n k)
+  unfolding bit
+  whole-column h n = λ z. sum (λ i. length (every-named i z)) (numbers L)
+    where
+      every-named : (i : ℕ) → keep (λ k. tableOf tb t i n k && bit 65535 k) (places L) ≡ keep (tableOf tb t i n) (places L)
+      every-named i =
+          keep-ext (λ k. tableOf tb t i n k && bit 65535 k) (tableOf tb t i n) (places L)
+          (λ k m. ap (λ (b : Bool). tableOf tb t i n k && b) (every-at (bit 65535) 16 k refl (lt-of-lt-of-le (upto-in (L .services) m) h)) ∙ and-true (tableOf tb t i n k))
 
 -- ---- the rows are the draft's
 module _ (L : Layout) (t : Tables) where

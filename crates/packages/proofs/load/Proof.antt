@@ -2,30 +2,33 @@
 use native.Mathlib.Omega.{arith}
 use borrow.Author.Needs.{needs}
 use Rattle.geometry.proofs.Bounds.{limits}
-use Rattle.packages.proofs.Loaded.Written.{number-in, load-refused, load-done}
+use Rattle.packages.proofs.Brought.Accepted.{decided-refused, decided-done}
+use Rattle.packages.proofs.Loaded.Written.{number-in}
 use Rattle.packages.proofs.load.Statement.{statement}
 use Rattle.packages.proofs.load.Tie as tie
 
 returns : tie.Need-returns
-returns c = load-refused _ _ _ _ (c .before .before .before .decide .ensures) (c .before .if1 .taken) (c .refused .ensures)
+returns c = decided-refused _ _ _ _ _ _ (c .before .before .before .load .ensures) (c .before .if1 .taken) (c .refused .ensures)
 
-put-requires : tie.Need-put-requires
-put-requires c κs =
-    let d = c .before .before .before in
+load-requires-2 : tie.Need-load-requires-2
+load-requires-2 c κs =
+    let d = c .before .before .before .before in
     let s = d .before .before .before .before .before in
-    (s .pre .0, (s .pre .1, d .decide .ensures .accepted (c .before .if1 .left)))
+    (s .pre .0, (s .pre .1, d .load .ensures .accepted (c .before .before .if1 .left)))
 
 accepted-requires : tie.Need-accepted-requires
 accepted-requires c κs =
-    let d = c .before .before .before .before .before .before in
+    let i = c .before .before .before .before .before in
+    let d = i .before .before in
     let s = d .before .before .before .before .before in
-    omega (arith, number-in _ _ _ (s .pre .0) _ (d .decide .ensures .accepted (c .before .before .before .before .if1 .left)), limits (s .args .c))
+    omega (arith, number-in _ _ _ (s .pre .0) _ (d .load .ensures .accepted (i .if1 .left)), limits (s .args .c))
 
 returns-2 : tie.Need-returns-2
 returns-2 c =
-    let p = c .before .before .before in
-    let d = p .before .before .before .before in
-    load-done _ _ _ _ (d .decide .ensures) (p .before .before .if1 .left) (p .put .ensures) (c .accepted .ensures)
+    let w = c .before .before .before in
+    let i = w .before .before .before in
+    let d = i .before .before in
+    decided-done _ _ _ _ _ _ (d .load .ensures .accepted (i .if1 .left) .outcome) (w .load2 .ensures) (c .accepted .ensures)
 
 pub load-spec : {M : Type 1} → statement M
 load-spec =
@@ -35,7 +38,7 @@ load-spec =
     (λ c κs. search needs)
     (λ c. search needs)
     returns
-    put-requires
+    load-requires-2
     accepted-requires
     (λ c. search needs)
     returns-2)

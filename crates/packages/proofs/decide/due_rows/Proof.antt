@@ -1,4 +1,4 @@
--- `packages::decide::due_rows` meets its contract.
+-- `packages::decide::due_rows` meets its contract. Assumes nothing.
 use native.Mathlib.Omega.{arith}
 use Prim.Native.Nat.{_-_, _≤_, _<_}
 use mathlib.Core.Path.{_≡_}
@@ -10,7 +10,7 @@ use Rattle.geometry.specs.Geometry.{layoutOf}
 use Rattle.geometry.specs.declared.Kept.the-variants.{WaitingGrants}
 use Rattle.image.specs.Read.{maskOf, waitingRow}
 use Rattle.image.proofs.Listed.{masks, list-low}
-use Rattle.packages.specs.Loads.{comesDue}
+use Rattle.packages.specs.Decides.{comesDue}
 use Rattle.packages.proofs.decide.due_rows.Statement.{statement}
 use Rattle.packages.proofs.decide.due_rows.Tie as tie
 

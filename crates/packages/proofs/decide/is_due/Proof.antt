@@ -1,5 +1,5 @@
 -- `packages::decide::is_due` meets its contract. Assumes nothing.
-use Rattle.packages.proofs.Loaded.Checks.{checks}
+use Rattle.packages.proofs.Checks.{checks}
 use Rattle.packages.proofs.decide.is_due.Statement.{statement}
 use Rattle.packages.proofs.decide.is_due.Tie as tie
 

@@ -1,5 +1,5 @@
 -- `packages::decide::is_met` meets its contract. Assumes nothing.
-use Rattle.packages.proofs.Loaded.Checks.{checks}
+use Rattle.packages.proofs.Checks.{checks}
 use Rattle.packages.proofs.decide.is_met.Statement.{statement}
 use Rattle.packages.proofs.decide.is_met.Tie as tie
 

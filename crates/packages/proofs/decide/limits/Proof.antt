@@ -1,5 +1,5 @@
 -- `packages::decide::limits` meets its contract. Assumes nothing.
-use Rattle.packages.proofs.Loaded.Checks.{limited}
+use Rattle.packages.proofs.Checks.{limited}
 use Rattle.packages.proofs.decide.limits.Statement.{statement}
 use Rattle.packages.proofs.decide.limits.Tie as tie
 

@@ -1,4 +1,4 @@
--- `packages::decide::met_rows` meets its contract.
+-- `packages::decide::met_rows` meets its contract. Assumes nothing.
 use native.Mathlib.Omega.{arith}
 use Prim.Native.Nat.{_≤_}
 use mathlib.Core.Path.{_≡_}
@@ -10,7 +10,6 @@ use Rattle.image.specs.Read.{maskOf}
 use Rattle.geometry.specs.declared.Kept.the-variants.{UnmetCalls}
 use Rattle.image.proofs.Listed.{masks, list-low}
 use Rattle.record.specs.Meaning.{contractIn}
-use Rattle.packages.specs.Loads.{}
 use Rattle.packages.proofs.decide.met_rows.Statement.{statement}
 use Rattle.packages.proofs.decide.met_rows.Tie as tie
 use Rattle.policy.specs.ShortCheck.{nowMet}
@@ -32,7 +31,7 @@ sub-r : tie.Need-sub-r Inv-loop μ-loop
 sub-r c = search masks
 
 is-met-requires : tie.Need-is-met-requires Inv-loop μ-loop
-is-met-requires c κs = (c .before .before .before .before .before .before .pre .0, (omega (arith, c .before .loop .inv .0, c .loop-test .taken), c .before .before .before .before .before .before .pre .1))
+is-met-requires c κs = let s = c .before .before .before .before .before .before in (s .pre .0, (omega (arith, c .before .loop .inv .0, c .loop-test .taken), s .pre .1))
 
 mul-mask : tie.Need-mul-mask Inv-loop μ-loop
 mul-mask c = let s = c .before .before .before .before .before .before .before in search (masks, list-low (s .args .c) (now (s .args .img)) (s .pre .0) UnmetCalls)

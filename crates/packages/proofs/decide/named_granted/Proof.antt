@@ -1,31 +1,19 @@
--- `packages::decide::named_granted` meets its contract.
+-- `packages::decide::named_granted` meets its contract. Assumes nothing.
 use native.Mathlib.Omega.{arith}
 use denote.Ref.{now}
 use Rattle.geometry.specs.declared.Kept.the-variants.{UnmetCalls}
 use Rattle.image.proofs.Listed.{list-low}
-use Rattle.packages.proofs.Loaded.Checks.{checks}
+use Rattle.packages.proofs.Checks.{checks}
 use Rattle.packages.proofs.decide.named_granted.Statement.{statement}
 use Rattle.packages.proofs.decide.named_granted.Tie as tie
 
 has-row-requires : tie.Need-has-row-requires
-has-row-requires c κs =
-    let x = c .before .before .args in
-    omega (arith, list-low (x .c) (now (x .img)) (c .before .before .pre .0) UnmetCalls, c .before .before .pre .1 .0)
+has-row-requires c κs = let s = c .before .before in omega (arith, list-low (s .args .c) (now (s .args .img)) (s .pre .0) UnmetCalls, s .pre .1 .0)
 
-returns : tie.Need-returns
-returns c = search checks
-
-row-granted-requires : tie.Need-row-granted-requires
-row-granted-requires c κs = search checks
-
-returns-2 : tie.Need-returns-2
-returns-2 c = search checks
+granted-to-requires : tie.Need-granted-to-requires
+granted-to-requires c κs = let s = c .before .before .before .before .before .before in (s .pre .0, (rw (c .before .number .ensures) (s .pre .1 .1 .0), s .pre .1 .1 .1))
 
 pub named-granted-spec : {M : Type 1} → statement M
 named-granted-spec =
     tie.close
-    (tie.spec
-    has-row-requires
-    returns
-    row-granted-requires
-    returns-2)
+    (tie.spec has-row-requires (λ c. search checks) (λ c κs. search checks) (λ c κs. search checks) granted-to-requires (λ c. search checks))

@@ -1,4 +1,4 @@
--- `packages::decide::needs_served` meets its contract.
+-- `packages::decide::needs_served` meets its contract. Assumes nothing.
 use native.Mathlib.Omega.{arith}
 use borrow.Author.Needs.{needs}
 use Rattle.policy.specs.Lists.{every}
@@ -29,10 +29,13 @@ loop-less : tie.Need-loop-less Inv-loop μ-loop
 loop-less c = omega (arith, c .before .before .before .take-row .ensures .split .fewer)
 
 loop-again : tie.Need-loop-again Inv-loop μ-loop
-loop-again c = every-next _ (c .before .before .before .take-row .ensures .split) (c .before .before .is-served .ensures) (c .before .before .before .before .before .before .loop .inv) (c .before .if2 .taken)
+loop-again c =
+    let g = c .before .before in
+    let r = g .before in
+    every-next _ (r .take-row .ensures .split) (g .is-served .ensures) (r .before .before .before .loop .inv) (c .before .if2 .taken)
 
 returns : tie.Need-returns Inv-loop μ-loop
-returns c = every-stop _ (c .before .before .take-row .ensures .split) (c .before .is-served .ensures) (c .before .before .before .before .before .loop .inv) (c .if2 .left)
+returns c = let r = c .before .before in every-stop _ (r .take-row .ensures .split) (c .before .is-served .ensures) (r .before .before .before .loop .inv) (c .if2 .left)
 
 returns-2 : tie.Need-returns-2 Inv-loop μ-loop
 returns-2 c = todo-end (c .before .before .loop .inv) (c .if1 .left)

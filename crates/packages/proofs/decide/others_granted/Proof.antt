@@ -1,11 +1,11 @@
--- `packages::decide::others_granted` meets its contract.
+-- `packages::decide::others_granted` meets its contract. Assumes nothing.
 use native.Mathlib.Omega.{arith}
 use Prim.Native.Nat.{_-_, _≤_, _<_}
 use mathlib.Core.Path.{_≡_}
 use mathlib.Core.Bool.{true}
 use denote.Ref.{now}
 use lib.ListN.{length}
-use Rattle.policy.specs.Lists.{implies, every, exists, upto}
+use Rattle.policy.specs.Lists.{implies, every, upto}
 use Rattle.policy.specs.Record.{aRow}
 use Rattle.policy.specs.Tables.{bit, decode}
 use Rattle.geometry.specs.Geometry.{layoutOf}
@@ -13,14 +13,14 @@ use Rattle.bits.proofs.Loops.{early}
 use Rattle.image.specs.Read.{unmetRow}
 use Rattle.image.proofs.Laid.{sound-laid}
 use Rattle.record.specs.Meaning.{itemsIn}
-use Rattle.packages.specs.Loads.{grantFits}
+use Rattle.packages.specs.Decides.{grantedTo}
 use Rattle.changes.proofs.SoundRows.{caller-in}
 use Rattle.packages.proofs.decide.others_granted.Statement.{statement}
 use Rattle.packages.proofs.decide.others_granted.Tie as tie
 
 abbrev Inv-loop : tie.InvT-loop
 Inv-loop img c rec grants met n r₀ r =
-    (r ≤ n) × (every (λ k. implies (bit met k) (exists (grantFits (layoutOf c) (decode (layoutOf c) img) (unmetRow (decode (layoutOf c) img) k)) (itemsIn aRow rec grants))) (upto r) ≡ true)
+    (r ≤ n) × (every (λ k. implies (bit met k) (grantedTo (layoutOf c) (decode (layoutOf c) img) (itemsIn aRow rec grants) (unmetRow (decode (layoutOf c) img) k .caller) (unmetRow (decode (layoutOf c) img) k .tok))) (upto r) ≡ true)
 
 abbrev μ-loop : tie.MeasureT-loop
 μ-loop img c rec grants met n r₀ r = n - r
@@ -33,9 +33,11 @@ loop-holds c = search early
 
 named-granted-requires : tie.Need-named-granted-requires Inv-loop μ-loop
 named-granted-requires c κs =
-    let x = c .before .before .before .before .before .args in
-    let q : c .before .loop .r < length (decode (layoutOf (x .c)) (now (x .img)) .unmet) = omega (arith, c .loop-test .taken, c .before .before .count .ensures) in
-    (sound-laid (layoutOf (x .c)) (c .before .before .before .before .before .pre .0), (q, (caller-in (layoutOf (x .c)) (now (x .img)) (c .before .loop .r) (c .before .before .before .before .before .pre .0) q, c .before .before .before .before .before .pre .1)))
+    let s = c .before .before .before .before .before in
+    let x = s .args in
+    let L = layoutOf (x .c) in
+    let q : c .before .loop .r < length (decode L (now (x .img)) .unmet) = omega (arith, c .loop-test .taken, c .before .before .count .ensures) in
+    (sound-laid L (s .pre .0), (q, (caller-in L (now (x .img)) (c .before .loop .r) (s .pre .0) q, s .pre .1)))
 
 returns : tie.Need-returns Inv-loop μ-loop
 returns c = search early

@@ -1,42 +1,29 @@
--- `packages::decide::row_granted` meets its contract.
+-- `packages::decide::row_granted` meets its contract. Assumes nothing.
+use Prim.Native.Nat.{_-_, _≤_}
 use native.Mathlib.Omega.{arith}
-use borrow.Author.Needs.{needs}
-use Rattle.policy.specs.Lists.{exists}
+use mathlib.Core.Path.{_≡_}
+use mathlib.Core.Bool.{true}
+use Rattle.policy.specs.Lists.{implies, every, upto}
 use Rattle.policy.specs.Record.{aRow}
-use Rattle.policy.specs.Tables.{decode}
+use Rattle.policy.specs.Tables.{bit, decode}
 use Rattle.geometry.specs.Geometry.{layoutOf}
-use Rattle.image.specs.Read.{unmetRow}
-use Rattle.record.proofs.Loops.{Left, todo-start, todo-end, exists-stop, exists-next}
-use Rattle.packages.specs.Loads.{grantFits}
+use Rattle.bits.proofs.Loops.{early}
+use Rattle.record.specs.Meaning.{itemsIn}
+use Rattle.packages.specs.Decides.{grantedTo}
 use Rattle.packages.proofs.decide.row_granted.Statement.{statement}
 use Rattle.packages.proofs.decide.row_granted.Tie as tie
 
 abbrev Inv-loop : tie.InvT-loop
-Inv-loop img c r rec todo₀ todo = Left aRow rec (exists (grantFits (layoutOf c) (decode (layoutOf c) img) (unmetRow (decode (layoutOf c) img) r))) todo₀ todo
+Inv-loop img c n i row rec grants size k₀ k =
+    (k ≤ size) × (every (λ z. implies (bit row z) (grantedTo (layoutOf c) (decode (layoutOf c) img) (itemsIn aRow rec grants) i (decode (layoutOf c) img .tok n z))) (upto k) ≡ true)
 
 abbrev μ-loop : tie.MeasureT-loop
-μ-loop img c r rec todo₀ todo = todo .count
+μ-loop img c n i row rec grants size k₀ k = size - k
 
-loop-holds : tie.Need-loop-holds Inv-loop μ-loop
-loop-holds c = todo-start (c .before .before .pre .1 .1 .1)
-
-take-row-requires : tie.Need-take-row-requires Inv-loop μ-loop
-take-row-requires c κs = (c .before .before .loop .inv .stands, c .if1 .taken)
-
-grant-fits-requires : tie.Need-grant-fits-requires Inv-loop μ-loop
-grant-fits-requires c κs = search needs
-
-returns : tie.Need-returns Inv-loop μ-loop
-returns c = exists-stop _ (c .before .before .take-row .ensures .split) (c .before .grant-fits .ensures) (c .before .before .before .before .before .loop .inv) (c .if2 .taken)
-
-loop-less : tie.Need-loop-less Inv-loop μ-loop
-loop-less c = omega (arith, c .before .before .before .take-row .ensures .split .fewer)
-
-loop-again : tie.Need-loop-again Inv-loop μ-loop
-loop-again c = exists-next _ (c .before .before .before .take-row .ensures .split) (c .before .before .grant-fits .ensures) (c .before .before .before .before .before .before .loop .inv) (c .before .if2 .left)
-
-returns-2 : tie.Need-returns-2 Inv-loop μ-loop
-returns-2 c = todo-end (c .before .before .loop .inv) (c .if1 .left)
+service-granted-requires : tie.Need-service-granted-requires Inv-loop μ-loop
+service-granted-requires c κs =
+    let s = c .before .before .before .before .before in
+    (s .pre .0, ((s .pre .1 .0 .0, s .pre .1 .0 .1, omega (arith, c .loop-test .taken, c .before .before .services .ensures)), s .pre .1 .1))
 
 pub row-granted-spec : {M : Type 1} → statement M
 row-granted-spec =
@@ -44,10 +31,11 @@ row-granted-spec =
     (tie.spec
     Inv-loop
     μ-loop
-    loop-holds
-    take-row-requires
-    grant-fits-requires
-    returns
-    loop-less
-    loop-again
-    returns-2)
+    (λ c κs. search early)
+    (λ c. search early)
+    service-granted-requires
+    (λ c. search early)
+    (λ c. search early)
+    (λ c. search early)
+    (λ c. search early)
+    (λ c. search early))

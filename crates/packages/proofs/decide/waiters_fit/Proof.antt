@@ -10,7 +10,7 @@ use Rattle.geometry.specs.Geometry.{layoutOf}
 use Rattle.record.specs.Meaning.{itemsIn}
 use Rattle.record.proofs.Loops.{Todo, todo-start}
 use Rattle.changes.proofs.ItemRoom.{room-stop, room-next, room-end}
-use Rattle.packages.specs.Loads.{bothThere}
+use Rattle.packages.specs.Decides.{bothThere}
 use Rattle.packages.proofs.decide.waiters_fit.Statement.{statement}
 use Rattle.packages.proofs.decide.waiters_fit.Tie as tie
 

@@ -1,5 +1,5 @@
 -- `packages::decide::waits` meets its contract. Assumes nothing.
-use Rattle.packages.proofs.Loaded.Checks.{checks}
+use Rattle.packages.proofs.Checks.{checks}
 use Rattle.packages.proofs.decide.waits.Statement.{statement}
 use Rattle.packages.proofs.decide.waits.Tie as tie
 

@@ -1,7 +1,11 @@
 -- `packages::removal::remove_cause` meets its contract. Assumes nothing.
+use mathlib.Core.Path.{_∙_}
 use borrow.Author.Needs.{needs}
 use Rattle.policy.specs.Tables.{decode}
 use Rattle.geometry.specs.Geometry.{layoutOf}
+use Rattle.geometry.specs.declared.Table.the-variants.{Needs}
+use Rattle.geometry.proofs.Bounds.{limits}
+use Rattle.packages.proofs.Removed.Rows.{whole-column}
 use Rattle.packages.proofs.Removed.Outcome.{remove-cause}
 use Rattle.packages.proofs.removal.remove_cause.Statement.{statement}
 use Rattle.packages.proofs.removal.remove_cause.Tie as tie
@@ -19,4 +23,4 @@ remove-cause-spec =
     let a = c .before .before .before .before .before .before .args in
     let L = layoutOf (a .c) in
     remove-cause L (decode L (a .img .now)) (c .first-cause .result) (most .result) (x .result) (u .result) (w .result) (c .first-cause .ensures) (most .ensures) (a .n)
-    (x .ensures .0) (u .ensures) (w .ensures)))
+    (x .ensures .0 ∙ whole-column L (decode L (a .img .now)) Needs (limits (a .c) .services-low) (a .n)) (u .ensures) (w .ensures)))

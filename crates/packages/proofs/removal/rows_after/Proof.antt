@@ -1,14 +1,15 @@
 -- `packages::removal::rows_after` meets its contract. Assumes nothing.
 use Prim.Native.Nat.{ℕ, _+_}
 use native.Mathlib.Omega.{arith}
-use mathlib.Core.Path.{ap₂}
+use mathlib.Core.Path.{ap₂, _∙_}
 use lib.Dec.{eqb}
 use borrow.Author.Needs.{needs}
 use Rattle.policy.specs.Tables.{decode}
 use Rattle.geometry.specs.Geometry.{layoutOf}
+use Rattle.geometry.proofs.Bounds.{limits}
 use Rattle.image.specs.Read.{itemsOf, itemNumber}
 use Rattle.image.proofs.Listed.{list-low}
-use Rattle.packages.proofs.Removed.Rows.{own-le, rest-is}
+use Rattle.packages.proofs.Removed.Rows.{whole-column, own-le, rest-is}
 use Rattle.packages.proofs.removal.rows_after.Statement.{statement}
 use Rattle.packages.proofs.removal.rows_after.Tie as tie
 
@@ -37,4 +38,4 @@ rows-after-spec =
     ap₂ (λ (x y : ℕ). x + y)
     (rest-is (λ x. eqb (itemNumber (a .l) x) (a .n)) (itemsOf (a .l) (decode (layoutOf (a .c)) (a .img .now))) (all .result) (mask .result) (own .result)
     (list-low (a .c) (a .img .now) (s .pre .0) (a .l)) (all .ensures) (mask .ensures) (own .ensures))
-    (c .column .ensures .0)))
+    (c .column .ensures .0 ∙ whole-column (layoutOf (a .c)) (decode (layoutOf (a .c)) (a .img .now)) (a .tb) (limits (a .c) .services-low) (a .n))))

@@ -2,7 +2,7 @@
 use denote.Ref.{now}
 use borrow.Author.Needs.{needs}
 use Rattle.geometry.proofs.Bounds.{package-lt}
-use Rattle.packages.proofs.Loaded.Opened.{used-fits, named-wrote}
+use Rattle.packages.proofs.Placed.{used-fits, named-wrote}
 use Rattle.packages.proofs.write.name.Statement.{statement}
 use Rattle.packages.proofs.write.name.Tie as tie
 

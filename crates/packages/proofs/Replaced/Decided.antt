@@ -1,0 +1,107 @@
+-- Kind 11: what the code has found decides the whole contract. Assumes nothing.
+use Prim.Native.Nat.{ℕ, zero, suc, _≤_, _<_}
+use native.Mathlib.Omega.{arith}
+use mathlib.Core.Path.{_≡_, refl, sym, ap, _∙_, subst}
+use mathlib.Core.Bool.{Bool, not, _||_, cond, or-comm, or-false}
+use mathlib.Core.List.{List, List·Memᴰ as In}
+use mathlib.Core.Option.{Option, none, some}
+use lib.Bits.{bitOr}
+use lib.Dec.{T, eqb}
+use Rattle.policy.specs.Lists.{exists, isSome, orElse}
+use Rattle.policy.specs.Contract.{Contract}
+use Rattle.policy.specs.Layout.{Layout}
+use Rattle.policy.specs.Causes.{answer}
+use Rattle.policy.specs.Tables.{Tables, Waiting, decode, encode}
+use Rattle.policy.specs.Lookup.{numberOf, freeNumber}
+use Rattle.policy.specs.Draft.{Look, kept, replaceAt, draft, numberFor}
+use Rattle.policy.specs.ShortCheck.{fine, nowMet, shortReplace, shortLook}
+use Rattle.policy.specs.Judge.{refusal, tableCauses, lookCauses}
+use Rattle.policy.specs.Settled.{settled}
+use Rattle.policy.proofs.Sets.{T-false, exists-in}
+use Rattle.policy.proofs.Formed.{Formed}
+use Rattle.policy.proofs.Found.{NumberIs, number-is}
+use Rattle.policy.proofs.SoundFacts.{sound-formed, sound-fitting}
+use Rattle.policy.proofs.Settled.{settled-refused, settled-short, settled-accepted}
+use Rattle.image.specs.Read.{numberOr, maskOf}
+use Rattle.image.proofs.Masks.{mask-ext, mask-or, mask-zero}
+use Rattle.image.proofs.Numbers.{package-none, package-some}
+use Rattle.changes.specs.Asked.{Asked}
+use Rattle.packages.specs.Decides.{comesDue, bringCause, Replaces, Comes, replaceOf, Renews, Decides}
+use Rattle.packages.specs.declared.decide.Bring.{Bring}
+use Rattle.packages.specs.declared.decide.Decided.{Decided}
+use Rattle.packages.proofs.Brought.ShortCheck.{none-due, replace-look}
+
+-- at the package's number
+replaces-so : (L : Layout) (t : Tables) (k : Contract) (n : ℕ) (b : Bring) → Formed L t → T (t .used n) → t .aid n ≡ k .aid → Replaces L t k n b → Comes L t k n b
+replaces-so L t k n b f un an h = record {
+  at-is = h .at-is;
+  met-is = h .met-is;
+  due-is = h .none-due ∙ sym (mask-zero (comesDue L t (k .aid)) (t .waiting) (T-false (exists (comesDue L t (k .aid)) (t .waiting))
+      (λ x. let q = exists-in (comesDue L t (k .aid)) (t .waiting) x in never (q .0) (q .1) (q .2))));
+  calls-is = h .calls-is ∙ ap (λ (m : ℕ). bitOr m (maskOf (λ u. eqb (u .caller) n) (t .unmet))) (h .met-is) ∙ mask-or (nowMet L t k) (λ u. eqb (u .caller) n) (t .unmet)
+      ∙ mask-ext (λ u. nowMet L t k u || eqb (u .caller) n) (λ u. eqb (u .caller) n || nowMet L t k u) (t .unmet) (λ u _. or-comm (nowMet L t k u) (eqb (u .caller) n));
+  grants-is = h .grants-is ∙ mask-ext (λ w. eqb (w .callee) n) (λ w. eqb (w .callee) n || comesDue L t (k .aid) w) (t .waiting)
+      (λ w m. sym (ap (λ (o : Bool). eqb (w .callee) n || o) (T-false (comesDue L t (k .aid) w) (never w m)) ∙ or-false (eqb (w .callee) n)));
+  dropped-is = h .dropped-is;
+}
+  where
+    never : (w : Waiting) → In w (t .waiting) → T (comesDue L t (k .aid) w) → ⊥
+    never = none-due L t f k n un an
+
+module _ (L : Layout) (img : List ℕ) (k : Contract) (ask : Asked L img (k .aid) (replaceOf k)) where
+  abbrev t : Tables
+  t = decode L img
+
+  abbrev Decide : Decided → Type 0
+  Decide = Decides L img k (replaceOf k) (Renews L img k)
+
+  -- cause 5, by what the search found
+  pub absent-or : (o : Option ℕ) → numberOf L (decode L img) (k .aid) ≡ o → answer (tableCauses L (decode L img) (k .aid) (replaceOf k)) ≡ cond (not (isSome o)) 5 0
+  absent-or o e = λ i. cond (not (isSome (e i))) 5 0
+
+  refuses : (r : Decided) (m : ℕ) → r .number ≡ suc m → settled L img (k .aid) (replaceOf k) ≡ refusal (suc m) 255 img → Decide r
+  refuses r m e h = record { refused = λ z. h ∙ ap (λ (x : ℕ). refusal x 255 img) (sym e); accepted = λ z. absurd (omega arith) }
+
+  accepted-at : (m : ℕ) → numberOf L t (k .aid) ≡ some m → answer (lookCauses (shortLook L t (k .aid) (replaceOf k))) ≡ 0
+      → settled L img (k .aid) (replaceOf k) ≡ record { answered = 0; second = m; bytes = encode L (replaceAt L t m k .tables) }
+  unfolding draft numberFor
+  accepted-at m o e =
+      settled-accepted L img (k .aid) (replaceOf k) (ask .is-sound) (ask .within) (ask .is-proper) (absent-or (some m) o) e
+      ∙ ap (λ (x : Option ℕ). record { answered = 0; second = orElse x (orElse (freeNumber L t) 255 (λ z. z)) (λ z. z); bytes = encode L (orElse x (kept t) (λ z. replaceAt L t z k) .tables) }) o
+
+  -- n is what the search for the package gave, of size packages
+  module _ (size n : ℕ) (es : size ≡ L .packages) (en : n ≡ numberOr (L .packages) (numberOf L (decode L img) (k .aid))) (r : Decided) where
+    pub decides-5 : size ≤ n → r .number ≡ 5 → Decides L img k (replaceOf k) (Renews L img k) r
+    decides-5 h e = refuses r 4 e (settled-refused L img (k .aid) (replaceOf k) 4 (absent-or none (package-none L t (k .aid) n en (omega arith))))
+
+    pub decides-late : L .capacity ≤ 32 → n < size → (b : Bring) → Replaces L (decode L img) k n b → r .bring ≡ b → r .number ≡ bringCause L (decode L img) k b
+        → Decides L img k (replaceOf k) (Renews L img k) r
+    unfolding shortLook
+    decides-late low g b new eb ec = go (r .number) refl
+      where
+        formed : Formed L t
+        formed = sound-formed L img (ask .is-sound)
+
+        here : numberOf L t (k .aid) ≡ some n
+        here = package-some L t (k .aid) n en (omega arith)
+
+        its : NumberIs t (k .aid) (some n)
+        its = subst (NumberIs t (k .aid)) here (number-is L t (formed .names) (k .aid))
+
+        found : Comes L t k n b
+        found = replaces-so L t k n b formed (its .0) (its .1) new
+
+        late : r .number ≡ answer (lookCauses (shortLook L t (k .aid) (replaceOf k)))
+        late = ec ∙ ap (λ (l : Look). answer (lookCauses l)) (replace-look L t formed (sound-fitting L img (ask .is-sound)) low k n b found (its .0) (its .1))
+            ∙ ap (λ (o : Option ℕ). answer (lookCauses (orElse o fine (λ i. shortReplace L t i k)))) (sym here)
+
+        renews : answer (lookCauses (shortLook L t (k .aid) (replaceOf k))) ≡ 0 → Renews L img k b
+        renews z = record {
+          outcome = accepted-at n here z ∙ ap (λ (x : ℕ). record { answered = 0; second = x; bytes = encode L (replaceAt L t x k .tables) }) (sym (new .at-is));
+          here = here ∙ ap some (sym (new .at-is));
+          found = subst (λ (x : ℕ). Comes L t k x b) (sym (new .at-is)) found;
+        }
+
+        go : (x : ℕ) → r .number ≡ x → Decide r
+        go zero z = record { refused = λ q. absurd (q z); accepted = λ q. subst (Renews L img k) (sym eb) (renews (sym late ∙ z)) }
+        go (suc x) z = refuses r x z (settled-short L img (k .aid) (replaceOf k) (ask .is-sound) (ask .within) (ask .is-proper) (absent-or (some n) here) x (sym late ∙ z))
