@@ -30,7 +30,7 @@ use Rattle.policy.proofs.Records.{longest-record}
 use Rattle.policy.proofs.SoundFacts.{sound-sized}
 use Rattle.policy.proofs.Step.{unsound-refused}
 use Rattle.policy.proofs.Eras.{converts, history-from}
-use Rattle.policy.proofs.Theorems.{empty-stands, so-far, first-cause, accepted-exactly, sound-stands, read-out-again, card-ok, small-ok}
+use Rattle.policy.proofs.Theorems.{empty-stands, so-far, first-cause, accepted-exactly, sound-stands, read-out-again, narrow-ok, small-ok}
 use Rattle.card.specs.Packed.{answerOf, secondOf, aidPlace}
 use Rattle.card.specs.Calls.{Returned, Converted, Calls}
 use Rattle.card.specs.Demands.{Refused, CallsAnswer, CallsCause, CallsVerdict, Restores, CallsReadOut, CallsNumber, HistoryOfCalls, imageOld, contractsOld, CallsHistory, CallsConvert, CallsAid}
@@ -205,7 +205,7 @@ module _ (old lent : List ℕ) {r : ℕ} {image : List ℕ} (c : Converted old l
 
   converted-tables : decode small image ≡ decode narrow old
   converted-tables =
-      let s = sound-stands narrow card-ok old (took .0) in
+      let s = sound-stands narrow narrow-ok old (took .0) in
       subst (λ (b : List ℕ). decode small b ≡ decode narrow old) image-is (so-far .converted old (s .0) (s .1) .0)
 
 -- an image that is not sound stays as it is
@@ -221,7 +221,7 @@ old-unsound old ok h = let e = sound-sized narrow old ok in let f = sound-sized 
 -- a card of version 01 goes on where it held no higher method token at R-7's change, and only there
 old-stands : (before middle : List (List ℕ)) → AllValid narrow (contractsThen before) → StandsFor narrow (imageOld before middle) (contractsOld before middle)
 unfolding imageOver contractsOver
-old-stands before middle al = history-from narrow card-ok (imageThen before) (contractsThen before) (so-far .goes-on before al) middle [] tt .stands-for
+old-stands before middle al = history-from narrow narrow-ok (imageThen before) (contractsThen before) (so-far .goes-on before al) middle [] tt .stands-for
 
 old-valid : (before middle : List (List ℕ)) → T (sound narrow (imageOld before middle)) → AllValid narrow (contractsThen before)
 old-valid before middle ok = go (test (sound narrow (imageThen before)))
@@ -239,6 +239,7 @@ calls-history =
       over-conversion = λ before middle lent r image c z.
           let al = old-valid before middle (took (imageOld before middle) lent c z .0) in
           calls-from image (contractsOld before middle) (converted-stands (imageOld before middle) lent c z (contractsOld before middle) (old-stands before middle al));
+      over-renewal = λ image cs f. calls-from image cs (so-far .renewed-stands image cs f);
       told = λ before middle lent r left c e. (
         λ z. old-valid before middle (took (imageOld before middle) lent c z .0),
         λ al. converted-tells (imageOld before middle) lent c .answer

@@ -10,7 +10,7 @@ use lib.Dec.{T, eqb, leb, ltb}
 use lib.ListN.{length, take, drop}
 use Rattle.policy.specs.Lists.{from}
 use Rattle.policy.specs.Contract.{Contract, lawful}
-use Rattle.policy.specs.Layout.{narrow, small}
+use Rattle.policy.specs.Layout.{narrow, ahead, small}
 use Rattle.policy.specs.Record.{Request, parse, proper}
 use Rattle.policy.specs.Causes.{Cause, _when_}
 use Rattle.policy.specs.Machine.{effect, causes4to7}
@@ -137,6 +137,9 @@ pub record CallsHistory : Type 0 where
   pub over-conversion : (before middle : List (List ℕ)) (lent : List ℕ) (r : ℕ) (image : List ℕ)
       → Converted (imageOld before middle) lent r image → answerOf r ≡ 0
       → (ss : List (List ℕ)) (rs left : List ℕ) → Calls image ss rs left → HistoryOfCalls (contractsOld before middle) ss rs left
+  -- R-1: from any card that R-2's rules left, with the contracts that it stands for by them; kind 11 begins
+  pub over-renewal : (image : List ℕ) (cs : List Contract) → StandsFor ahead image cs
+      → (ss : List (List ℕ)) (rs left : List ℕ) → Calls image ss rs left → HistoryOfCalls cs ss rs left
   -- a buffer of the card's size takes every such card but those that R-7 left out, which held a method token of 128 or more at its change
   pub told : (before middle : List (List ℕ)) (lent : List ℕ) (r : ℕ) (left : List ℕ) → Converted (imageOld before middle) lent r left
       → length lent ≡ 1110

@@ -11,7 +11,7 @@ use lib.ListN.{length, getD, take, drop, replicate, length-append, length-map, l
 use lib.Seq.{take-at, drop-at, drop-drop, take-suc, take-take, getD-drop, getD-append-add}
 use Rattle.policy.specs.Lists.{flat, upto, first, orElse}
 use Rattle.policy.specs.Contract.{eqTok}
-use Rattle.policy.specs.Layout.{narrow, ahead, size}
+use Rattle.policy.specs.Layout.{narrow, small, size}
 use Rattle.policy.specs.Tables.{Tables, Waiting, writeAid, readTok, writeTok, numberWith, readWaiting, writeWaiting, writeList, decode}
 use Rattle.policy.specs.Sound.{sound}
 use Rattle.policy.specs.Eras.{carried}
@@ -19,7 +19,7 @@ use Rattle.policy.proofs.Sets.{Found, found, in-map, in-upto, upto-in, length-f
 use Rattle.policy.proofs.Pieces.{piece-part, piece-at, valid-short, length-aid, length-waiting}
 use Rattle.policy.proofs.RoundTrip.{formed-room, front, front-encode, length-front}
 use Rattle.policy.proofs.SoundFacts.{sound-sized, sound-written, sound-formed, sound-ruled, sound-fitting}
-use Rattle.policy.proofs.Theorems.{card-ok, ahead-carried}
+use Rattle.policy.proofs.Theorems.{narrow-ok, converted-bytes}
 use Rattle.geometry.specs.Geometry.{layoutOf, placeAt}
 use Rattle.geometry.specs.declared.Card.{Card}
 use Rattle.geometry.specs.declared.Card.the-variants.{Small}
@@ -90,7 +90,7 @@ module _ (old : List ℕ) (ok : T (sound narrow old)) where
 
   at-waiting : drop 789 old ≡ waits
   at-waiting =
-      let f = length-front narrow card-ok t (formed-room narrow t (sound-formed narrow old ok) (sound-ruled narrow old ok) (sound-fitting narrow old ok)) in
+      let f = length-front narrow narrow-ok t (formed-room narrow t (sound-formed narrow old ok) (sound-ruled narrow old ok) (sound-fitting narrow old ok)) in
       ap (drop 789) (sym (sound-written narrow old ok) ∙ front-encode narrow t) ∙ sym (drop-drop 786 3 (narrow .header ++ (front narrow t ++ waits)))
       ∙ drop-at (front narrow t) waits 786 f
 
@@ -158,7 +158,7 @@ module _ (old : List ℕ) (ok : T (sound narrow old)) where
         ∙ rw (length-part (oldAt r) 18 old (omega (arith, old-size, row-in)), length-part (namedAt old (oldAt r)) 2 old (omega (arith, old-size, tokens-in)))
 
     -- the row of version 02
-    new-is : writeWaiting ahead (t .provides) (t .tok) (read r) ≡ newRow old r
+    new-is : writeWaiting small (t .provides) (t .tok) (read r) ≡ newRow old r
     unfolding newRow
     new-is =
         let w = read r in
@@ -169,22 +169,22 @@ module _ (old : List ℕ) (ok : T (sound narrow old)) where
         ∙ tok-bytes (part (namedAt old (oldAt r)) 2 old) (length-part (namedAt old (oldAt r)) 2 old (omega (arith, old-size, tokens-in))) in
         sym (append-assoc (writeAid (w .caller)) (w .callee ∷ []) (writeTok (w .tok))) ∙ (λ i. sym head i ++ toks i)
 
-  rows-are : flat (writeWaiting ahead (t .provides) (t .tok)) (t .waiting) ≡ flat (newRow old) (upto n)
+  rows-are : flat (writeWaiting small (t .provides) (t .tok)) (t .waiting) ≡ flat (newRow old) (upto n)
   rows-are =
-      let g = writeWaiting ahead (t .provides) (t .tok) in
+      let g = writeWaiting small (t .provides) (t .tok) in
       ap (flat g) waiting-read ∙ flat-map g read (upto n) ∙ flat-ext (λ r. g (read r)) (newRow old) (upto n) (λ r m. new-is r (upto-in n m))
 
   -- the whole: what is copied, the new rows, and zeros to the end
   pub carried-bytes : (c : Card) → carried narrow (layoutOf c) old
       ≡ (layoutOf c .header ++ frontOf old) ++ (flat (newRow old) (upto n) ++ replicate (size (layoutOf c) - placeAt (layoutOf c) WaitingGrants n) 0)
   carried-bytes Small =
-      let h = ahead .header in
+      let h = small .header in
       let front = part 3 786 old in
       let rows = flat (newRow old) (upto n) in
       let zeros = replicate {A = ℕ} (1110 - (789 + (1 + n * 20))) 0 in
       let k : (16 - length (t .waiting)) * 20 ≡ 1110 - (789 + (1 + n * 20)) = omega (arith, count, few) in
       let copied : frontOf old ≡ front ++ (n ∷ []) =
       take-suc (drop 3 old) 786 0 (rw length-drop (omega (arith, old-size))) ∙ ap (λ (x : ℕ). front ++ (x ∷ [])) (getD-drop 3 old 786 0) in
-      ahead-carried old ok ∙ (λ i. h ++ (front ++ (count i ∷ (rows-are i ++ replicate (k i) 0))))
+      converted-bytes old ok ∙ (λ i. h ++ (front ++ (count i ∷ (rows-are i ++ replicate (k i) 0))))
       ∙ ap (λ (z : List ℕ). h ++ z) (sym (append-assoc front (n ∷ []) (rows ++ zeros)) ∙ ap (λ (z : List ℕ). z ++ (rows ++ zeros)) (sym copied))
       ∙ sym (append-assoc h (frontOf old) (rows ++ zeros))

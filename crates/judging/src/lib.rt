@@ -3,11 +3,12 @@ ghost use Rattle.policy.specs.Record.{addService, tokens, aid};
 ghost use Rattle.policy.specs.Judge.{judge as judgement};
 ghost use Rattle.policy.specs.Settled.{Gives};
 ghost use Rattle.geometry.specs.Geometry.{layoutOf, tokOf};
-ghost use Rattle.record.specs.Meaning.{AidFits, Stands, ListsStand, RecordFits, aidIn, rowIn, itemsIn, loadIn, changeOf, kindOf};
+ghost use Rattle.record.specs.Meaning.{AidFits, Stands, ListsStand, RecordFits, aidIn, rowIn, itemsIn, wholeIn, changeOf, kindOf};
 ghost use Rattle.judging.specs.Properly.{properly, Taken};
 use changes::Verdict;
 use geometry::Card;
 use geometry::Tokens;
+use record::ContractKind;
 use record::Items;
 use record::Kind;
 use record::Lists;
@@ -19,17 +20,17 @@ use record::RowKind;
 pub mod checking;
 pub mod empty;
 
-// Kind 1, with cause 3.
-fn load(img: &mut [u8], c: Card, own: &[u8], rec: &[u8], l: Lists) -> Verdict
-    requires taken { ⌜ Taken (layoutOf c) (now img) (now own) (loadIn (now rec) l) ⌝ }
+// Kinds 1 and 11, with cause 3.
+fn contract(img: &mut [u8], c: Card, own: &[u8], rec: &[u8], k: ContractKind, l: Lists) -> Verdict
+    requires taken { ⌜ Taken (layoutOf c) (now img) (now own) (wholeIn k (now rec) l) ⌝ }
     requires stands { ⌜ ListsStand (now rec) l ⌝ }
-    ensures { λ v. ⌜ Gives (properly (layoutOf c) (now (img .entry)) (now (own .entry)) (loadIn (now (rec .entry)) l))
+    ensures { λ v. ⌜ Gives (properly (layoutOf c) (now (img .entry)) (now (own .entry)) (wholeIn k (now (rec .entry)) l))
         (v .number) (v .second) (now (img .exit)) ⌝ }
 {
-    if !record::proper::load_proper(rec, own, l) {
+    if !record::proper::contract_proper(rec, own, l) {
         return changes::refused(3);
     }
-    packages::load(img, c, own, rec, l)
+    packages::bring(img, c, own, rec, k, l)
 }
 
 // Kind 3, with cause 3.
@@ -78,7 +79,7 @@ fn judge_read(img: &mut [u8], c: Card, rec: &[u8], r: Record) -> Verdict
     let own = record::aid_bytes(rec, r.aid);
     let kind = r.kind;
     match kind {
-        Kind::Load(l) => load(img, c, own, rec, l),
+        Kind::Contract(k, l) => contract(img, c, own, rec, k, l),
         Kind::Remove => packages::removal::remove(img, c, own),
         Kind::AddService(t, callers) => add_service(img, c, own, t, rec, callers),
         Kind::RemoveService(t) => services::removal::remove_service(img, c, own, t),

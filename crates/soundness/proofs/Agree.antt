@@ -15,7 +15,7 @@ use Rattle.policy.proofs.Sets.{T-eq, and-l, and-r, and-i, keep-ext, upto-in, eq
 use Rattle.policy.proofs.Equal.{eqAid-of}
 use Rattle.policy.proofs.Pieces.{length-aid}
 use Rattle.policy.proofs.RoundTrip.{formed-room, length-unmets}
-use Rattle.policy.proofs.Theorems.{card-ok}
+use Rattle.policy.proofs.Theorems.{narrow-ok}
 use Rattle.policy.proofs.SoundFacts.{sound-formed, sound-ruled, sound-lawful, sound-fitting, sound-tables}
 use Rattle.bits.proofs.Row.{keep-row}
 use Rattle.geometry.specs.Geometry.{layoutOf}
@@ -35,7 +35,7 @@ pub full : (c : Card) → Full (layoutOf c)
 full Small = record { ok = layout-ok Small; packages-full = refl; services-full = refl; services-low = limits Small .services-low; some-methods = omega arith }
 
 old-full : Full narrow
-old-full = record { ok = card-ok; packages-full = refl; services-full = refl; services-low = omega arith; some-methods = omega arith }
+old-full = record { ok = narrow-ok; packages-full = refl; services-full = refl; services-low = omega arith; some-methods = omega arith }
 
 module _ (L : Layout) (lf : Full L) (l : List ℕ) (bytes : Bytes l) where
   abbrev sized : Bool

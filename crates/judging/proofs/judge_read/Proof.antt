@@ -4,8 +4,8 @@ use Rattle.judging.proofs.Judged.{asked-always, settles-always, remove-
 use Rattle.judging.proofs.judge_read.Statement.{statement}
 use Rattle.judging.proofs.judge_read.Tie as tie
 
-load-requires : tie.Need-load-requires
-load-requires c κs =
+contract-requires : tie.Need-contract-requires
+contract-requires c κs =
     let own = c .before .before .before .before in
     let d = rw (c .before .before .kind .given .1) at (own .before .before .before .pre) in
     (rw (own .aid-bytes .ensures) (d .0), d .1 .1)
@@ -35,7 +35,7 @@ change-requires c κs =
     (rw (own .aid-bytes .ensures) (d .0), d .1 .1)
 
 returns : tie.Need-returns
-returns c = let k = c .before .before .before .before .before in rw (k .kind .given .1) (rw (k .before .before .aid-bytes .ensures) at (c .before .before .load .ensures))
+returns c = let k = c .before .before .before .before .before in rw (k .kind .given .1) (rw (k .before .before .aid-bytes .ensures) at (c .before .before .contract .ensures))
 
 returns-2 : tie.Need-returns-2
 returns-2 c =
@@ -59,7 +59,7 @@ judge-read-spec =
     (tie.spec
     (λ c κs. search needs)
     (λ c. search needs)
-    load-requires
+    contract-requires
     (λ c. search needs)
     remove-requires
     (λ c. search needs)
