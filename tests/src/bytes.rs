@@ -69,8 +69,8 @@ fn judge_sound(rules: Rules, image: &mut Image, bytes: &[u8]) -> Result<usize, u
     if record::contradicts(rules, &record) {
         return Err(3);
     }
-    if let Change::Load(load) = &record.change {
-        return package::load(image, record.aid, load);
+    if let Change::Load(contract) = &record.change {
+        return package::load(image, record.aid, contract);
     }
     let number = layout::package(image, record.aid).ok_or(5u32)?;
     match record.change {
@@ -84,6 +84,7 @@ fn judge_sound(rules: Rules, image: &mut Image, bytes: &[u8]) -> Result<usize, u
         Change::RemoveGrant(row) => update::remove_grant(image, number, row)?,
         Change::AddNeed(row) => update::add_need(image, number, row)?,
         Change::RemoveNeed(row) => update::remove_need(image, number, row)?,
+        Change::Replace(contract) => package::replace(image, number, record.aid, &contract)?,
     }
     Ok(number)
 }

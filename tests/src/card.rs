@@ -48,6 +48,11 @@ pub trait Card {
     fn judge(&self, image: &mut [u8], record: &[u8]) -> Verdict;
     fn read_out(&self, image: &[u8], number: u32, out: &mut [u8]) -> Verdict;
     fn aid<'a>(&self, record: &'a [u8]) -> &'a [u8];
+
+    /// The engine by the rules before the last so many changes, 1 at least; `None` when it has those in force alone.
+    fn before(&self, _changes: usize) -> Option<&dyn Card> {
+        None
+    }
 }
 
 /// The byte engine of this project, by some rules.
@@ -55,6 +60,8 @@ pub struct Bytes(pub Rules);
 
 /// The byte engine by the rules in force.
 pub const BYTES: Bytes = Bytes(Rules::IN_FORCE);
+/// The same by the rules before each change, the last change first.
+const BEFORE: &[Bytes; Rules::CHANGES] = &[Bytes(Rules::before(1)), Bytes(Rules::before(2)), Bytes(Rules::before(3))];
 
 impl Card for Bytes {
     fn name(&self) -> &'static str {
@@ -83,6 +90,10 @@ impl Card for Bytes {
 
     fn aid<'a>(&self, record: &'a [u8]) -> &'a [u8] {
         bytes::aid(self.0, record)
+    }
+
+    fn before(&self, changes: usize) -> Option<&dyn Card> {
+        Some(&BEFORE[changes - 1])
     }
 }
 

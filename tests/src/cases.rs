@@ -10,6 +10,7 @@ pub mod worked;
 use crate::card::{Card, Verdict, BYTES};
 use crate::compare::{Compare, Difference, Tally};
 use crate::history::Event;
+use crate::rules::Rules;
 use crate::run::caught;
 use crate::write;
 
@@ -117,11 +118,13 @@ fn marked(name: &'static str, steps: Vec<Step>) -> Case {
 }
 
 fn case(name: &'static str, steps: Vec<Step>) -> Case {
-    over(name, Vec::new(), steps)
+    over(name, Rules::IN_FORCE, Vec::new(), steps)
 }
 
-/// A case over the changes of the rules, with what comes before each of them.
-fn over(name: &'static str, before: Vec<Vec<Step>>, steps: Vec<Step>) -> Case {
+/// A case that begins by these rules, with what comes before each of the first changes since; before the others comes nothing.
+fn over(name: &'static str, from: Rules, mut before: Vec<Vec<Step>>, steps: Vec<Step>) -> Case {
+    assert!(before.len() <= from.changes_since(), "{name}");
+    before.resize_with(from.changes_since(), Vec::new);
     Case { name, marked: false, before, steps }
 }
 

@@ -1,6 +1,6 @@
 //! What is compared after each record: the plain machine, the byte engine, and every other engine.
 
-use crate::card::{Bytes, Card, Verdict, IMAGE, LONGEST_RECORD, OLD_IMAGE};
+use crate::card::{Card, Verdict, IMAGE, LONGEST_RECORD, OLD_IMAGE};
 use crate::damage::Damage;
 use crate::early::Early;
 use crate::hex::to_hex;
@@ -80,15 +80,12 @@ pub struct Tally {
     pub methods_held: BTreeMap<Held, [u64; 2]>,
 }
 
-/// The byte engine alone, by the rules before each change, the last change first.
-const BEFORE: [&[&dyn Card]; Rules::CHANGES] = [&[&Bytes(Rules::before(1))], &[&Bytes(Rules::before(2))]];
-
 /// One card in every engine, and the machine beside them.
 pub struct Compare<'a> {
     /// The engines that judge by the rules in force.
     linked: &'a [&'a dyn Card],
-    /// Those that judge by the rules of the time: before the last change, the byte engine alone.
-    cards: &'a [&'a dyn Card],
+    /// Those that judge by the rules of the time: before the last change, the byte engine alone, and faults of the time.
+    cards: Vec<&'a dyn Card>,
     /// How many changes of the rules are to come.
     ahead: usize,
     /// Whether the card held, at a change, what the new rules exclude. It is unsound from then on.
@@ -113,7 +110,7 @@ impl<'a> Compare<'a> {
         expect!(changes <= most, "a history has at most {most} changes of the rules, here are {changes}");
         let cards = engines(linked, changes);
         let image = Tables::default().write(Rules::before(changes));
-        for card in cards {
+        for card in &cards {
             let mut written = FILL[..image.len()].to_vec();
             let verdict = card.empty(&mut written);
             expect!(verdict == Verdict::new(0, 0), "{}: writing the empty image gives {verdict:?}", card.name());
@@ -235,7 +232,7 @@ impl<'a> Compare<'a> {
         let sound = tables::contracts(self.rules(), &self.image).is_some();
         expect!(!sound, "the tests' own reader takes a card for sound that holds what the rules exclude");
         pairs.count(Kind::of(bytes), 1);
-        for card in self.cards {
+        for card in &self.cards {
             unsound(*card, &self.image, bytes)?;
             for number in (0..9).chain([255, u32::MAX]) {
                 let mut buffer = FILL;
@@ -256,7 +253,7 @@ impl<'a> Compare<'a> {
         pairs.count(kind, answer);
         expect!(possible(self.rules(), kind, answer), "the paper has no answer {answer} to kind {kind}");
         let mut first = None;
-        for card in self.cards {
+        for card in &self.cards {
             let (mut own, lent) = (before.clone(), bytes.to_vec());
             let verdict = card.judge(&mut own, &lent);
             let place = || format!("{}: judging gives {verdict:?}", card.name());
@@ -294,7 +291,7 @@ impl<'a> Compare<'a> {
     /// The image is sound for every engine, with as many packages as there are contracts.
     fn check_alike(&self) -> Result<(), String> {
         let expected = Verdict::new(0, self.machine.contracts.len() as u32);
-        for card in self.cards {
+        for card in &self.cards {
             let verdict = card.check(&self.image);
             expect!(verdict == expected, "{}: checking the image gives {verdict:?}", card.name());
         }
@@ -323,7 +320,7 @@ impl<'a> Compare<'a> {
         let whole = self.read_out_one(self.cards[0], number, LONGEST_RECORD)?;
         let unused = [8, 9, 255, 256 + number, 65_536 + number, u32::MAX][random.below(6)];
         let shorter = random.below(whole.len().max(1));
-        for card in self.cards {
+        for card in &self.cards {
             let exact = self.read_out_one(*card, number, whole.len())?;
             expect!(exact == whole, "{}: package {number} reads out into {} bytes", card.name(), whole.len());
             self.read_out_one(*card, unused, LONGEST_RECORD)?;
@@ -367,7 +364,7 @@ impl<'a> Compare<'a> {
     /// The first AID's part of the record is where the machine reads it, or empty.
     fn aid_alike(&self, bytes: &[u8]) -> Result<(), String> {
         let read = record::read(self.rules(), bytes);
-        for card in self.cards {
+        for card in &self.cards {
             let part = card.aid(bytes);
             let same = match &read {
                 Ok(read) => part == read.aid.bytes() && std::ptr::eq(part.as_ptr(), &bytes[5]),
@@ -388,14 +385,16 @@ impl<'a> Compare<'a> {
         outcome.map_err(|words| Difference { words, damage: damage.clone() })
     }
 
-    /// The same of an image of the version in force.
+    /// The same of an image of the version in force. What is seen before the last change does not count.
     fn judged_alike(&self, image: Vec<u8>, damage: &Damage, bytes: &[u8], tally: &mut Tally) -> Result<(), String> {
+        let mut before = Tally::default();
+        let tally = if self.in_force() { tally } else { &mut before };
         let stands_for = tables::contracts(self.rules(), &image);
         let held = self.held_at(damage);
         count_damage(damage, held, stands_for.is_some(), tally);
         match stands_for {
             Some(machine) => {
-                let mut damaged = Compare { machine, image, left_out: false, ..*self };
+                let mut damaged = Compare { machine, image, cards: self.cards.clone(), left_out: false, ..*self };
                 let read = if held.is_some() { damaged.contracts_alike(tally) } else { Ok(()) };
                 read.and_then(|()| damaged.sound_alike(bytes, tally))
             }
@@ -445,11 +444,11 @@ impl<'a> Compare<'a> {
     }
 }
 
-/// The engines that judge before the last so many changes: the byte engine alone, or after them all those linked.
-fn engines<'a>(linked: &'a [&'a dyn Card], changes: usize) -> &'a [&'a dyn Card] {
+/// The engines that judge before the last so many changes: those that have the rules of then, or after them all those linked.
+fn engines<'a>(linked: &'a [&'a dyn Card], changes: usize) -> Vec<&'a dyn Card> {
     match changes {
-        0 => linked,
-        _ => BEFORE[changes - 1],
+        0 => linked.to_vec(),
+        _ => linked.iter().filter_map(|card| card.before(changes)).collect(),
     }
 }
 

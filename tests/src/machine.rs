@@ -52,7 +52,7 @@ impl Machine {
         }
         let Some(contract) = held else { return Some(5) };
         let pointless = match &record.change {
-            Change::Load(_) | Change::Remove => false,
+            Change::Load(_) | Change::Replace(_) | Change::Remove => false,
             Change::AddService(tokens, _) => contract.provides.contains(tokens),
             Change::RemoveService(tokens) => !contract.provides.contains(tokens),
             Change::AddCall(row) => contract.calls.contains(row),
@@ -77,7 +77,7 @@ impl Machine {
     fn changed(&self, rules: Rules, record: &Record) -> Machine {
         let mut after = self.clone();
         match &record.change {
-            Change::Load(lists) => {
+            Change::Load(lists) | Change::Replace(lists) => {
                 after.contracts.insert(record.aid, lists.contract());
             }
             Change::Remove => {
@@ -150,7 +150,7 @@ impl Machine {
 /// Kinds 3 to 10 on the contract that they name.
 fn change_contract(rules: Rules, contract: &mut Contract, change: &Change) {
     match change {
-        Change::Load(_) | Change::Remove => {}
+        Change::Load(_) | Change::Replace(_) | Change::Remove => {}
         Change::AddService(tokens, callers) => {
             contract.provides.insert(*tokens);
             for caller in callers {

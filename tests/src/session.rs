@@ -5,6 +5,7 @@ pub mod streams;
 use crate::card::{Card, BYTES, LONGEST_RECORD};
 use crate::compare::Compare;
 use crate::pairs::Pairs;
+use crate::rules::Rules;
 
 /// An input as the paper reads it.
 pub struct Frames<'a> {
@@ -37,13 +38,13 @@ impl Frames<'_> {
     /// A line for each record, and one for a bad frame. The machine and the byte engine agree on every answer, or what
     /// differs is said; the number is the byte engine's.
     pub fn lines(&self) -> Result<Vec<String>, String> {
-        self.lines_before(0)
+        self.lines_by(Rules::IN_FORCE)
     }
 
-    /// The lines by the rules before so many changes.
-    pub fn lines_before(&self, changes: usize) -> Result<Vec<String>, String> {
+    /// The lines by the rules of some time.
+    pub fn lines_by(&self, rules: Rules) -> Result<Vec<String>, String> {
         let cards: [&dyn Card; 1] = [&BYTES];
-        let (mut compare, mut pairs) = (Compare::before(&cards, 0, changes)?, Pairs::default());
+        let (mut compare, mut pairs) = (Compare::before(&cards, 0, rules.changes_since())?, Pairs::default());
         let mut lines = Vec::new();
         for (ordinal, record) in (1..).zip(&self.records) {
             let verdict = compare.judge(record, &mut pairs)?;

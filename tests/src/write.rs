@@ -46,10 +46,20 @@ fn rows(rows: &[Row]) -> Vec<u8> {
     list(rows.iter().map(|(other, service)| row(other, *service)).collect())
 }
 
+/// Kind 1 or 11, which have one layout.
+pub fn contract(kind: u8, own: &[u8], provides: &[Tokens], calls: &[Row], grants: &[Row], needs: &[Row]) -> Vec<u8> {
+    let provides = list(provides.iter().map(|service| tokens(*service).to_vec()).collect());
+    record(kind, &[&aid(own), &provides, &rows(calls), &rows(grants), &rows(needs)])
+}
+
 /// Kind 1.
 pub fn load(own: &[u8], provides: &[Tokens], calls: &[Row], grants: &[Row], needs: &[Row]) -> Vec<u8> {
-    let provides = list(provides.iter().map(|service| tokens(*service).to_vec()).collect());
-    record(1, &[&aid(own), &provides, &rows(calls), &rows(grants), &rows(needs)])
+    contract(1, own, provides, calls, grants, needs)
+}
+
+/// Kind 11.
+pub fn replace(own: &[u8], provides: &[Tokens], calls: &[Row], grants: &[Row], needs: &[Row]) -> Vec<u8> {
+    contract(11, own, provides, calls, grants, needs)
 }
 
 /// Kind 2.

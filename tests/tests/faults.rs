@@ -60,8 +60,8 @@ fn a_history_over_the_changes_is_replayed() {
         assert!(replay(&[&BYTES], SEED, &read, &failure.difference.damage).is_ok(), "{lines:?}");
     }
     // No more changes can be told than there were.
-    let words = replay(&[&BYTES], SEED, &vec![Event::Change; 3], &Damage::default()).err().expect("a difference").words;
-    assert_eq!(words, "a history has at most 2 changes of the rules, here are 3");
+    let words = replay(&[&BYTES], SEED, &vec![Event::Change; 4], &Damage::default()).err().expect("a difference").words;
+    assert_eq!(words, "a history has at most 3 changes of the rules, here are 4");
 }
 
 #[test]

@@ -167,15 +167,15 @@ fn bad_texts_have_messages_with_places() {
         + &(10..43).map(|n| format!("to F0000000{n}\n")).collect::<String>();
     let long = format!("unload {}", "AB".repeat(17));
     let cases = [
-        ("lode F000000001", "line 1, column 1: 'lode' begins no line: there are load, unload, add, remove and name, the rows provides, calls, grants and needs, and to"),
+        ("lode F000000001", "line 1, column 1: 'lode' begins no line: there are load, replace, unload, add, remove and name, the rows provides, calls, grants and needs, and to"),
         ("\n  load", "line 2, column 7: the package's AID is missing"),
         ("load F0000001", "line 1, column 6: an AID has 5 to 16 bytes, this one has 4"),
         (&long, "line 1, column 8: an AID has 5 to 16 bytes, this one has 17"),
         ("load F0000000001", "line 1, column 6: an AID has two digits for each byte, here are 11 digits"),
         ("load purse", "line 1, column 6: 'purse' is neither an AID in hexadecimal nor a name given above"),
         ("load F000000001 provides 0.0", "line 1, column 17: nothing may follow here, but 'provides' does"),
-        ("# x\ncalls F000000001 0.0", "line 2, column 1: 'calls' is a row of a load, and no load stands above it"),
-        ("unload F000000001\n  needs F000000002 0.0", "line 2, column 3: 'needs' is a row of a load, and no load stands above it"),
+        ("# x\ncalls F000000001 0.0", "line 2, column 1: 'calls' is a row of a contract, and neither load nor replace stands above it"),
+        ("unload F000000001\n  needs F000000002 0.0", "line 2, column 3: 'needs' is a row of a contract, and neither load nor replace stands above it"),
         ("load F000000001\nto F000000002", "line 2, column 1: 'to' follows 'add AID provides SERVICE', and none stands above it"),
         ("add F000000001", "line 1, column 15: provides, calls, grants or needs is missing"),
         ("add F000000001 has 0.0", "line 1, column 16: provides, calls, grants or needs is expected, not 'has'"),
@@ -346,7 +346,8 @@ fn bad_records_have_messages_with_places() {
             "line 1, column 1: byte 0: the length field says 11, the record has 10 bytes",
         ),
         ("\n00 0A 02 02 05 F0 00 00 00 01", "line 2, column 7: byte 2: the version is 2, not 1"),
-        ("00 0A 01 0B 05 F0 00 00 00 01", "line 1, column 10: byte 3: the kind is 11, not 1 to 10"),
+        ("00 0A 01 0C 05 F0 00 00 00 01", "line 1, column 10: byte 3: the kind is 12, not 1 to 11"),
+        ("00 0A 01 0B 05 F0 00 00 00 01", "line 1, column 30: byte 10: the record ends here, and bytes are missing"),
         ("000A0102 04F000000001", "line 1, column 10: byte 4: the AID's length is 4, not 5 to 16"),
         ("00 0B 01 02 05 F0 00 00 00 01 00", "line 1, column 31: byte 10: 1 byte is left over"),
         ("00 0C 01 02 05 F0 00 00 00 01 00 00", "line 1, column 31: byte 10: 2 bytes are left over"),

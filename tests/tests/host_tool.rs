@@ -134,8 +134,8 @@ fn bad_input_is_1_with_its_place() {
         BAD_INPUT,
         "standard input: byte 0: record 1: the length field says 0, 3 bytes are left",
     );
-    let second = b"\x00\x0A\x01\x02\x05\xF0\x00\x00\x00\x01\x00\x04\x01\x0B";
-    fails("decode --raw", second, BAD_INPUT, "standard input: byte 13: record 2: the kind is 11, not 1 to 10");
+    let second = b"\x00\x0A\x01\x02\x05\xF0\x00\x00\x00\x01\x00\x04\x01\x0C";
+    fails("decode --raw", second, BAD_INPUT, "standard input: byte 13: record 2: the kind is 12, not 1 to 11");
     for command in ["show", "dump", "convert"] {
         let words = "standard input: byte 2: an image has 1110 bytes, or 1094 in version 01, here are 2";
         fails(command, b"04 56", BAD_INPUT, words);

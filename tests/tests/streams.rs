@@ -46,8 +46,8 @@ const WRONG: [(&str, Wrong); 19] = [
         }
         lines
     }),
-    ("a method token of 128 is read", |frames, _| frames.lines_before(2).expect("no difference")),
-    ("a grant of a service not provided is refused", |frames, _| frames.lines_before(1).expect("no difference")),
+    ("a method token of 128 is read", |frames, _| frames.lines_by(Rules::DOCUMENT_01).expect("no difference")),
+    ("a grant of a service not provided is refused", |frames, _| frames.lines_by(Rules::R_7).expect("no difference")),
     ("a method token of 127 is not read", |frames, mut lines| {
         for (record, line) in frames.records.iter().zip(&mut lines) {
             if methods::of_record(record).iter().any(|(_, at)| record[*at] == 127) {

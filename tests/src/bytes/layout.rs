@@ -112,6 +112,18 @@ pub fn needs(image: &Image, caller: usize, callee: usize) -> u8 {
     image[cell(NEEDS, caller, callee)]
 }
 
+/// Whether some package needs one of these services of the package.
+pub fn needed(image: &Image, package: usize, services: u8) -> bool {
+    (0..8).any(|caller| needs(image, caller, package) & services != 0)
+}
+
+/// Gives a service the lowest unused number of its package.
+pub fn open_service(image: &mut Image, package: usize, tokens: [u8; 2]) {
+    let service = provides(image, package).trailing_ones() as usize;
+    image[PROVIDES + package] |= 1 << service;
+    image[tokens_at(package, service)..][..2].copy_from_slice(&tokens);
+}
+
 /// The number of the package with this AID.
 pub fn package(image: &Image, written: &[u8]) -> Option<usize> {
     packages(image).find(|&n| is_aid(aid(image, n), written))

@@ -11,7 +11,7 @@ pub struct Record<'a> {
 
 #[derive(Clone, Copy)]
 pub enum Change<'a> {
-    Load(Load<'a>),
+    Load(Contract<'a>),
     Remove,
     AddService([u8; 2], Aids<'a>),
     RemoveService([u8; 2]),
@@ -21,10 +21,12 @@ pub enum Change<'a> {
     RemoveGrant(Row<'a>),
     AddNeed(Row<'a>),
     RemoveNeed(Row<'a>),
+    Replace(Contract<'a>),
 }
 
+/// A whole contract, as kinds 1 and 11 write it.
 #[derive(Clone, Copy)]
-pub struct Load<'a> {
+pub struct Contract<'a> {
     pub provides: &'a [[u8; 2]],
     pub calls: Rows<'a>,
     pub grants: Rows<'a>,
@@ -76,12 +78,15 @@ impl<'a> Iterator for Aids<'a> {
 /// Reads a record; `None` is cause 2.
 pub fn read(rules: Rules, record: &[u8]) -> Option<Record<'_>> {
     let (&[high, low, version, kind], rest) = record.split_first_chunk()?;
-    if usize::from(u16::from_be_bytes([high, low])) != record.len() || version != 1 {
+    if usize::from(u16::from_be_bytes([high, low])) != record.len() || version != 1 || kind > rules.last_kind {
         return None;
     }
     let (aid, rest) = read_aid(rest)?;
     let (change, rest) = match kind {
-        1 => read_load(rules, rest)?,
+        1 | 11 => {
+            let (contract, rest) = read_contract(rules, rest)?;
+            (if kind == 1 { Change::Load(contract) } else { Change::Replace(contract) }, rest)
+        }
         2 => (Change::Remove, rest),
         3 => read_service(rules, rest)?,
         4 => {
@@ -105,7 +110,7 @@ pub fn read(rules: Rules, record: &[u8]) -> Option<Record<'_>> {
     rest.is_empty().then_some(Record { aid, change })
 }
 
-fn read_load(rules: Rules, rest: &[u8]) -> Option<(Change<'_>, &[u8])> {
+fn read_contract(rules: Rules, rest: &[u8]) -> Option<(Contract<'_>, &[u8])> {
     let (&count, rest) = rest.split_first()?;
     if count > 8 {
         return None;
@@ -118,7 +123,7 @@ fn read_load(rules: Rules, rest: &[u8]) -> Option<(Change<'_>, &[u8])> {
     let (calls, rest) = read_rows(rules, rest)?;
     let (grants, rest) = read_rows(rules, rest)?;
     let (needs, rest) = read_rows(rules, rest)?;
-    Some((Change::Load(Load { provides, calls, grants, needs }), rest))
+    Some((Contract { provides, calls, grants, needs }, rest))
 }
 
 fn read_rows(rules: Rules, rest: &[u8]) -> Option<(Rows<'_>, &[u8])> {
@@ -172,7 +177,7 @@ fn read_aid(rest: &[u8]) -> Option<(&[u8], &[u8])> {
 /// Cause 3.
 pub fn contradicts(rules: Rules, record: &Record) -> bool {
     match record.change {
-        Change::Load(load) => load_contradicts(rules, record.aid, &load),
+        Change::Load(contract) | Change::Replace(contract) => contract_contradicts(rules, record.aid, &contract),
         Change::AddService(_, callers) => repeats(callers) || callers.into_iter().any(|caller| caller == record.aid),
         Change::Remove | Change::RemoveService(_) => false,
         Change::AddCall(row)
@@ -184,15 +189,15 @@ pub fn contradicts(rules: Rules, record: &Record) -> bool {
     }
 }
 
-fn load_contradicts(rules: Rules, own: &[u8], load: &Load) -> bool {
-    let Load { provides, mut calls, mut grants, mut needs } = *load;
+fn contract_contradicts(rules: Rules, own: &[u8], contract: &Contract) -> bool {
+    let Contract { provides, mut calls, mut grants, mut needs } = *contract;
     repeats(provides.iter())
         || repeats(calls)
         || repeats(grants)
         || repeats(needs)
         || calls.any(|row| row.aid == own)
         || grants.any(|row| row.aid == own || !rules.early_grants && !provides.contains(&row.tokens))
-        || needs.any(|row| !load.calls.into_iter().any(|call| call == row))
+        || needs.any(|row| !contract.calls.into_iter().any(|call| call == row))
 }
 
 fn repeats<T: PartialEq, L: Iterator<Item = T> + Clone>(list: L) -> bool {

@@ -27,9 +27,7 @@ pub fn add_service(image: &mut Image, number: usize, wanted: [u8; 2], callers: A
         return Err(11);
     }
 
-    let service = provides(image, number).trailing_ones() as usize;
-    image[PROVIDES + number] |= 1 << service;
-    image[tokens_at(number, service)..][..2].copy_from_slice(&wanted);
+    open_service(image, number, wanted);
     Relation::Calls.settle(image);
     Relation::Grants.settle(image);
     for caller in callers {
@@ -44,7 +42,7 @@ pub fn add_service(image: &mut Image, number: usize, wanted: [u8; 2], callers: A
 pub fn remove_service(rules: Rules, image: &mut Image, number: usize, unwanted: [u8; 2]) -> Result<(), u32> {
     let service = service(image, number, unwanted).ok_or(6u32)?;
     let bit = 1u8 << service;
-    if (0..8).any(|caller| needs(image, caller, number) & bit != 0) {
+    if needed(image, number, bit) {
         return Err(9);
     }
     let callers = (0..8).filter(|&caller| calls(image, caller, number) & bit != 0).count();

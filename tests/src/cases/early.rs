@@ -232,12 +232,13 @@ fn limits() -> Vec<Case> {
     ]
 }
 
-/// Records by R-7's rules, the conversion, and records by R-2's; or document 01's rules, R-7's and R-2's.
+/// Records by R-7's rules, the conversion, and records since; or by document 01's rules, R-7's, and since.
 fn over_the_conversion() -> Vec<Case> {
     let server = || load(H, &[S, T], &[row(X, NEVER)], &[row(X, T), row(C, S), row(B, T)], &[]);
     vec![
         over(
             "R-2: a card goes on over the conversion",
+            Rules::R_7,
             vec![vec![
                 no(3, load(C, &[], &[], &[row(B, S)], &[])),
                 yes(0, server()),
@@ -260,11 +261,13 @@ fn over_the_conversion() -> Vec<Case> {
         ),
         over(
             "R-2: an empty card is converted",
+            Rules::R_7,
             vec![Vec::new()],
             vec![no(5, remove(H)), yes(0, load(H, &[], &[], &[row(C, S)], &[]))],
         ),
         over(
             "R-2: a full list is converted in order, and stays full",
+            Rules::R_7,
             vec![vec![
                 yes(
                     0,
@@ -284,6 +287,7 @@ fn over_the_conversion() -> Vec<Case> {
         ),
         over(
             "R-2: a card of document 01's rules goes on over both changes",
+            Rules::DOCUMENT_01,
             vec![
                 vec![yes(0, server()), yes(0, add_service(H, (0, 128), &[])), yes(0, remove_service(H, (0, 128)))],
                 vec![no(2, add_service(H, (0, 128), &[])), yes(1, caller(C, &[S])), no(6, update(7, H, C, NEVER))],
@@ -292,6 +296,7 @@ fn over_the_conversion() -> Vec<Case> {
         ),
         over(
             "R-2: a card that R-7 left out is not converted",
+            Rules::DOCUMENT_01,
             vec![
                 vec![yes(0, load(H, &[(0, 128)], &[], &[], &[]))],
                 vec![no(1, remove(H)), no(1, remove_service(H, (0, 128)))],

@@ -182,5 +182,5 @@ fn over_the_change() -> Vec<Case> {
 
 /// A case over R-7's change, and at once over those since.
 fn over_r_7(name: &'static str, before: Vec<Step>, steps: Vec<Step>) -> Case {
-    over(name, vec![before, Vec::new()], steps)
+    over(name, Rules::DOCUMENT_01, vec![before], steps)
 }

@@ -39,7 +39,8 @@ pub fn record(record: &Record) -> String {
         _ => "callee AID",
     };
     match &record.change {
-        Change::Load(Lists { provides, calls, grants, needs }) => {
+        Change::Load(lists) | Change::Replace(lists) => {
+            let Lists { provides, calls, grants, needs } = lists;
             parts.push((1, "count of services provided".to_string()));
             parts.extend(provides.iter().map(tokens));
             for (list, name, other) in
@@ -93,6 +94,7 @@ fn kind(change: &Change) -> &'static str {
         Change::RemoveGrant(_) => "remove a grant",
         Change::AddNeed(_) => "add a need",
         Change::RemoveNeed(_) => "remove a need",
+        Change::Replace(_) => "replace the contract",
     }
 }
 

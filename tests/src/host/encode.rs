@@ -6,12 +6,13 @@ use crate::write;
 
 pub fn bytes(record: &Record) -> Vec<u8> {
     let own = record.aid.bytes();
+    let contract = |kind: u8, lists: &Lists| {
+        let provides: Vec<write::Tokens> = lists.provides.iter().map(pair).collect();
+        write::contract(kind, own, &provides, &rows(&lists.calls), &rows(&lists.grants), &rows(&lists.needs))
+    };
     let update = |kind: u8, row: &Row| write::update(kind, own, row.other.bytes(), pair(&row.tokens));
     match &record.change {
-        Change::Load(Lists { provides, calls, grants, needs }) => {
-            let provides: Vec<write::Tokens> = provides.iter().map(pair).collect();
-            write::load(own, &provides, &rows(calls), &rows(grants), &rows(needs))
-        }
+        Change::Load(lists) => contract(1, lists),
         Change::Remove => write::remove(own),
         Change::AddService(tokens, callers) => {
             let callers: Vec<Vec<u8>> = callers.iter().map(|caller| caller.bytes().to_vec()).collect();
@@ -24,6 +25,7 @@ pub fn bytes(record: &Record) -> Vec<u8> {
         Change::RemoveGrant(row) => update(8, row),
         Change::AddNeed(row) => update(9, row),
         Change::RemoveNeed(row) => update(10, row),
+        Change::Replace(lists) => contract(11, lists),
     }
 }
 

@@ -80,6 +80,10 @@ impl Text {
                 let aid = self.own(line)?;
                 self.begin(first, aid, Change::Load(Lists::default()))
             }
+            "replace" => {
+                let aid = self.own(line)?;
+                self.begin(first, aid, Change::Replace(Lists::default()))
+            }
             "unload" => {
                 let aid = self.own(line)?;
                 self.begin(first, aid, Change::Remove)
@@ -94,9 +98,9 @@ impl Text {
             }
             "to" => self.caller(first, line),
             _ => match said(first, line, &self.names)? {
-                Some(row) => self.load_row(first, row),
+                Some(row) => self.contract_row(first, row),
                 None => Err(first.fault(format!(
-                    "'{}' begins no line: there are load, unload, add, remove and name, \
+                    "'{}' begins no line: there are load, replace, unload, add, remove and name, \
                      the rows provides, calls, grants and needs, and to",
                     first.text
                 ))),
@@ -113,11 +117,13 @@ impl Text {
         Ok(())
     }
 
-    /// A row of the load above.
-    fn load_row(&mut self, verb: Word, row: Said) -> Result<(), Fault> {
-        let Some(Placed { record: Record { change: Change::Load(lists), .. }, parts, .. }) = self.records.last_mut()
+    /// A row of the contract above.
+    fn contract_row(&mut self, verb: Word, row: Said) -> Result<(), Fault> {
+        let Some(Placed { record: Record { change: Change::Load(lists) | Change::Replace(lists), .. }, parts, .. }) =
+            self.records.last_mut()
         else {
-            return Err(verb.fault(format!("'{}' is a row of a load, and no load stands above it", verb.text)));
+            let words = format!("'{}' is a row of a contract, and neither load nor replace stands above it", verb.text);
+            return Err(verb.fault(words));
         };
         let part = match row {
             Said::Provides(tokens) => Part::Provides(put(&mut lists.provides, tokens, MOST_PROVIDES, verb)?),
@@ -181,14 +187,7 @@ pub fn write(record: &Record, names: &Names) -> String {
     let aid = |aid: &Aid| names.word(*aid);
     let own = aid(&record.aid);
     match &record.change {
-        Change::Load(lists) => {
-            let provides = lists.provides.iter().map(|tokens| provides(*tokens));
-            let calls = lists.calls.iter().map(|row| calls(row, names));
-            let grants = lists.grants.iter().map(|row| grants(row, names));
-            let needs = lists.needs.iter().map(|row| needs(row, names));
-            let rows = provides.chain(calls).chain(grants).chain(needs).map(|row| format!("    {row}\n"));
-            format!("load {own}\n{}", rows.collect::<String>())
-        }
+        Change::Load(lists) => format!("load {own}\n{}", rows(lists, names)),
         Change::Remove => format!("unload {own}\n"),
         Change::AddService(tokens, callers) => {
             let callers = callers.iter().map(|caller| format!("    to {}\n", aid(caller)));
@@ -201,7 +200,17 @@ pub fn write(record: &Record, names: &Names) -> String {
         Change::RemoveGrant(row) => format!("remove {own} {}\n", grants(row, names)),
         Change::AddNeed(row) => format!("add {own} {}\n", needs(row, names)),
         Change::RemoveNeed(row) => format!("remove {own} {}\n", needs(row, names)),
+        Change::Replace(lists) => format!("replace {own}\n{}", rows(lists, names)),
     }
+}
+
+/// A line for each row of a contract.
+fn rows(lists: &Lists, names: &Names) -> String {
+    let provides = lists.provides.iter().map(|tokens| provides(*tokens));
+    let calls = lists.calls.iter().map(|row| calls(row, names));
+    let grants = lists.grants.iter().map(|row| grants(row, names));
+    let needs = lists.needs.iter().map(|row| needs(row, names));
+    provides.chain(calls).chain(grants).chain(needs).map(|row| format!("    {row}\n")).collect()
 }
 
 fn provides(tokens: Tokens) -> String {

@@ -29,6 +29,7 @@ pub enum Change {
     RemoveGrant(Row),
     AddNeed(Row),
     RemoveNeed(Row),
+    Replace(Lists),
 }
 
 /// A contract as it is written, row after row.
@@ -67,7 +68,10 @@ pub enum Why {
         bytes: usize,
     },
     Version(u8),
-    Kind(u8),
+    Kind {
+        written: u8,
+        last: u8,
+    },
     Count {
         written: u8,
         most: u8,
@@ -95,17 +99,12 @@ pub fn read(rules: Rules, bytes: &[u8]) -> Result<Record, Malformed> {
         return Err(Malformed { at: 2, why: Why::Version(version) });
     }
     let kind = rest.byte()?;
-    if !(1..=10).contains(&kind) {
-        return Err(Malformed { at: 3, why: Why::Kind(kind) });
+    if !(1..=rules.last_kind).contains(&kind) {
+        return Err(Malformed { at: 3, why: Why::Kind { written: kind, last: rules.last_kind } });
     }
     let aid = rest.aid()?;
     let change = match kind {
-        1 => Change::Load(Lists {
-            provides: rest.list(MOST_PROVIDES, Rest::tokens)?,
-            calls: rest.list(MOST_ROWS, Rest::row)?,
-            grants: rest.list(MOST_ROWS, Rest::row)?,
-            needs: rest.list(MOST_ROWS, Rest::row)?,
-        }),
+        1 => Change::Load(rest.lists()?),
         2 => Change::Remove,
         3 => Change::AddService(rest.tokens()?, rest.list(MOST_CALLERS, Rest::aid)?),
         4 => Change::RemoveService(rest.tokens()?),
@@ -114,7 +113,8 @@ pub fn read(rules: Rules, bytes: &[u8]) -> Result<Record, Malformed> {
         7 => Change::AddGrant(rest.row()?),
         8 => Change::RemoveGrant(rest.row()?),
         9 => Change::AddNeed(rest.row()?),
-        _ => Change::RemoveNeed(rest.row()?),
+        10 => Change::RemoveNeed(rest.row()?),
+        _ => Change::Replace(rest.lists()?),
     };
     match bytes.len() - rest.at {
         0 => Ok(Record { aid, change }),
@@ -150,16 +150,18 @@ pub fn contradiction(rules: Rules, record: &Record) -> Option<(Part, Clash)> {
     let own_row = |row: &Row| own(&row.other);
     let too_early = |grant: &Row, provides: &[Tokens]| !rules.early_grants && !provides.contains(&grant.tokens);
     match &record.change {
-        Change::Load(Lists { provides, calls, grants, needs }) => None
-            .or(found(Part::Provides, Clash::Repeated, repeated(provides)))
-            .or(found(Part::Calls, Clash::Repeated, repeated(calls)))
-            .or(found(Part::Grants, Clash::Repeated, repeated(grants)))
-            .or(found(Part::Needs, Clash::Repeated, repeated(needs)))
-            .or(found(Part::Calls, Clash::OwnAid, calls.iter().position(own_row)))
-            .or(found(Part::Grants, Clash::OwnAid, grants.iter().position(own_row)))
-            .or(found(Part::Needs, Clash::OwnAid, needs.iter().position(own_row)))
-            .or(found(Part::Needs, Clash::NotCalled, needs.iter().position(|need| !calls.contains(need))))
-            .or(found(Part::Grants, Clash::NotProvided, grants.iter().position(|row| too_early(row, provides)))),
+        Change::Load(lists) | Change::Replace(lists) => {
+            let Lists { provides, calls, grants, needs } = lists;
+            None.or(found(Part::Provides, Clash::Repeated, repeated(provides)))
+                .or(found(Part::Calls, Clash::Repeated, repeated(calls)))
+                .or(found(Part::Grants, Clash::Repeated, repeated(grants)))
+                .or(found(Part::Needs, Clash::Repeated, repeated(needs)))
+                .or(found(Part::Calls, Clash::OwnAid, calls.iter().position(own_row)))
+                .or(found(Part::Grants, Clash::OwnAid, grants.iter().position(own_row)))
+                .or(found(Part::Needs, Clash::OwnAid, needs.iter().position(own_row)))
+                .or(found(Part::Needs, Clash::NotCalled, needs.iter().position(|need| !calls.contains(need))))
+                .or(found(Part::Grants, Clash::NotProvided, grants.iter().position(|row| too_early(row, provides))))
+        }
         Change::AddService(_, callers) => found(Part::Callers, Clash::Repeated, repeated(callers)).or(found(
             Part::Callers,
             Clash::OwnAid,
@@ -226,6 +228,15 @@ impl<'a> Rest<'a> {
         Ok(Row { other: self.aid()?, tokens: self.tokens()? })
     }
 
+    fn lists(&mut self) -> Result<Lists, Malformed> {
+        Ok(Lists {
+            provides: self.list(MOST_PROVIDES, Rest::tokens)?,
+            calls: self.list(MOST_ROWS, Rest::row)?,
+            grants: self.list(MOST_ROWS, Rest::row)?,
+            needs: self.list(MOST_ROWS, Rest::row)?,
+        })
+    }
+
     fn list<T>(&mut self, most: u8, row: impl Fn(&mut Self) -> Result<T, Malformed>) -> Result<Vec<T>, Malformed> {
         let at = self.at;
         let written = self.byte()?;
@@ -243,7 +254,7 @@ impl fmt::Display for Why {
                 write!(f, "the length field says {written}, the record has {bytes} bytes")
             }
             Why::Version(version) => write!(f, "the version is {version}, not {VERSION}"),
-            Why::Kind(kind) => write!(f, "the kind is {kind}, not 1 to 10"),
+            Why::Kind { written, last } => write!(f, "the kind is {written}, not 1 to {last}"),
             Why::Count { written, most } => write!(f, "the count is {written}, at most {most} may stand here"),
             Why::AidLength(length) => write!(f, "the AID's length is {length}, not 5 to 16"),
             Why::Method { written, most } => write!(f, "the method token is {written}, not 0 to {most}"),
