@@ -4,6 +4,7 @@
 pub mod early;
 mod edges;
 mod misread;
+pub mod replace;
 pub mod tokens;
 pub mod worked;
 
@@ -38,7 +39,9 @@ pub struct Step {
 
 /// Every case, in the paper's order.
 pub fn all() -> Vec<Case> {
-    [edges::cases(), misread::cases(), worked::cases(), tokens::cases(), early::cases()].into_iter().flatten().collect()
+    let paper = [edges::cases(), misread::cases(), worked::cases()];
+    let requests = [tokens::cases(), early::cases(), replace::cases()];
+    paper.into_iter().chain(requests).flatten().collect()
 }
 
 /// The case of this name.

@@ -6,10 +6,11 @@ use crate::early::Early;
 use crate::hex::to_hex;
 use crate::history::Event;
 use crate::machine::record::{self, Lists};
-use crate::machine::{Change, Contract, Machine};
+use crate::machine::{Change, Contract, Machine, Record};
 use crate::methods::{self, Held, Place};
 use crate::pairs::{possible, Kind, Pairs};
 use crate::random::Random;
+use crate::replace::Replaced;
 use crate::rules::Rules;
 use crate::tables::{self, Tables};
 use std::collections::{BTreeMap, BTreeSet};
@@ -72,8 +73,11 @@ pub struct Tally {
     /// Images of version 01, damaged or not: those that are converted, and those that are refused.
     pub converted: u64,
     pub not_converted: u64,
-    /// What R-2 brought about in accepted records.
+    /// What R-2 brought about in accepted records, and what R-1 did.
     pub early: BTreeMap<Early, u64>,
+    pub replaced: BTreeMap<Replaced, u64>,
+    /// Records of kind 11 before R-1's rules, which the rules in force would read.
+    pub too_early: u64,
     /// By their places in records: method tokens of 127 that are read, and of 128 where nothing else is wrong.
     pub methods: BTreeMap<Place, [u64; 2]>,
     /// By their places in images: method tokens that damage sets to 127 on an image that stays sound, and to 128.
@@ -179,7 +183,7 @@ impl<'a> Compare<'a> {
     /// Judges a record and compares all that the paper determines. Before the last change, judging is compared, and what the
     /// engines in force make of the image, which is of an earlier version.
     pub fn step(&mut self, bytes: &[u8], tally: &mut Tally) -> Result<Verdict, Difference> {
-        let held = self.machine.clone();
+        let (held, found) = (self.machine.clone(), self.image.clone());
         let mut pairs_before = Pairs::default();
         let pairs = if self.in_force() { &mut tally.pairs } else { &mut pairs_before };
         let verdict = match self.left_out {
@@ -189,6 +193,8 @@ impl<'a> Compare<'a> {
         let mut random = Random::of_bytes(self.seed, &[&self.image, bytes].concat());
         if !self.in_force() {
             tally.before += 1;
+            let replaces = |record: Record| matches!(record.change, Change::Replace(_));
+            tally.too_early += u64::from(record::read(Rules::IN_FORCE, bytes).is_ok_and(replaces));
             self.held_excluded |= !self.machine.keeps_to(Rules::IN_FORCE);
             self.damaged_alike(&Damage::default(), bytes, tally)?;
             for draw in [Damage::one_byte, Damage::two_bytes] {
@@ -208,7 +214,7 @@ impl<'a> Compare<'a> {
         for draw in [Damage::one_byte, Damage::two_bytes, Damage::one_byte, Damage::two_bytes] {
             self.damaged_alike(&draw(&self.image, &mut random), bytes, tally)?;
         }
-        self.count(&held, bytes, verdict, tally);
+        self.count(&held, &found, bytes, verdict, tally);
         Ok(verdict)
     }
 
@@ -418,14 +424,20 @@ impl<'a> Compare<'a> {
         methods::of_image(&self.image).into_iter().find(|(_, place)| *place == at).map(|(held, _)| held)
     }
 
-    /// What a record has shown, by the contracts that it found.
-    fn count(&self, held: &Machine, bytes: &[u8], verdict: Verdict, tally: &mut Tally) {
+    /// What a record has shown, by the contracts and the image that it found.
+    fn count(&self, held: &Machine, found: &[u8], bytes: &[u8], verdict: Verdict, tally: &mut Tally) {
         tally.records += 1;
         let read = record::read(self.rules(), bytes);
-        for early in read.iter().filter(|_| verdict.answer == 0).flat_map(|record| Early::of(held, record)) {
-            *tally.early.entry(early).or_default() += 1;
+        if let (Ok(record), 0) = (&read, verdict.answer) {
+            for early in Early::of(held, record) {
+                *tally.early.entry(early).or_default() += 1;
+            }
+            for replaced in self.replaced(record, found, verdict) {
+                *tally.replaced.entry(replaced).or_default() += 1;
+            }
         }
-        let but_for_methods = read.is_err() && record::read(Rules::DOCUMENT_01, bytes).is_ok();
+        let any_method = Rules { most_method: 255, ..self.rules() };
+        let but_for_methods = read.is_err() && record::read(any_method, bytes).is_ok();
         for (place, at) in methods::of_record(bytes) {
             match bytes[at] {
                 127 if read.is_ok() => tally.methods.entry(place).or_default()[0] += 1,
@@ -441,6 +453,14 @@ impl<'a> Compare<'a> {
         let contracts = &self.machine.contracts;
         tally.eight_packages += u64::from(contracts.len() == 8);
         tally.eight_services += u64::from(contracts.values().any(|contract| contract.provides.len() == 8));
+    }
+
+    /// What an accepted record of kind 11 has done to the image that it found.
+    fn replaced(&self, record: &Record, found: &[u8], verdict: Verdict) -> Vec<Replaced> {
+        let Change::Replace(lists) = &record.change else { return Vec::new() };
+        let [before, after] = [found, &self.image].map(|image| Tables::of(self.rules(), image));
+        let (Some(before), Some(after)) = (before, after) else { return Vec::new() };
+        Replaced::of(record.aid, &lists.provides, verdict.second as usize, &before, &after)
     }
 }
 

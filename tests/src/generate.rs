@@ -108,11 +108,11 @@ impl Source {
         if packages < wanted && self.random.percent(60) {
             return 1;
         }
-        let weights: [usize; 10] = match self.drive {
-            Drive::Mixed => [15, 7, 10, 8, 14, 8, 14, 8, 9, 7],
-            Drive::Lists => [12, 6, 8, 8, 24, 4, 24, 4, 6, 4],
-            Drive::Packages => [20, 5, 8, 6, 16, 8, 16, 8, 8, 5],
-            Drive::Services => [12, 4, 34, 4, 12, 6, 12, 6, 6, 4],
+        let weights: [usize; 11] = match self.drive {
+            Drive::Mixed => [15, 7, 10, 8, 14, 8, 14, 8, 9, 7, 14],
+            Drive::Lists => [12, 6, 8, 8, 24, 4, 24, 4, 6, 4, 14],
+            Drive::Packages => [20, 5, 8, 6, 16, 8, 16, 8, 8, 5, 10],
+            Drive::Services => [12, 4, 34, 4, 12, 6, 12, 6, 6, 4, 12],
         };
         let mut left = self.random.below(weights.iter().sum());
         for (kind, weight) in (1..).zip(weights) {

@@ -20,6 +20,7 @@ pub mod generate;
 pub mod history;
 pub mod methods;
 pub mod pairs;
+pub mod replace;
 pub mod run;
 pub mod shrink;
 pub mod tables;

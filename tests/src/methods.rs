@@ -3,13 +3,13 @@
 use crate::card::IMAGE;
 use std::fmt;
 
-/// A part of records that has tokens: one of a load's lists, or a kind of update.
+/// A part of records that has tokens: one of the lists of kind 1 or 11, or a kind of update.
 #[derive(Clone, Copy, Debug, PartialEq, Eq, PartialOrd, Ord)]
 pub enum Place {
-    Provides,
-    Calls,
-    Grants,
-    Needs,
+    Provides(u8),
+    Calls(u8),
+    Grants(u8),
+    Needs(u8),
     /// 3 to 10.
     Kind(u8),
 }
@@ -17,17 +17,22 @@ pub enum Place {
 impl Place {
     /// Every place, in the order of the kinds.
     pub fn all() -> impl Iterator<Item = Place> {
-        [Place::Provides, Place::Calls, Place::Grants, Place::Needs].into_iter().chain((3..=10).map(Place::Kind))
+        Place::lists(1).into_iter().chain((3..=10).map(Place::Kind)).chain(Place::lists(11))
+    }
+
+    /// The lists of a whole contract.
+    fn lists(kind: u8) -> [Place; 4] {
+        [Place::Provides, Place::Calls, Place::Grants, Place::Needs].map(|list| list(kind))
     }
 }
 
 impl fmt::Display for Place {
     fn fmt(&self, f: &mut fmt::Formatter) -> fmt::Result {
         match self {
-            Place::Provides => write!(f, "provides"),
-            Place::Calls => write!(f, "calls"),
-            Place::Grants => write!(f, "grants"),
-            Place::Needs => write!(f, "needs"),
+            Place::Provides(kind) => write!(f, "kind {kind} provides"),
+            Place::Calls(kind) => write!(f, "kind {kind} calls"),
+            Place::Grants(kind) => write!(f, "kind {kind} grants"),
+            Place::Needs(kind) => write!(f, "kind {kind} needs"),
             Place::Kind(kind) => write!(f, "kind {kind}"),
         }
     }
@@ -46,11 +51,12 @@ fn walk(record: &[u8], found: &mut Vec<(Place, usize)>) -> Option<()> {
     let kind = *record.get(3)?;
     let mut at = after_aid(4)?;
     match kind {
-        1 => {
+        1 | 11 => {
+            let [provides, lists @ ..] = Place::lists(kind);
             let services = usize::from(*record.get(at)?);
-            found.extend((1..=services).map(|n| (Place::Provides, at + 2 * n)));
+            found.extend((1..=services).map(|n| (provides, at + 2 * n)));
             at += 1 + 2 * services;
-            for list in [Place::Calls, Place::Grants, Place::Needs] {
+            for list in lists {
                 let rows = *record.get(at)?;
                 at += 1;
                 for _ in 0..rows {
@@ -98,17 +104,19 @@ pub fn of_image(image: &[u8]) -> Vec<(Held, usize)> {
 #[cfg(test)]
 mod tests {
     use super::*;
-    use crate::write::{add_service, load, remove, remove_service, update};
+    use crate::write::{add_service, contract, remove, remove_service, update};
 
     #[test]
     fn every_place_is_found() {
         let (own, other) = ([0xF0; 5], vec![0xF1; 16]);
         let row = |method| (other.clone(), (0, method));
-        let loaded = load(&own, &[(0, 1), (0, 2)], &[row(3)], &[row(4), row(5)], &[row(6)]);
-        let found: Vec<(Place, u8)> = of_record(&loaded).into_iter().map(|(place, at)| (place, loaded[at])).collect();
-        let (provides, grants) = (Place::Provides, Place::Grants);
-        let expected = [(provides, 1), (provides, 2), (Place::Calls, 3), (grants, 4), (grants, 5), (Place::Needs, 6)];
-        assert_eq!(found, expected);
+        for kind in [1, 11] {
+            let whole = contract(kind, &own, &[(0, 1), (0, 2)], &[row(3)], &[row(4), row(5)], &[row(6)]);
+            let found: Vec<(Place, u8)> = of_record(&whole).into_iter().map(|(place, at)| (place, whole[at])).collect();
+            let [provides, calls, grants, needs] = Place::lists(kind);
+            assert_eq!(found, [(provides, 1), (provides, 2), (calls, 3), (grants, 4), (grants, 5), (needs, 6)]);
+            assert_eq!(of_record(&whole[..12]), []);
+        }
         let mut records = vec![add_service(&own, (0, 9), std::slice::from_ref(&other)), remove_service(&own, (0, 9))];
         records.extend((5..=10).map(|kind| update(kind, &own, &other, (0, 9))));
         for (kind, record) in (3..).zip(records) {
@@ -116,6 +124,5 @@ mod tests {
             assert_eq!((place, record[at]), (Place::Kind(kind), 9));
         }
         assert_eq!(of_record(&remove(&own)), []);
-        assert_eq!(of_record(&loaded[..12]), []);
     }
 }

@@ -8,7 +8,7 @@ use std::fmt;
 #[derive(Clone, Copy, Debug, PartialEq, Eq, PartialOrd, Ord)]
 pub enum Kind {
     Known(u8),
-    /// 0, or above 10.
+    /// 0, or above 11.
     Unknown,
     /// The record has fewer than four bytes.
     Missing,
@@ -17,7 +17,7 @@ pub enum Kind {
 impl Kind {
     pub fn of(record: &[u8]) -> Kind {
         match record.get(3) {
-            Some(&kind @ 1..=10) => Kind::Known(kind),
+            Some(&kind @ 1..=11) => Kind::Known(kind),
             Some(_) => Kind::Unknown,
             None => Kind::Missing,
         }
@@ -39,9 +39,9 @@ impl fmt::Display for Kind {
 /// For every kind: 1 on an image that is not sound, 2 for a record that cannot be read. 12 is for
 /// reading out alone. 3 needs a second AID or a list, which kinds 2 and 4 have not. 4 is for loads
 /// and 5 for all others. 6 is for updates, kinds 3 to 10. 7 is for what takes a number, kinds 1
-/// and 3. The card is lawful and within its limits before the change, so for 8 to 11 the change
+/// and 3; the services of a whole contract always have one each. The card is lawful and within its limits before the change, so for 8 to 11 the change
 /// itself must be able to bring the cause about.
-pub const POSSIBLE: [(Kind, &[u32]); 12] = [
+pub const POSSIBLE: [(Kind, &[u32]); 13] = [
     // A load can bring any of the four about.
     (Kind::Known(1), &[0, 1, 2, 3, 4, 7, 8, 9, 10, 11]),
     // Calls of others on the package become unmet (9, 10) and grants to it wait (11). The met
@@ -65,15 +65,21 @@ pub const POSSIBLE: [(Kind, &[u32]); 12] = [
     (Kind::Known(9), &[0, 1, 2, 3, 5, 6, 9]),
     // A need goes: nothing can come about.
     (Kind::Known(10), &[0, 1, 2, 3, 5, 6]),
+    // A whole contract can bring any of the four about, as a load. Before R-1 the kind was not known.
+    (Kind::Known(11), &[0, 1, 2, 3, 5, 8, 9, 10, 11]),
     (Kind::Unknown, &[1, 2]),
     (Kind::Missing, &[1, 2]),
 ];
 
 /// Whether judging a record of the kind by the rules can give the answer.
 pub fn possible(rules: Rules, kind: Kind, answer: u32) -> bool {
-    let since_r_2 = (kind, answer) == (Kind::Known(4), 11);
     let listed = POSSIBLE.iter().any(|(known, answers)| *known == kind && answers.contains(&answer));
-    listed && (rules.early_grants || !since_r_2)
+    let in_time = match kind {
+        Kind::Known(4) if answer == 11 => rules.early_grants,
+        Kind::Known(kind) if kind > rules.last_kind => answer <= 2 && answer > 0,
+        _ => true,
+    };
+    listed && in_time
 }
 
 /// How often each pair was seen.
@@ -126,8 +132,8 @@ mod tests {
 
     #[test]
     fn kinds_are_told_apart() {
-        assert_eq!(Kind::of(&[0, 4, 1, 10]), Kind::Known(10));
-        assert_eq!(Kind::of(&[0, 4, 1, 11]), Kind::Unknown);
+        assert_eq!(Kind::of(&[0, 4, 1, 11]), Kind::Known(11));
+        assert_eq!(Kind::of(&[0, 4, 1, 12]), Kind::Unknown);
         assert_eq!(Kind::of(&[0, 4, 1, 0]), Kind::Unknown);
         assert_eq!(Kind::of(&[0, 3, 1]), Kind::Missing);
     }
@@ -135,12 +141,19 @@ mod tests {
     #[test]
     fn what_was_counted_is_not_missing() {
         let mut pairs = Pairs::default();
-        assert_eq!(pairs.coverage(), (0, 79));
+        assert_eq!(pairs.coverage(), (0, 88));
         pairs.count(Kind::Known(2), 11);
-        assert_eq!(pairs.coverage(), (1, 79));
+        assert_eq!(pairs.coverage(), (1, 88));
         assert!(!pairs.missing().contains(&(Kind::Known(2), 11)));
-        let possible = |rules, kind| possible(rules, Kind::Known(kind), 11);
-        assert!(possible(Rules::IN_FORCE, 2) && possible(Rules::R_2, 4) && !possible(Rules::R_2, 5));
-        assert!(possible(Rules::R_7, 2) && !possible(Rules::R_7, 4));
+    }
+
+    #[test]
+    fn what_is_possible_goes_by_the_rules() {
+        let possible = |rules, kind, answer| possible(rules, Kind::Known(kind), answer);
+        assert!(possible(Rules::IN_FORCE, 2, 11) && possible(Rules::R_2, 4, 11) && !possible(Rules::R_2, 5, 11));
+        assert!(possible(Rules::R_7, 2, 11) && !possible(Rules::R_7, 4, 11));
+        let answers = |rules| (0..=12).filter(|answer| possible(rules, 11, *answer)).collect::<Vec<_>>();
+        assert_eq!(answers(Rules::R_1), [0, 1, 2, 3, 5, 8, 9, 10, 11]);
+        assert_eq!(answers(Rules::R_2), [1, 2]);
     }
 }

@@ -1,10 +1,11 @@
 //! The table of cases holds on the machine and on every engine.
 
 use second::card::{linked, Card, Verdict, BYTES, IMAGE};
-use second::cases::{all, early, named, tokens, worked};
+use second::cases::{all, early, named, replace, tokens, worked};
 use second::damage::Damage;
 use second::early::Early;
 use second::methods::Place;
+use second::replace::Replaced;
 use second::run::replay;
 use std::collections::BTreeSet;
 
@@ -36,7 +37,7 @@ fn the_table_has_the_papers_cases() {
 #[test]
 fn every_place_of_tokens_has_its_case() {
     let cards = linked();
-    let mut seen = [(); 12].map(|()| [0; 2]);
+    let mut seen = [(); 16].map(|()| [0; 2]);
     let (mut left_out, mut gone_on, mut cleared) = (0, 0, 0);
     for case in tokens::cases() {
         let tally = replay(&cards, 0, &case.history(), &Damage::default())
@@ -64,6 +65,22 @@ fn every_early_grant_has_its_case() {
     }
     assert_eq!(seen, BTreeSet::from(Early::ALL));
     assert_eq!((left_out, gone_on), (1, 4));
+}
+
+/// Each thing that R-1 brings about has its case, and cards go over the change that kind 11 begins with.
+#[test]
+fn every_whole_contract_has_its_case() {
+    let cards = linked();
+    let (mut seen, mut left_out, mut gone_on, mut too_early) = (BTreeSet::new(), 0, 0, 0);
+    for case in replace::cases() {
+        let tally = replay(&cards, 0, &case.history(), &Damage::default())
+            .unwrap_or_else(|difference| panic!("{}: {difference}", case.name));
+        seen.extend(tally.replaced.keys().copied());
+        (left_out, gone_on) = (left_out + tally.left_out, gone_on + tally.gone_on);
+        too_early += tally.too_early;
+    }
+    assert_eq!(seen, BTreeSet::from(Replaced::ALL));
+    assert_eq!((left_out, gone_on, too_early), (1, 2, 7));
 }
 
 /// The report's Examples 5 to 8: the mapping, the tables of jTicket's needs and ePurse's grants.

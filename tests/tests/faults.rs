@@ -27,7 +27,7 @@ fn every_fault_is_found() {
     }
 }
 
-/// The table of cases finds all but seven, which need 15 unmet calls, bytes left over, a damaged byte, and another size.
+/// The table of cases finds all but six, which need 15 unmet calls, a damaged byte, and another size.
 #[test]
 fn the_cases_find_most_faults() {
     std::panic::set_hook(Box::new(|_| {}));
@@ -36,10 +36,10 @@ fn the_cases_find_most_faults() {
         all().iter().all(|case| case.run(&cards).is_ok())
     });
     let missed: Vec<&str> = missed.map(|fault| fault.name()).collect();
-    let [counted, left_over] = ["ten-uncounted", "left-over-read"];
+    let counted = "ten-uncounted";
     let damaged = ["last-byte-unchecked", "settled-row-sound", "own-aid-row-sound"];
     let sized = ["empty-any-length", "converts-into-more"];
-    let expected = [counted, left_over, damaged[0], sized[0], damaged[1], damaged[2], sized[1]];
+    let expected = [counted, damaged[0], sized[0], damaged[1], damaged[2], sized[1]];
     assert_eq!(missed, expected);
 }
 
@@ -83,4 +83,5 @@ fn a_short_run_finds_nothing_in_the_byte_engine() {
     assert!(tally.left_out > 0 && tally.cleared > 0 && tally.before > 0);
     assert!(tally.contracts_read > 1_000 && tally.damaged_sound > 100 && tally.damaged_unsound > 1_000);
     assert!(tally.converted > 20 && tally.not_converted > 100 && tally.early.len() > 5);
+    assert!(tally.replaced.len() > 9 && tally.too_early > 9);
 }

@@ -75,7 +75,7 @@ fn every_kind_is_text_and_back() {
         let read = record_text::read(&named).expect("a text");
         assert_eq!(read.names.text() + &record_text::write(&read.records[0].record, &read.names), named);
     }
-    assert_eq!(kinds, (1..=10).collect());
+    assert_eq!(kinds, (1..=11).collect());
 }
 
 #[test]

@@ -8,6 +8,7 @@ use second::faults;
 use second::history::{changes, Event};
 use second::methods::{Held, Place};
 use second::program::{self, number, Failure};
+use second::replace::Replaced;
 use second::run::{replay, run, DEFAULT_RECORDS, DEFAULT_SEED};
 use second::say_line;
 use std::fmt::Display;
@@ -105,6 +106,7 @@ fn report(tally: &Tally) -> String {
          histories over changes of the rules: {} gone on, {} of them cleared before; {} left out; records before: {}\n\
          images of version 01: {} converted, {} refused\n\
          grants before their service: {}\n\
+         whole contracts: {}; before their rules {}\n\
          method tokens 127 and 128 in records: {}\n\
          on damaged images: {}",
         tally.pairs,
@@ -125,6 +127,8 @@ fn report(tally: &Tally) -> String {
         tally.converted,
         tally.not_converted,
         joined(early(tally).map(|(early, seen)| format!("{early} {seen}"))),
+        joined(replaced(tally).map(|(replaced, seen)| format!("{replaced} {seen}"))),
+        tally.too_early,
         joined(methods(tally).map(both)),
         joined(methods_held(tally).map(both)),
     )
@@ -141,6 +145,11 @@ fn both((place, [fine, wrong]): (impl Display, [u64; 2])) -> String {
 /// How often each thing was seen that R-2 brings about.
 fn early(tally: &Tally) -> impl Iterator<Item = (Early, u64)> + '_ {
     Early::ALL.into_iter().map(|early| (early, tally.early.get(&early).copied().unwrap_or_default()))
+}
+
+/// How often each thing was seen that R-1 brings about.
+fn replaced(tally: &Tally) -> impl Iterator<Item = (Replaced, u64)> + '_ {
+    Replaced::ALL.into_iter().map(|replaced| (replaced, tally.replaced.get(&replaced).copied().unwrap_or_default()))
 }
 
 /// How often a method token of 127, and one of 128, was seen in each place of records.
@@ -175,6 +184,13 @@ fn everything_seen(tally: &Tally) -> Result<(), String> {
     let unseen = joined(early(tally).filter(|(_, seen)| *seen == 0).map(|(early, _)| early.to_string()));
     if !unseen.is_empty() {
         return Err(format!("grants before their service were never seen: {unseen}"));
+    }
+    let unseen = joined(replaced(tally).filter(|(_, seen)| *seen == 0).map(|(replaced, _)| replaced.to_string()));
+    if !unseen.is_empty() {
+        return Err(format!("whole contracts were never seen: {unseen}"));
+    }
+    if tally.too_early == 0 {
+        return Err("no whole contract came before its rules".to_string());
     }
     let on_images = methods_held(tally).map(|(place, seen)| (format!("{place} of images"), seen));
     let places = methods(tally).map(|(place, seen)| (place.to_string(), seen)).chain(on_images);

@@ -2,7 +2,7 @@
 //! Interface tokens stay 0 to 255.
 
 use super::*;
-use crate::write::{add_service, load, remove, remove_service, update, Tokens};
+use crate::write::{add_service, contract, load, remove, remove_service, update, Row, Tokens};
 
 /// The highest tokens, and the first whose method is too high.
 const LAST: Tokens = (255, 127);
@@ -10,48 +10,56 @@ const PAST: Tokens = (255, 128);
 const HIGHEST: Tokens = (0, 255);
 
 pub fn cases() -> Vec<Case> {
-    [in_loads(), in_updates(), over_the_change()].into_iter().flatten().collect()
+    let loads = [
+        "R-7: provided by a load, 127 and 128",
+        "R-7: called by a load, 127 and 128",
+        "R-7: granted by a load, 127 and 128",
+        "R-7: needed by a load, 127 and 128",
+    ];
+    let replaced = [
+        "R-7: provided by kind 11, 127 and 128",
+        "R-7: called by kind 11, 127 and 128",
+        "R-7: granted by kind 11, 127 and 128",
+        "R-7: needed by kind 11, 127 and 128",
+    ];
+    let contracts = [in_contracts(1, loads), in_contracts(11, replaced)];
+    contracts.into_iter().chain([in_updates(), over_the_change()]).flatten().collect()
 }
 
-/// A load's four lists. The other rows of the record are right.
-fn in_loads() -> Vec<Case> {
-    let server = |tokens: Tokens| load(H, &[tokens], &[], &[row(C, tokens)], &[]);
-    vec![
-        case(
-            "R-7: provided by a load, 127 and 128",
-            vec![
-                no(2, load(H, &[PAST], &[], &[], &[])),
-                no(2, load(H, &[(0, 0), HIGHEST], &[], &[], &[])),
-                yes(0, load(H, &[(0, 0), LAST], &[], &[], &[])),
-            ],
-        ),
-        case(
-            "R-7: called by a load, 127 and 128",
-            vec![
-                no(2, load(H, &[], &[row(X, PAST)], &[], &[])),
-                no(2, load(H, &[], &[row(X, LAST), row(X, HIGHEST)], &[], &[])),
-                yes(0, load(H, &[], &[row(X, LAST)], &[], &[])),
-            ],
-        ),
-        case(
-            "R-7: granted by a load, 127 and 128",
-            vec![
-                no(2, load(H, &[LAST], &[], &[row(X, PAST)], &[])),
-                no(2, load(H, &[LAST], &[], &[row(C, LAST), row(X, HIGHEST)], &[])),
-                yes(0, load(H, &[LAST], &[], &[row(C, LAST), row(X, LAST)], &[])),
-            ],
-        ),
-        case(
-            "R-7: needed by a load, 127 and 128",
-            vec![
-                yes(0, server(LAST)),
-                no(2, load(C, &[], &[row(H, LAST)], &[], &[row(H, PAST)])),
-                no(2, load(C, &[], &[row(H, LAST)], &[], &[row(H, LAST), row(H, HIGHEST)])),
-                yes(1, load(C, &[], &[row(H, LAST)], &[], &[row(H, LAST)])),
-                no(9, remove(H)),
-            ],
-        ),
-    ]
+/// The four lists of a whole contract: of a load, or of kind 11, which finds its package there. The other rows of the record
+/// are right.
+fn in_contracts(kind: u8, names: [&'static str; 4]) -> Vec<Case> {
+    let whole = |own: &[u8], provides: &[Tokens], calls: &[Row], grants: &[Row], needs: &[Row]| {
+        contract(kind, own, provides, calls, grants, needs)
+    };
+    let bare = |number, own| yes(number, load(own, &[], &[], &[], &[]));
+    let begun = || if kind == 11 { vec![bare(0, H), bare(1, C)] } else { Vec::new() };
+    let steps = [
+        vec![
+            no(2, whole(H, &[PAST], &[], &[], &[])),
+            no(2, whole(H, &[(0, 0), HIGHEST], &[], &[], &[])),
+            yes(0, whole(H, &[(0, 0), LAST], &[], &[], &[])),
+        ],
+        vec![
+            no(2, whole(H, &[], &[row(X, PAST)], &[], &[])),
+            no(2, whole(H, &[], &[row(X, LAST), row(X, HIGHEST)], &[], &[])),
+            yes(0, whole(H, &[], &[row(X, LAST)], &[], &[])),
+        ],
+        vec![
+            no(2, whole(H, &[LAST], &[], &[row(X, PAST)], &[])),
+            no(2, whole(H, &[LAST], &[], &[row(C, LAST), row(X, HIGHEST)], &[])),
+            yes(0, whole(H, &[LAST], &[], &[row(C, LAST), row(X, LAST)], &[])),
+        ],
+        vec![
+            yes(0, whole(H, &[LAST], &[], &[row(C, LAST)], &[])),
+            no(2, whole(C, &[], &[row(H, LAST)], &[], &[row(H, PAST)])),
+            no(2, whole(C, &[], &[row(H, LAST)], &[], &[row(H, LAST), row(H, HIGHEST)])),
+            yes(1, whole(C, &[], &[row(H, LAST)], &[], &[row(H, LAST)])),
+            no(9, remove(H)),
+        ],
+    ];
+    let cases = names.into_iter().zip(steps);
+    cases.map(|(name, steps)| case(name, begun().into_iter().chain(steps).collect())).collect()
 }
 
 /// Kinds 3 to 10, each accepted at 127.

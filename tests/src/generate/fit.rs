@@ -9,7 +9,11 @@ impl Source {
     /// `None` when the contracts held leave nothing that fits.
     pub(super) fn fit(&mut self, kind: u8, held: &Machine) -> Option<Vec<u8>> {
         match kind {
-            1 => self.fit_load(held),
+            1 => {
+                let absent = self.not_installed(held);
+                let own = *self.random.pick(&absent)?;
+                Some(self.fit_contract(1, own, &Contract::default(), held))
+            }
             2 => Some(write::remove(self.installed(held, |_| true)?.0.bytes())),
             3 => self.fit_new_service(held),
             4 => {
@@ -28,6 +32,10 @@ impl Source {
                 })
             }
             10 => self.fit_old_row(10, held, |contract| contract.needs.iter().collect()),
+            11 => {
+                let (own, contract) = self.installed(held, |_| true)?;
+                Some(self.fit_contract(11, own, contract, held))
+            }
             _ => None,
         }
     }
@@ -62,51 +70,72 @@ impl Source {
         Some(write::update(kind, own.bytes(), row.other.bytes(), pair(row.tokens)))
     }
 
-    fn fit_load(&mut self, held: &Machine) -> Option<Vec<u8>> {
-        let absent = self.not_installed(held);
-        let own = *self.random.pick(&absent)?;
-        let most = if self.random.percent(20) { 8 } else { 3 };
-        let mut services = self.tokens.clone();
-        self.random.shuffle(&mut services);
-        services.truncate(self.random.between(0, most));
-
-        let fits = |call: &Row| call.other == own && services.contains(&call.tokens);
-        let met_now: Vec<(&Aid, &Row)> = held.unmet().filter(|(_, call)| fits(call)).collect();
-        let unmet = held.unmet().count() - met_now.len();
-        let calls = self.load_calls(own, held, unmet);
+    /// A whole contract of the package, in place of the one it has; that of a package to load has nothing.
+    fn fit_contract(&mut self, kind: u8, own: Aid, old: &Contract, held: &Machine) -> Vec<u8> {
+        let services = self.fit_services(own, old, held);
+        let on_it = |call: &Row| call.other == own && services.contains(&call.tokens);
+        let unmet_after = |call: &Row| !on_it(call) && (call.other == own || !held.met(call));
+        let others = || held.calls().filter(|(caller, _)| **caller != own);
+        let unmet = others().filter(|(_, call)| unmet_after(call)).count();
+        let calls = self.fit_calls(own, old, held, unmet);
         let needs = self.some(&calls, |call| if held.met(call) { 20 } else { 1 });
-        let mut grants: Vec<Row> = Vec::new();
-        for (caller, call) in met_now {
-            if self.random.percent(97) {
-                grants.push(Row { other: *caller, tokens: call.tokens });
-            }
-        }
+
+        // What others call of its services it grants, mostly.
+        let met: Vec<Row> = others()
+            .filter(|(_, call)| on_it(call))
+            .map(|(caller, call)| Row { other: *caller, tokens: call.tokens })
+            .collect();
+        let mut grants = self.some(&met, |_| 97);
+        grants.extend(self.some(&Vec::from_iter(old.grants.iter().copied()), |_| 60));
+        let waits = |grant: &&Row| !(held.contracts.contains_key(&grant.other) && services.contains(&grant.tokens));
         let settles =
             |callee: &Aid, grant: &Row| grant.other == own && held.contracts[callee].provides.contains(&grant.tokens);
-        let waiting = held.waiting().filter(|(callee, grant)| !settles(callee, grant)).count();
-        grants.extend(self.load_grants(own, &services, held, waiting));
+        let stay = held.waiting().filter(|(callee, grant)| **callee != own && !settles(callee, grant)).count();
+        let waiting = stay + grants.iter().filter(waits).count();
+        grants.extend(self.fit_grants(own, &services, held, waiting));
         grants.sort();
         grants.dedup();
         self.random.shuffle(&mut grants);
 
         let services: Vec<_> = services.into_iter().map(pair).collect();
-        Some(write::load(own.bytes(), &services, &written(&calls), &written(&grants), &written(&needs)))
+        write::contract(kind, own.bytes(), &services, &written(&calls), &written(&grants), &written(&needs))
     }
 
-    /// Calls on what is granted to the package, seldom on what is not, and some unmet ones.
-    fn load_calls(&mut self, own: Aid, held: &Machine, unmet: usize) -> Vec<Row> {
+    /// Most of the old services, those that others need nearly always, and some more, in any order.
+    fn fit_services(&mut self, own: Aid, old: &Contract, held: &Machine) -> Vec<Tokens> {
+        let needed = |tokens: &Tokens| {
+            let need = Row { other: own, tokens: *tokens };
+            held.contracts.values().any(|contract| contract.needs.contains(&need))
+        };
+        let stays = |tokens: &&Tokens| self.random.percent(if needed(tokens) { 95 } else { 70 });
+        let mut services: Vec<Tokens> = old.provides.iter().filter(stays).copied().collect();
+        let most = if self.random.percent(20) { 8 } else { 3 };
+        let mut more: Vec<Tokens> =
+            self.tokens.iter().filter(|tokens| !old.provides.contains(tokens)).copied().collect();
+        self.random.shuffle(&mut more);
+        more.truncate(self.random.between(0, most));
+        services.extend(more);
+        services.truncate(8);
+        self.random.shuffle(&mut services);
+        services
+    }
+
+    /// Calls on what is granted to the package, seldom on what is not, and some unmet ones, of the old ones first.
+    fn fit_calls(&mut self, own: Aid, old: &Contract, held: &Machine, unmet: usize) -> Vec<Row> {
         let on_card = services_of(held, own);
         let mut calls = self.some(&on_card, |call| if held.granted(own, call) { 60 } else { 1 });
         let mut absent = self.absent_services(held, own);
         self.random.shuffle(&mut absent);
-        absent.truncate(self.rows_more(unmet).min(72 - calls.len()));
+        absent.sort_by_key(|call| !old.calls.contains(call));
+        let stay = absent.iter().filter(|call| old.calls.contains(call) && self.random.percent(70)).count();
+        absent.truncate(self.rows_more(unmet).max(stay).min(72 - calls.len()));
         calls.extend(absent);
         self.random.shuffle(&mut calls);
         calls
     }
 
     /// Grants to packages on the card, and some that wait.
-    fn load_grants(&mut self, own: Aid, services: &[Tokens], held: &Machine, waiting: usize) -> Vec<Row> {
+    fn fit_grants(&mut self, own: Aid, services: &[Tokens], held: &Machine, waiting: usize) -> Vec<Row> {
         let early = self.early(own, |tokens| !services.contains(tokens));
         let mut absent = self.some(&early, |_| 10);
         let mut here = Vec::new();

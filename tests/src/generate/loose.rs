@@ -7,7 +7,7 @@ impl Source {
     pub(super) fn loose(&mut self, kind: u8) -> Vec<u8> {
         let own = &self.bytes();
         match kind {
-            1 => {
+            1 | 11 => {
                 let provides: Vec<_> = (0..self.random.between(0, 3)).map(|_| pair(self.tokens())).collect();
                 let calls = self.few_rows();
                 let grants = match provides.first() {
@@ -18,7 +18,7 @@ impl Source {
                     Some(call) if self.random.percent(70) => vec![call.clone()],
                     _ => self.few_rows(),
                 };
-                write::load(own, &provides, &calls, &grants, &needs)
+                write::contract(kind, own, &provides, &calls, &grants, &needs)
             }
             2 => write::remove(own),
             3 => {
@@ -54,6 +54,7 @@ impl Source {
         let mut provides: Vec<_> = self.tokens.iter().copied().map(pair).collect();
         provides.truncate(services);
         let rows: Vec<_> = (0..73).map(|n| (next(n), provides.first().copied().unwrap_or((0, 0)))).collect();
-        write::load(&own, &provides, &rows[..calls], &rows[..grants], &rows[..needs])
+        let kind = [1, 11][self.random.below(2)];
+        write::contract(kind, &own, &provides, &rows[..calls], &rows[..grants], &rows[..needs])
     }
 }

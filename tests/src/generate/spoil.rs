@@ -9,7 +9,7 @@ pub fn noise(random: &mut Random) -> Vec<u8> {
     let mut record: Vec<u8> = (0..random.below(48)).map(|_| random.byte()).collect();
     if record.len() >= 4 && random.percent(50) {
         record[2] = 1;
-        record[3] = random.between(1, 10) as u8;
+        record[3] = random.between(1, 11) as u8;
         set_length(&mut record);
     }
     record
@@ -50,7 +50,7 @@ pub fn spoiled(mut record: Vec<u8>, random: &mut Random) -> Vec<u8> {
 /// that follows it in kinds 5 to 10.
 fn wrong_aid(record: &mut Vec<u8>, random: &mut Random) {
     let second = 5 + usize::from(record[4]);
-    let at = if record[3] >= 5 && random.percent(50) { second } else { 4 };
+    let at = if (5..=10).contains(&record[3]) && random.percent(50) { second } else { 4 };
     let (end, length) = (at + 1 + usize::from(record[at]), [0, 4, 17][random.below(3)]);
     let aid = [vec![length], vec![0xF0; length.into()]].concat();
     record.splice(at..end, aid);

@@ -7,7 +7,7 @@ use crate::generate::Source;
 use crate::machine::Machine;
 use crate::random::Random;
 use crate::rules::Rules;
-use crate::write::{add_service, load, record, update, Row};
+use crate::write::{add_service, load, record, replace, update, Row};
 use std::ops::RangeInclusive;
 
 /// An input, and what it is.
@@ -92,17 +92,18 @@ fn kinds() -> Vec<Stream> {
     let rest: [&[u8]; 2] = [&[], &aid];
     let each = rest.map(|rest| (0..=255).flat_map(|kind| record(kind, &[rest])).collect::<Vec<_>>());
     let mut streams: Vec<_> = each.map(|input| Stream::new("every kind", input)).into();
-    for kind in [0, 11, 12, 99, 255] {
+    for kind in [0, 12, 13, 99, 255] {
         let input = [paper()[0].clone(), record(kind, &[&aid]), paper()[1].clone()].concat();
         streams.push(Stream::new(format!("kind {kind} between records"), input));
     }
     streams
 }
 
-/// Method tokens of 127 and 128 in every place, and grants before their service, a case on each card; and every method, in one
-/// record each.
+/// Method tokens of 127 and 128 in every place, grants before their service, and whole contracts, a case on each card; and every
+/// method, in one record each.
 fn requests() -> Vec<Stream> {
-    let cases = cases::tokens::cases().into_iter().chain(cases::early::cases()).filter(|case| case.before.is_empty());
+    let cases = [cases::tokens::cases(), cases::early::cases(), cases::replace::cases()].into_iter().flatten();
+    let cases = cases.filter(|case| case.before.is_empty());
     let records = |case: &Case| case.steps.iter().flat_map(|step| step.record.clone()).collect();
     let mut streams: Vec<_> = cases.map(|case| Stream::new(case.name, records(&case))).collect();
     let called = (0..=255).flat_map(|method| [update(5, C, H, (method, method)), update(6, C, H, (method, method))]);
@@ -111,13 +112,14 @@ fn requests() -> Vec<Stream> {
     streams
 }
 
-/// The longest record, which is a load, and the longest that adds a service: both read to the end.
+/// The longest records, a load and one that replaces a contract, and the longest that adds a service: all read to the end.
 fn longest() -> Vec<Stream> {
     let aid = |n: u8| vec![n; 16];
     let services: Vec<_> = (0..8).map(|method| (1, method)).collect();
     let rows: Vec<Row> = (1..=72).map(|n| (aid(n), services[0])).collect();
     let loaded = load(&aid(0), &services, &rows, &rows, &rows);
     assert_eq!(loaded.len(), LONGEST_RECORD);
+    let replaced = [load(&aid(0), &[], &[], &[], &[]), replace(&aid(0), &services, &rows, &rows, &rows)].concat();
     let callers: Vec<_> = (1..=32).map(aid).collect();
     let added = [load(&aid(0), &[], &[], &[], &[]), add_service(&aid(0), (1, 0), &callers)].concat();
     let four = paper().concat();
@@ -129,6 +131,7 @@ fn longest() -> Vec<Stream> {
         Stream::new("the longest load, a byte short", loaded[..LONGEST_RECORD - 1].to_vec()),
         Stream::new("the longest load and a byte", byte_more),
         Stream::new("a load, and a service with 32 grants", added),
+        Stream::new("a load, and the longest contract in its place", replaced),
     ]
 }
 
