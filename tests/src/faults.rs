@@ -1,6 +1,8 @@
 //! Engines that are wrong on purpose, each in one way, to show that the comparison finds it: the
 //! paper's list of what a reviewer will try, its misreadings of the report, requests misread, and a few more.
 
+mod replace;
+
 use crate::bytes::layout::{aid, is_aid};
 use crate::bytes::relation::{Listed, Relation};
 use crate::card::{Bytes, Card, Verdict, BYTES, IMAGE, OLD_IMAGE};
@@ -26,6 +28,8 @@ enum Entry {
     Aid(fn(&[u8]) -> &[u8]),
     /// Every entry by other rules.
     Rules(Rules),
+    /// Right by the rules in force, and wrong before each change, the last change first.
+    Before(&'static [Fault; Rules::CHANGES]),
 }
 
 impl Fault {
@@ -83,7 +87,16 @@ impl Card for Fault {
             _ => self.bytes().aid(record),
         }
     }
+
+    fn before(&self, changes: usize) -> Option<&dyn Card> {
+        match self.entry {
+            Entry::Before(engines) => Some(&engines[changes - 1]),
+            _ => None,
+        }
+    }
 }
+
+const IN_FORCE: Rules = Rules::IN_FORCE;
 
 pub const FAULTS: &[Fault] = &[
     Fault { name: "never-changes", entry: Entry::Judge(never_changes) },
@@ -117,7 +130,7 @@ pub const FAULTS: &[Fault] = &[
     Fault { name: "reads-out-128", entry: Entry::ReadOut(reads_out_128) },
     Fault { name: "aid-with-128", entry: Entry::Aid(|record| Bytes(TO_255).aid(record)) },
     Fault { name: "rules-of-R-7", entry: Entry::Rules(Rules::R_7) },
-    Fault { name: "early-load-refused", entry: Entry::Judge(early_load_refused) },
+    Fault { name: "early-load-refused", entry: Entry::Judge(|image, record| early_refused(1, image, record)) },
     Fault { name: "early-grant-refused", entry: Entry::Judge(early_grant_refused) },
     Fault { name: "grants-go-with-service", entry: Entry::Judge(grants_go_with_service) },
     Fault { name: "kept-grants-first", entry: Entry::Judge(kept_grants_first) },
@@ -146,6 +159,25 @@ pub const FAULTS: &[Fault] = &[
     Fault { name: "converts-into-more", entry: Entry::Convert(converts_into_more) },
     Fault { name: "converts-with-a-count", entry: Entry::Convert(converts_with_a_count) },
     Fault { name: "refused-conversion-writes", entry: Entry::Convert(refused_conversion_writes) },
+    Fault { name: "rules-of-R-2", entry: Entry::Rules(Rules::R_2) },
+    Fault { name: replace::TOO_EARLY, entry: Entry::Before(replace::READS_11) },
+    Fault { name: "early-replace-refused", entry: Entry::Judge(|image, record| early_refused(11, image, record)) },
+    Fault { name: "replace-renumbers", entry: Entry::Judge(replace::renumbers) },
+    Fault { name: "replace-frees-no-number", entry: Entry::Judge(replace::numbers_not_freed) },
+    Fault { name: "left-calls-first", entry: Entry::Judge(replace::left_calls_first) },
+    Fault { name: "left-calls-by-service", entry: Entry::Judge(replace::left_calls_by_service) },
+    Fault { name: "others-needs-unseen", entry: Entry::Judge(replace::others_needs_unseen) },
+    Fault { name: "kept-calls-unseen", entry: Entry::Judge(replace::kept_calls_unseen) },
+    Fault { name: "old-grants-kept", entry: Entry::Judge(replace::old_grants_kept) },
+    Fault { name: "nine-before-eight", entry: Entry::Judge(replace::nine_before_eight) },
+    Fault { name: "own-rows-kept", entry: Entry::Judge(replace::own_rows_kept) },
+    Fault { name: "own-rows-in-place", entry: Entry::Judge(replace::own_rows_in_place) },
+    Fault { name: "met-rows-kept", entry: Entry::Judge(replace::met_rows_kept) },
+    Fault { name: "own-grants-first", entry: Entry::Judge(replace::own_grants_first) },
+    Fault { name: "given-grants-taken", entry: Entry::Judge(replace::given_grants_taken) },
+    Fault { name: "limits-on-the-way", entry: Entry::Judge(replace::limits_on_the_way) },
+    Fault { name: "replace-loads-absent", entry: Entry::Judge(replace::loads_absent) },
+    Fault { name: "removes-and-loads", entry: Entry::Judge(replace::removes_and_loads) },
 ];
 
 /// The fault that the option `--fault` names.
@@ -332,10 +364,11 @@ fn reads_out_128(image: &[u8], number: u32, out: &mut [u8]) -> Verdict {
     Bytes(TO_255).read_out(image, number, out)
 }
 
-/// A load with a grant of a service that it does not provide contradicts itself, as before R-2.
-fn early_load_refused(image: &mut [u8], bytes: &[u8]) -> Verdict {
-    let read = record::read(Rules::IN_FORCE, bytes);
-    match read.is_ok_and(|record| contradiction(Rules::R_7, &record).is_some()) && BYTES.check(image).answer == 0 {
+/// A whole contract with a grant of a service that it does not provide contradicts itself, as before R-2.
+fn early_refused(kind: u8, image: &mut [u8], bytes: &[u8]) -> Verdict {
+    let contradicts = |record| contradiction(Rules::R_7, &record).is_some();
+    let refused = record::read(Rules::IN_FORCE, bytes).is_ok_and(contradicts) && bytes[3] == kind;
+    match refused && BYTES.check(image).answer == 0 {
         true => Verdict::new(3, 255),
         false => BYTES.judge(image, bytes),
     }
@@ -355,18 +388,37 @@ fn early_grant_refused(image: &mut [u8], bytes: &[u8]) -> Verdict {
     verdict
 }
 
-/// Judges rightly, and changes the waiting grants after an accepted record of the kind, by those before.
-fn after_kind(kind: u8, image: &mut [u8], bytes: &[u8], change: impl Fn(&[Waiting], &mut Vec<Waiting>)) -> Verdict {
-    let before = Tables::of(Rules::IN_FORCE, image);
-    let verdict = BYTES.judge(image, bytes);
-    if let (0, Some(before), Some(mut after)) = (verdict.answer, before, Tables::of(Rules::IN_FORCE, image)) {
+/// Judges rightly, and changes the tables after an accepted record of the kind, by the package's number and those before;
+/// or refuses the record after all.
+fn tables_after(
+    kind: u8,
+    image: &mut [u8],
+    bytes: &[u8],
+    change: impl FnOnce(usize, &Tables, &mut Tables) -> Result<(), u32>,
+) -> Verdict {
+    let mut own = image.to_vec();
+    let verdict = BYTES.judge(&mut own, bytes);
+    let [before, after] = [&image[..], &own].map(|image| Tables::of(IN_FORCE, image));
+    if let (0, Some(before), Some(mut after)) = (verdict.answer, before, after) {
         if bytes[3] == kind {
-            change(&before.waiting, &mut after.waiting);
+            if let Err(cause) = change(verdict.second as usize, &before, &mut after) {
+                return Verdict::new(cause, 255);
+            }
+            after.unmet.truncate(16);
             after.waiting.truncate(16);
-            image.copy_from_slice(&after.write(Rules::IN_FORCE));
+            own = after.write(IN_FORCE);
         }
     }
+    image.copy_from_slice(&own);
     verdict
+}
+
+/// Judges rightly, and changes the waiting grants after an accepted record of the kind, by those before.
+fn after_kind(kind: u8, image: &mut [u8], bytes: &[u8], change: impl Fn(&[Waiting], &mut Vec<Waiting>)) -> Verdict {
+    tables_after(kind, image, bytes, |_, before, after| {
+        change(&before.waiting, &mut after.waiting);
+        Ok(())
+    })
 }
 
 /// The grants of a service that goes are lost.

@@ -48,7 +48,7 @@ fn the_cases_find_most_faults() {
 #[test]
 fn a_history_over_the_changes_is_replayed() {
     std::panic::set_hook(Box::new(|_| {}));
-    for name in ["converts-128", "converts-backwards"] {
+    for name in ["converts-128", "converts-backwards", "kind-11-too-early"] {
         let fault = FAULTS.iter().find(|fault| fault.name() == name).expect("the fault");
         let cards: [&dyn Card; 2] = [&BYTES, fault];
         let failure = run(&cards, SEED, 20_000).err().expect("a difference");
