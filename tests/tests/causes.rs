@@ -6,7 +6,7 @@ use second::cases::{B, C, H, X};
 use second::compare::{Compare, Tally};
 use second::machine::Machine;
 use second::rules::Rules;
-use second::write::{add_service, load, record, remove, remove_service, row as written, update, Row, Tokens};
+use second::write::{add_service, load, record, remove, remove_service, replace, row as written, update, Row, Tokens};
 
 const S: Tokens = (0, 0);
 const T: Tokens = (0, 1);
@@ -46,6 +46,7 @@ fn cause_2_the_form() {
         left_over,
         record(0, &[&written(H, S)]),
         record(11, &[&written(H, S)]),
+        record(12, &[&written(H, S)]),
         record(2, &[&[5], &H[..4]]),
         record(2, &[&[0]]),
         record(1, &[&written(H, S)]),
@@ -53,6 +54,10 @@ fn cause_2_the_form() {
         load(H, &[], &unmet(73), &[], &[]),
         load(H, &[S], &[], &strangers(73), &[]),
         load(H, &[], &unmet(72), &[], &unmet(73)),
+        replace(H, &[], &unmet(73), &[], &[]),
+        replace(H, &[S], &[], &strangers(73), &[]),
+        replace(H, &[], &unmet(72), &[], &unmet(73)),
+        replace(H, &[S, T, (0, 2), (0, 3), (0, 4), (0, 5), (0, 6), (0, 7), (0, 8)], &[], &[], &[]),
         add_service(H, S, &vec![C.to_vec(); 33]),
         vec![0],
         vec![0, 3, 1],
@@ -81,6 +86,33 @@ fn the_longest_record_has_4145_bytes() {
     let longest = load(&[0xF0; 16], &services, &rows, &rows, &rows);
     assert_eq!(longest.len(), 4145);
     assert_eq!(answers(&[longest]), [9]);
+    let bare = load(&[0xF0; 16], &[], &[], &[], &[]);
+    let longest = replace(&[0xF0; 16], &services, &rows, &rows, &rows);
+    assert_eq!(longest.len(), 4145);
+    assert_eq!(answers(&[bare, longest]), [0, 9]);
+}
+
+/// The kind was not known before R-1, whatever follows it.
+#[test]
+fn kind_11_is_read_from_r_1_on() {
+    let records = [
+        replace(H, &[], &[], &[], &[]),
+        replace(H, &[S], &[row(X, S)], &[row(C, T)], &[row(X, S)]),
+        replace(H, &[S, S], &[], &[], &[]),
+    ];
+    for (record, since) in records.iter().zip([5, 5, 3]) {
+        for rules in Rules::ALL {
+            let read = rules == Rules::R_1;
+            assert_eq!(answers_by(rules, record), [if read { since } else { 2 }; 2], "{rules:?}");
+            assert_eq!(Bytes(rules).aid(record), if read { H } else { &[] });
+        }
+        assert_eq!(answers_by(Rules::R_1, &record[..record.len() - 1]), [2; 2]);
+    }
+}
+
+/// A load's record as one of kind 11.
+fn as_kind_11(load: &[u8]) -> Vec<u8> {
+    [&load[..3], &[11], &load[4..]].concat()
 }
 
 /// What the machine and the byte engine answer to a record on the empty card, each by the rules.
@@ -107,13 +139,15 @@ fn cause_2_a_method_token() {
             remove_service(H, tokens),
         ];
         records.extend((5..=10).map(|kind| update(kind, H, X, tokens)));
-        records
+        // Kind 11 as the loads.
+        let replaced: Vec<Vec<u8>> = records[..5].iter().map(|record| as_kind_11(record)).collect();
+        [records, replaced].concat()
     };
     for (interface, method) in [0, 127, 128, 255].into_iter().flat_map(|one| methods.map(|other| (one, other))) {
         for (n, record) in at((interface, method)).into_iter().enumerate() {
-            for (rules, most) in [(Rules::DOCUMENT_01, 255), (Rules::R_7, 127), (Rules::R_2, 127)] {
+            for (rules, most) in Rules::ALL.into_iter().zip([255, 127, 127, 127]) {
                 let answers = answers_by(rules, &record);
-                let read = method <= most;
+                let read = method <= most && record[3] <= rules.last_kind;
                 assert!(answers.iter().all(|answer| (*answer == 2) != read), "{n}, {interface}.{method}: {answers:?}");
                 assert_eq!(Bytes(rules).aid(&record), if read { H } else { &[] });
             }
@@ -158,6 +192,9 @@ fn cause_3_a_record_against_itself() {
         add_service(H, S, &[C.to_vec(), B.to_vec(), C.to_vec()]),
     ];
     assert_eq!(answers(&records), vec![3; records.len()]);
+    // 3 comes before 5.
+    let replaced: Vec<Vec<u8>> = records[..8].iter().map(|record| as_kind_11(record)).collect();
+    assert_eq!(answers(&replaced), [3; 8]);
     let updates: Vec<Vec<u8>> = (5..=10).map(|kind| update(kind, H, H, S)).collect();
     assert_eq!(answers(&updates), [3; 6]);
 }
@@ -168,9 +205,10 @@ fn early_grants_were_cause_3() {
     let early = [row(X, T), row(C, T)];
     for (provides, grants) in [(vec![], &early[..1]), (vec![S], &early[..]), (vec![(1, 0)], &early[1..])] {
         let record = load(H, &provides, &[], grants, &[]);
-        for (rules, answer) in [(Rules::DOCUMENT_01, 3), (Rules::R_7, 3), (Rules::R_2, 0)] {
+        for (rules, answer) in Rules::ALL.into_iter().zip([3, 3, 0, 0]) {
             assert_eq!(answers_by(rules, &record), [answer; 2], "{rules:?}");
         }
+        assert_eq!(answers(&[load(H, &[], &[], &[], &[]), as_kind_11(&record)]), [0, 0]);
     }
     for grants in [[row(X, T), row(X, T)], [row(X, T), row(H, T)]] {
         for rules in Rules::ALL {
@@ -184,7 +222,8 @@ fn causes_4_and_5_installed_or_not() {
     let mut records = vec![load(H, &[], &[], &[], &[]), load(H, &[S], &unmet(17), &[], &[])];
     records.extend([remove(C), add_service(C, S, &[]), remove_service(C, S)]);
     records.extend((5..=10).map(|kind| update(kind, C, H, S)));
-    let expected = [vec![0, 4], vec![5; 9]].concat();
+    records.push(replace(C, &[S], &unmet(17), &[], &[]));
+    let expected = [vec![0, 4], vec![5; 10]].concat();
     assert_eq!(answers(&records), expected);
     // An AID is another with a zero byte more.
     let longer = [H, &[0]].concat();
@@ -317,6 +356,35 @@ fn the_lowest_number_is_given() {
     }
 }
 
+/// Kind 11 on what it would leave: each cause with all those behind it, and then without it.
+#[test]
+fn the_lowest_number_of_kind_11() {
+    let with = |mut rows: Vec<Row>, more: Row| {
+        rows.push(more);
+        rows
+    };
+    let needed = unmet(1);
+    let card = [
+        load(H, &[S], &[], &[row(B, S)], &[]),
+        load(B, &[T], &[row(H, S)], &[], &[row(H, S)]),
+        load(C, &[], &[row(H, T)], &[], &[]),
+    ];
+    let records = [
+        // 8: its call on B, then B's on what stays, then C's on what comes.
+        replace(H, &[], &with(unmet(17), row(B, T)), &strangers(17), &needed),
+        replace(H, &[S], &unmet(17), &strangers(17), &needed),
+        replace(H, &[S, T], &unmet(17), &with(strangers(17), row(B, S)), &needed),
+        // 9: its own need, then B's.
+        replace(H, &[S], &unmet(17), &with(strangers(17), row(B, S)), &needed),
+        replace(H, &[], &unmet(17), &strangers(17), &[]),
+        // C's call on what is not there stays unmet.
+        replace(H, &[S], &unmet(16), &with(strangers(17), row(B, S)), &[]),
+        replace(H, &[S], &unmet(15), &with(strangers(17), row(B, S)), &[]),
+        replace(H, &[S], &unmet(15), &with(strangers(16), row(B, S)), &[]),
+    ];
+    assert_eq!(answers(&[&card[..], &records].concat())[3..], [8, 8, 8, 9, 9, 10, 11, 0]);
+}
+
 #[test]
 fn cause_4_before_7_on_a_full_card() {
     let aid = |n: u8| [0xF0, 0, 0, 1, n];
@@ -324,7 +392,10 @@ fn cause_4_before_7_on_a_full_card() {
     records.push(load(&aid(3), &[], &[], &[], &[]));
     // 7 before 8, 9 and 10: nothing is tried.
     records.push(load(&aid(8), &[], &unmet(17), &[], &unmet(17)));
-    assert_eq!(answers(&records)[8..], [4, 7]);
+    // Neither is for kind 11.
+    records.push(replace(&aid(3), &[], &unmet(16), &[], &[]));
+    records.push(replace(&aid(8), &[], &unmet(17), &[], &unmet(17)));
+    assert_eq!(answers(&records)[8..], [4, 7, 0, 5]);
 }
 
 #[test]

@@ -1,9 +1,9 @@
-//! The placing rules, against images written down by hand from the offsets of the paper and of R-2.
+//! The placing rules, against images written down by hand from the offsets of the paper and of R-2, also for R-1's kind 11.
 
 use second::card::{linked, Bytes, Card, Verdict, IMAGE, OLD_IMAGE};
 use second::cases::{B, C, H, X};
 use second::rules::Rules;
-use second::write::{add_service, load, remove, remove_service, update, Row, Tokens};
+use second::write::{add_service, load, remove, remove_service, replace, update, Row, Tokens};
 
 const D: &[u8] = &[0xF0, 0, 0, 0, 4, 0];
 
@@ -295,6 +295,142 @@ fn early_grants_are_read_out_behind_the_bits() {
         assert_eq!(card.read_out(&image, 0, &mut buffer), Verdict::new(0, expected.len() as u32));
         assert_eq!(buffer, expected);
     }
+}
+
+/// H, C and B with all that kind 11 touches: services that others call and need, rows of both lists, grants given early.
+fn before_a_release() -> Vec<Vec<u8>> {
+    let given = [row(C, T), row(C, U), row(B, S), row(X, S), row(X, T)];
+    vec![
+        load(H, &[S, T, U], &[row(X, (1, 1)), row(C, (5, 5))], &given, &[]),
+        load(
+            C,
+            &[(5, 5)],
+            &[row(H, T), row(H, U), row(H, (7, 7)), row(X, (1, 1))],
+            &[row(H, (5, 5)), row(H, (6, 6)), row(X, (5, 5))],
+            &[row(H, U)],
+        ),
+        load(B, &[], &[row(X, (2, 2)), row(H, S)], &[], &[]),
+    ]
+}
+
+fn release() -> Vec<u8> {
+    let calls = [row(X, (3, 3)), row(C, (5, 5)), row(X, (1, 1))];
+    let grants = [row(X, (0, 3)), row(C, U), row(C, (7, 7)), row(B, (8, 8))];
+    replace(H, &[(7, 7), (0, 3), U], &calls, &grants, &[row(C, (5, 5))])
+}
+
+/// "Services in both contracts keep theirs; dropped ones free theirs, then the others take the lowest unused in record order.
+/// The package's own list rows and rows now met leave; its unmet calls follow in record order, then other packages' calls on
+/// dropped services by caller number and service number; its waiting grants follow in record order."
+#[test]
+fn a_whole_contract_in_place_of_another() {
+    let expected = image(&[
+        (3, &[0x07]),
+        (4, &[5, 0xF0, 0, 0, 0, 1]),
+        (4 + 17, &[5, 0xF0, 0, 0, 0, 2]),
+        (4 + 34, &[5, 0xF0, 0, 0, 0, 3]),
+        // S and T gave their numbers to 7.7 and 0.3; U keeps 2.
+        (140, &[7, 7, 0, 3, 0, 2]),
+        (140 + 16, &[5, 5]),
+        (268, &[0x07, 0x01]),
+        // H calls C's service, and C calls 7.7, which came, and U.
+        (276 + 1, &[0x01]),
+        (276 + 8, &[0x05]),
+        (340 + 1, &[0x05]),
+        (340 + 8, &[0x01]),
+        (404 + 1, &[0x01]),
+        (404 + 8, &[0x04]),
+        (468, &[6]),
+        // C's and B's rows stay, H's follow, then C's call on T and B's on S.
+        (469, &[5, 0xF0, 0, 0, 0, 9]),
+        (486, &[1, 1, 1]),
+        (489, &[5, 0xF0, 0, 0, 0, 9]),
+        (506, &[2, 2, 2]),
+        (509, &[5, 0xF0, 0, 0, 0, 9]),
+        (526, &[3, 3, 0]),
+        (529, &[5, 0xF0, 0, 0, 0, 9]),
+        (546, &[1, 1, 0]),
+        (549, &[5, 0xF0, 0, 0, 0, 1]),
+        (566, &[0, 1, 1]),
+        (569, &[5, 0xF0, 0, 0, 0, 1]),
+        (586, &[0, 0, 2]),
+        (789, &[4]),
+        // C's rows stay, that to H too, and H's follow.
+        (790, &[5, 0xF0, 0, 0, 0, 1]),
+        (807, &[1, 6, 6]),
+        (810, &[5, 0xF0, 0, 0, 0, 9]),
+        (827, &[1, 5, 5]),
+        (830, &[5, 0xF0, 0, 0, 0, 9]),
+        (847, &[0, 0, 3]),
+        (850, &[5, 0xF0, 0, 0, 0, 3]),
+        (867, &[0, 8, 8]),
+    ]);
+    let replaced = after(&[before_a_release(), vec![release()]].concat());
+    assert_eq!(replaced, expected);
+    // The same again changes nothing but the order of the unmet calls: H's own go to the end.
+    let again = after(&[before_a_release(), vec![release(), release()]].concat());
+    assert_eq!(again[..468], expected[..468]);
+    assert_eq!(again[789..], expected[789..]);
+    let own = [(9, (3, 3), 0), (9, (1, 1), 0)];
+    let others = [(9, (1, 1), 1), (9, (2, 2), 2), (1, T, 1), (1, S, 2)];
+    assert_eq!(unmet(&again), [&others[..], &own].concat());
+}
+
+/// What a contract in place of another reads out as: by the numbers, and behind them the lists.
+#[test]
+fn a_whole_contract_is_read_out() {
+    let image = after(&[before_a_release(), vec![release()]].concat());
+    let calls = [row(C, (5, 5)), row(X, (3, 3)), row(X, (1, 1))];
+    let grants = [row(C, (7, 7)), row(C, U), row(X, (0, 3)), row(B, (8, 8))];
+    let expected = load(H, &[(7, 7), (0, 3), U], &calls, &grants, &[row(C, (5, 5))]);
+    for card in linked() {
+        let mut buffer = vec![0xA5; expected.len()];
+        assert_eq!(card.read_out(&image, 0, &mut buffer), Verdict::new(0, expected.len() as u32));
+        assert_eq!(buffer, expected);
+    }
+}
+
+#[test]
+fn left_calls_come_by_caller_and_the_number_that_the_service_had() {
+    let every = |aid| [U, S, T].map(|tokens| row(aid, tokens));
+    let grants = [every(C), every(B)].concat();
+    let caller = |aid| load(aid, &[], &every(H), &[], &[]);
+    let begun = [load(H, &[T, S, U], &[], &grants, &[]), caller(C), caller(B)];
+    // S stays with number 1. What comes stands first in the record, and takes the numbers of T and U.
+    let kept = [row(B, S), row(C, S)];
+    let image = after(&[&begun[..], &[replace(H, &[(9, 9), (8, 8), S], &[row(X, S)], &kept, &[])]].concat());
+    assert_eq!(unmet(&image), [(9, S, 0), (1, T, 1), (1, U, 1), (1, T, 2), (1, U, 2)]);
+    assert_eq!(image[140..148], [9, 9, 0, 0, 8, 8, 0, 0]);
+    assert_eq!((image[276 + 8], image[276 + 16]), (0x02, 0x02));
+    assert_eq!(image[340..348], [0, 0x02, 0x02, 0, 0, 0, 0, 0]);
+}
+
+/// Fewer services than before, and then more: the lowest numbers that are free, in record order.
+#[test]
+fn numbers_that_are_freed_are_taken_from_the_lowest_on() {
+    let provides = |services: &[Tokens]| replace(H, services, &[], &[], &[]);
+    let begun = [bare(H), provides(&[(1, 0), (1, 1), (1, 2), (1, 3)]), provides(&[(1, 3), (1, 1)])];
+    let image = after(&begun);
+    assert_eq!((&image[140..148], image[268]), (&[0, 0, 1, 1, 0, 0, 1, 3][..], 0x0A));
+    let image = after(&[&begun[..], &[provides(&[(2, 0), (1, 3), (2, 1), (1, 1), (2, 2)])]].concat());
+    assert_eq!((&image[140..150], image[268]), (&[2, 0, 1, 1, 2, 1, 1, 3, 2, 2][..], 0x1F));
+}
+
+/// Both lists pass 16 on the way and end at 16: nothing is written past them.
+#[test]
+fn a_whole_contract_passes_16_on_the_way() {
+    let calls = |count: u8| (0..count).map(|n| row(X, (8, n))).collect::<Vec<_>>();
+    let grants = |count: u8| (0..count).map(|n| row(X, (7, n))).collect::<Vec<_>>();
+    let image = after(&[
+        load(C, &[], &[calls(11), vec![row(H, S)]].concat(), &grants(12), &[]),
+        load(H, &[S], &calls(5), &[grants(4), vec![row(C, S)]].concat(), &[]),
+        replace(H, &[], &calls(4), &[vec![row(C, S)], grants(3)].concat(), &[]),
+    ]);
+    let rows = |count: u8, own: u8| (0..count).map(move |n| (9, (8, n), own));
+    assert_eq!(unmet(&image), rows(11, 0).chain(rows(4, 1)).chain([(1, S, 0)]).collect::<Vec<_>>());
+    let rows = |count: u8, own: u8| (0..count).map(move |n| (9, own, (7, n)));
+    assert_eq!(waiting(&image), rows(12, 0).chain([(2, 1, S)]).chain(rows(3, 1)).collect::<Vec<_>>());
+    assert_eq!((image[468], image[789]), (16, 16));
 }
 
 /// Version 01, by the rules of then: rows of 19 bytes with service numbers, which went with their service.
