@@ -1,4 +1,4 @@
-//! Records as text: the ten kinds, both ways, and every message with its place.
+//! Records as text: the eleven kinds, both ways, and every message with its place.
 
 use second::card::{Card, BYTES, IMAGE};
 use second::generate::Source;
@@ -87,7 +87,7 @@ fn a_history_is_one_text() {
     assert!(read.records.iter().map(|placed| &placed.record).eq(&records));
 }
 
-/// Layout means nothing: spaces, comments, empty lines, small digits, and the order of a load's lists.
+/// Layout means nothing: spaces, comments, empty lines, small digits, and the order of a contract's lists.
 #[test]
 fn a_loose_layout_reads_alike() {
     let mut random = Random::new(5);
@@ -95,7 +95,7 @@ fn a_loose_layout_reads_alike() {
         let Ok(record) = record::read(Rules::IN_FORCE, &bytes) else { continue };
         let text = record_text::write(&record, &Names::default());
         let mut rows: Vec<&str> = text.lines().collect();
-        if let Change::Load(_) = record.change {
+        if let Change::Load(_) | Change::Replace(_) = record.change {
             // Rows of one list keep their order.
             let first = rows.remove(0);
             let verb = |row: &&str| row.trim_start().chars().next();
@@ -123,7 +123,7 @@ fn a_loose_layout_reads_alike() {
 
 /// Each kind as it is written, and its bytes.
 #[test]
-fn the_ten_kinds_and_their_bytes() {
+fn the_eleven_kinds_and_their_bytes() {
     let load = "\
 load F000000001
     provides 3.4
@@ -149,6 +149,7 @@ load F000000001
         ("remove F000000001 grants 255.127 to F000000002\n", update("08")),
         ("add F000000001 needs F000000002 255.127\n", update("09")),
         ("remove F000000001 needs F000000002 255.127\n", update("0A")),
+        (&load.replace("load", "replace"), load_bytes.replacen("01 01", "01 0B", 1)),
     ];
     for (text, bytes) in cases {
         let record = only(text);
@@ -169,6 +170,7 @@ fn bad_texts_have_messages_with_places() {
     let cases = [
         ("lode F000000001", "line 1, column 1: 'lode' begins no line: there are load, replace, unload, add, remove and name, the rows provides, calls, grants and needs, and to"),
         ("\n  load", "line 2, column 7: the package's AID is missing"),
+        ("replace", "line 1, column 8: the package's AID is missing"),
         ("load F0000001", "line 1, column 6: an AID has 5 to 16 bytes, this one has 4"),
         (&long, "line 1, column 8: an AID has 5 to 16 bytes, this one has 17"),
         ("load F0000000001", "line 1, column 6: an AID has two digits for each byte, here are 11 digits"),
@@ -177,6 +179,8 @@ fn bad_texts_have_messages_with_places() {
         ("# x\ncalls F000000001 0.0", "line 2, column 1: 'calls' is a row of a contract, and neither load nor replace stands above it"),
         ("unload F000000001\n  needs F000000002 0.0", "line 2, column 3: 'needs' is a row of a contract, and neither load nor replace stands above it"),
         ("load F000000001\nto F000000002", "line 2, column 1: 'to' follows 'add AID provides SERVICE', and none stands above it"),
+        ("replace F000000001\nto F000000002", "line 2, column 1: 'to' follows 'add AID provides SERVICE', and none stands above it"),
+        ("replace F000000001\ncalls F000000002 0.128", "line 2, column 20: the method token is 128, not 0 to 127"),
         ("add F000000001", "line 1, column 15: provides, calls, grants or needs is missing"),
         ("add F000000001 has 0.0", "line 1, column 16: provides, calls, grants or needs is expected, not 'has'"),
         ("add F000000001 provides", "line 1, column 24: a service, as 0.1, is missing"),
@@ -201,6 +205,7 @@ fn bad_texts_have_messages_with_places() {
         ("name purse F000000001\nname purse F000000002", "line 2, column 6: the name 'purse' is given already"),
         ("name purse F000000001\nname shop F000000001", "line 2, column 6: the AID F000000001 has the name 'purse' already"),
         (&nine, "line 10, column 1: a record has at most 8 lines with 'provides'"),
+        (&nine.replace("load", "replace"), "line 10, column 1: a record has at most 8 lines with 'provides'"),
         (&calls, "line 74, column 1: a record has at most 72 lines with 'calls'"),
         (&callers, "line 34, column 1: a record has at most 32 lines with 'to'"),
     ];
@@ -256,6 +261,14 @@ fn contradictions_have_their_place() {
         (
             "load F000000001\n needs F000000001 0.0",
             "line 2, column 2: a package does not name its own AID here (a card answers 3)",
+        ),
+        (
+            "replace F000000001\n provides 0.0\n provides 0.0",
+            "line 3, column 2: this stands in its list already (a card answers 3)",
+        ),
+        (
+            "replace F000000001\n grants 0.0 to F000000002\n needs F000000002 0.0",
+            "line 3, column 2: what is needed is not among the calls (a card answers 3)",
         ),
     ];
     for (text, message) in cases {

@@ -263,6 +263,34 @@ fn grants_before_their_service() {
     assert!(text(&format!("show {image}"), "").contains("    service 0 0.0\n    grants 0.0 to F000000002\n"));
 }
 
+/// A whole contract in place of another: as a record and in an image.
+#[test]
+fn a_whole_contract() {
+    let release = "replace F000000001\n    provides 0.2\n    provides 0.0\n    grants 0.0 to F000000002\n";
+    let hex = text("encode", release);
+    assert_eq!(hex, "00 1A 01 0B 05 F0 00 00 00 01 02 00 02 00 00 00 01 05 F0 00 00 00 02 00 00 00\n");
+    assert_eq!(text("decode", &hex), release);
+    let dump = text("dump --record", &hex);
+    assert!(dump.contains("# kind 11: replace the contract\n") && dump.contains("# service 0.2\n"), "{dump}");
+    assert_eq!(text("decode", &text("encode", &(STORY.to_string() + release))), STORY.to_string() + release);
+
+    let image = file("release").display().to_string();
+    text(&format!("judge --save {image}"), STORY);
+    let refused = "replace F000000004\nreplace F000000001\n provides 0.0\nreplace F000000001\n provides 0.2\n";
+    assert_eq!(
+        text(&format!("judge --image {image}"), refused),
+        "1 replace F000000004: refused, 5: the package is not installed\n\
+         2 replace F000000001: refused, 8: a met call would stand without its grant\n\
+         3 replace F000000001: refused, 9: a need would be unmet\n"
+    );
+    assert_eq!(
+        text(&format!("judge --image {image} --save {image}"), release),
+        "1 replace F000000001: accepted, package 0\n"
+    );
+    let shown = "package 0 F000000001\n    service 0 0.0\n    service 1 0.2\n    grants 0.0 to F000000002\n";
+    assert!(text(&format!("show {image}"), "").contains(shown));
+}
+
 #[test]
 fn records_that_contradict_themselves_are_written_as_they_are_on_request() {
     let bad = "unload F000000001\nadd F000000001 needs F000000001 0.0\n";
