@@ -49,6 +49,9 @@ extern "C" {
  * The version of what this file promises. The major number goes up when a host that kept to it may have to change: parameters,
  * results, the meaning of an answer, the bytes of images and records. The minor number goes up when something is added.
  *
+ * 3.1: a record of kind 11 has a load's layout, and puts a whole contract in place of an installed package's. 3.0 gave 2 for it. Images
+ * are what they were.
+ *
  * 3.0: a grant may name a service that its package does not yet provide, and waits until caller and service are both on the card; a
  * service that is removed leaves its grants waiting. So 3 and 6 are not given for such a grant, and removing a service may get 11. An
  * image has CARD_IMAGE_SIZE = 1110 bytes and version 02, where 2.0 had 1094 and version 01: of an image of version 01 card_convert makes
@@ -58,7 +61,7 @@ extern "C" {
  * one is not sound: card_check, card_judge and card_read_out give 1. Interface tokens stay 0 to 255.
  */
 #define CARD_VERSION_MAJOR 3
-#define CARD_VERSION_MINOR 0
+#define CARD_VERSION_MINOR 1
 #define CARD_VERSION (CARD_VERSION_MAJOR * 1000 + CARD_VERSION_MINOR)
 
 /* Bytes of an image. */
@@ -91,7 +94,8 @@ enum card_answer {
                                       CARD_IMAGE_SIZE bytes */
     CARD_MALFORMED_RECORD = 2,     /* length, version, kind, count or AID length wrong, a method token of 128 or more, or bytes missing
                                       or left over */
-    CARD_CONTRADICTORY_RECORD = 3, /* a row or AID is repeated; the own AID as the other end; in a load, a need that is not called */
+    CARD_CONTRADICTORY_RECORD = 3, /* a row or AID is repeated; the own AID as the other end; in a whole contract (kinds 1 and 11), a
+                                      need that is not called */
     CARD_INSTALLED = 4,            /* load of an AID that is installed */
     CARD_NOT_INSTALLED = 5,        /* the package, or the package number to read out, is not installed */
     CARD_POINTLESS_CHANGE = 6,     /* adds what the contract has, or removes what it lacks; a need not called */
@@ -122,7 +126,7 @@ uint32_t card_convert(const uint8_t *old, size_t old_length, uint8_t *image, siz
 
 /*
  * Judges a record on an image. Accepted, the image is changed, and the second number is the package number (on removal, the one it had).
- * Refused: 1 to 11.
+ * Refused: 1 to 11; of kind 11, which puts a contract in place of another, 1, 2, 3, 5, 8, 9, 10 or 11.
  */
 uint32_t card_judge(uint8_t *image, size_t image_length, const uint8_t *record, size_t record_length);
 
