@@ -180,8 +180,8 @@ impl<'a> Compare<'a> {
         Ok(())
     }
 
-    /// Judges a record and compares all that the paper determines. Before the last change, judging is compared, and what the
-    /// engines in force make of the image, which is of an earlier version.
+    /// Judges a record and compares all that the paper determines. Before the last change, judging is compared, also on damaged
+    /// images, and what the engines in force make of an image of an earlier version.
     pub fn step(&mut self, bytes: &[u8], tally: &mut Tally) -> Result<Verdict, Difference> {
         let (held, found) = (self.machine.clone(), self.image.clone());
         let mut pairs_before = Pairs::default();

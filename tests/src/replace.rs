@@ -62,12 +62,14 @@ impl Replaced {
 
     /// What an accepted record with these services does to the package with this number, by the tables before and after it.
     pub fn of(own: Aid, provides: &[Tokens], number: usize, before: &Tables, after: &Tables) -> Vec<Replaced> {
+        // Its services.
         let (old, new) = (services(before, number), services(after, number));
         let kept = |service: &usize| old[*service].is_some() && old[*service] == new[*service];
         let dropped = |service: usize| old[service].is_some_and(|tokens| !new.contains(&Some(tokens)));
         let in_order: Vec<usize> =
             provides.iter().filter_map(|tokens| after.service(number, *tokens)).filter(kept).collect();
 
+        // What others call and need of them, and its own unmet calls.
         let own_bit = |bit: &&Bit| bit.callee == number;
         let others = |tables: &Tables, bits: &[Bit]| -> Vec<(usize, Tokens)> {
             let tokens = |bit: &Bit| tables.row(bit.callee, bit.callee, bit.service).tokens;
@@ -80,6 +82,7 @@ impl Replaced {
         let own_unmet = after.unmet.iter().filter(|row| row.caller == number);
         let unmet_come = own_unmet.clone().count() + left.len();
 
+        // Its grants, and the waiting ones of others.
         let grants = |tables: &Tables| -> Vec<Row> {
             tables.grants.iter().filter(own_bit).map(|bit| tables.row(bit.caller, number, bit.service)).collect()
         };

@@ -36,6 +36,6 @@ impl Rules {
 
     /// How often the rules have changed since these.
     pub fn changes_since(self) -> usize {
-        (0..Rules::CHANGES).find(|changes| Rules::before(*changes) == self).unwrap_or(Rules::CHANGES)
+        (0..=Rules::CHANGES).find(|changes| Rules::before(*changes) == self).expect("the rules of some time")
     }
 }

@@ -11,6 +11,7 @@ use second::program::{self, number, Failure};
 use second::replace::Replaced;
 use second::run::{replay, run, DEFAULT_RECORDS, DEFAULT_SEED};
 use second::say_line;
+use std::collections::BTreeMap;
 use std::fmt::Display;
 use std::process::ExitCode;
 use std::time::Instant;
@@ -126,11 +127,11 @@ fn report(tally: &Tally) -> String {
         tally.before,
         tally.converted,
         tally.not_converted,
-        joined(early(tally).map(|(early, seen)| format!("{early} {seen}"))),
-        joined(replaced(tally).map(|(replaced, seen)| format!("{replaced} {seen}"))),
+        joined(early(tally).into_iter().map(counted)),
+        joined(replaced(tally).into_iter().map(counted)),
         tally.too_early,
-        joined(methods(tally).map(both)),
-        joined(methods_held(tally).map(both)),
+        joined(methods(tally).into_iter().map(both)),
+        joined(methods_held(tally).into_iter().map(both)),
     )
 }
 
@@ -142,25 +143,40 @@ fn both((place, [fine, wrong]): (impl Display, [u64; 2])) -> String {
     format!("{place} {fine} and {wrong}")
 }
 
-/// How often each thing was seen that R-2 brings about.
-fn early(tally: &Tally) -> impl Iterator<Item = (Early, u64)> + '_ {
-    Early::ALL.into_iter().map(|early| (early, tally.early.get(&early).copied().unwrap_or_default()))
+/// How often each of some things was seen.
+fn seen<T: Ord, C: Copy + Default>(things: impl IntoIterator<Item = T>, counts: &BTreeMap<T, C>) -> Vec<(T, C)> {
+    let with_count = |thing| {
+        let count = counts.get(&thing).copied().unwrap_or_default();
+        (thing, count)
+    };
+    things.into_iter().map(with_count).collect()
 }
 
-/// How often each thing was seen that R-1 brings about.
-fn replaced(tally: &Tally) -> impl Iterator<Item = (Replaced, u64)> + '_ {
-    Replaced::ALL.into_iter().map(|replaced| (replaced, tally.replaced.get(&replaced).copied().unwrap_or_default()))
+fn early(tally: &Tally) -> Vec<(Early, u64)> {
+    seen(Early::ALL, &tally.early)
 }
 
-/// How often a method token of 127, and one of 128, was seen in each place of records.
-fn methods(tally: &Tally) -> impl Iterator<Item = (Place, [u64; 2])> + '_ {
-    Place::all().map(|place| (place, tally.methods.get(&place).copied().unwrap_or_default()))
+fn replaced(tally: &Tally) -> Vec<(Replaced, u64)> {
+    seen(Replaced::ALL, &tally.replaced)
 }
 
-/// How often damage set a method token to 127, and to 128, in each place of images.
-fn methods_held(tally: &Tally) -> impl Iterator<Item = (Held, [u64; 2])> + '_ {
-    let places = [Held::Provided, Held::Unmet, Held::Waiting].into_iter();
-    places.map(|place| (place, tally.methods_held.get(&place).copied().unwrap_or_default()))
+/// Method tokens of 127, and of 128, in each place of records.
+fn methods(tally: &Tally) -> Vec<(Place, [u64; 2])> {
+    seen(Place::all(), &tally.methods)
+}
+
+/// Method tokens that damage set to 127, and to 128, in each place of images.
+fn methods_held(tally: &Tally) -> Vec<(Held, [u64; 2])> {
+    seen([Held::Provided, Held::Unmet, Held::Waiting], &tally.methods_held)
+}
+
+fn counted((thing, count): (impl Display, u64)) -> String {
+    format!("{thing} {count}")
+}
+
+/// Those that were never seen.
+fn unseen(things: Vec<(impl Display, u64)>) -> String {
+    joined(things.into_iter().filter(|(_, count)| *count == 0).map(|(thing, _)| thing.to_string()))
 }
 
 /// A run as long as the default must have been everywhere.
@@ -181,19 +197,18 @@ fn everything_seen(tally: &Tally) -> Result<(), String> {
     if tally.converted == 0 || tally.not_converted == 0 {
         return Err("no image of version 01 was converted, or none was refused".to_string());
     }
-    let unseen = joined(early(tally).filter(|(_, seen)| *seen == 0).map(|(early, _)| early.to_string()));
-    if !unseen.is_empty() {
-        return Err(format!("grants before their service were never seen: {unseen}"));
-    }
-    let unseen = joined(replaced(tally).filter(|(_, seen)| *seen == 0).map(|(replaced, _)| replaced.to_string()));
-    if !unseen.is_empty() {
-        return Err(format!("whole contracts were never seen: {unseen}"));
+    for (what, unseen) in
+        [("grants before their service", unseen(early(tally))), ("whole contracts", unseen(replaced(tally)))]
+    {
+        if !unseen.is_empty() {
+            return Err(format!("{what} were never seen: {unseen}"));
+        }
     }
     if tally.too_early == 0 {
         return Err("no whole contract came before its rules".to_string());
     }
-    let on_images = methods_held(tally).map(|(place, seen)| (format!("{place} of images"), seen));
-    let places = methods(tally).map(|(place, seen)| (place.to_string(), seen)).chain(on_images);
+    let on_images = methods_held(tally).into_iter().map(|(place, seen)| (format!("{place} of images"), seen));
+    let places = methods(tally).into_iter().map(|(place, seen)| (place.to_string(), seen)).chain(on_images);
     let unseen: Vec<String> = places.filter(|(_, seen)| seen.contains(&0)).map(|(place, _)| place).collect();
     match unseen.is_empty() {
         true => Ok(()),

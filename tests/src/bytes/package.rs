@@ -15,7 +15,9 @@ pub fn load(image: &mut Image, own: &[u8], contract: &Contract) -> Result<usize,
     fits(image, number, own, contract, 0)?;
     image[USED] |= 1 << number;
     image[AIDS + AID * number..][..own.len()].copy_from_slice(own);
-    put(image, number, contract);
+    image[tokens_at(number, 0)..][..2 * contract.provides.len()].copy_from_slice(contract.provides.as_flattened());
+    image[PROVIDES + number] = ((1u16 << contract.provides.len()) - 1) as u8;
+    put_rows(image, number, contract);
     Ok(number)
 }
 
@@ -34,7 +36,12 @@ pub fn replace(image: &mut Image, number: usize, own: &[u8], contract: &Contract
     for service in bits(dropped) {
         image[tokens_at(number, service)..][..2].fill(0);
     }
-    put(image, number, contract);
+    for tokens in contract.provides {
+        if service(image, number, *tokens).is_none() {
+            open_service(image, number, *tokens);
+        }
+    }
+    put_rows(image, number, contract);
     for (caller, tokens) in left {
         Relation::Calls.append(image, caller, Row { aid: own, tokens });
     }
@@ -89,13 +96,8 @@ fn calls_on(image: &Image, number: usize, services: u8) -> impl Iterator<Item = 
     })
 }
 
-/// Writes a contract that fits. Of the package's services those may be there that it provides, and of its rows none.
-fn put(image: &mut Image, number: usize, contract: &Contract) {
-    for tokens in contract.provides {
-        if service(image, number, *tokens).is_none() {
-            open_service(image, number, *tokens);
-        }
-    }
+/// Writes the rows of a contract that fits, of a package that has its services by now, and settles what they meet.
+fn put_rows(image: &mut Image, number: usize, contract: &Contract) {
     Relation::Calls.settle(image);
     Relation::Grants.settle(image);
     for call in contract.calls {

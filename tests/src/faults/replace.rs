@@ -37,7 +37,7 @@ fn replacing(image: &[u8], bytes: &[u8]) -> Option<(Record, Lists, Machine)> {
 /// Gives the package's services other numbers.
 fn renumber(tables: &mut Tables, package: usize, number: impl Fn(Tokens) -> usize) {
     let Some(own) = &mut tables.packages[package] else { return };
-    let old = std::mem::replace(&mut own.services, [None; 8]);
+    let old = std::mem::take(&mut own.services);
     for tokens in old.into_iter().flatten() {
         own.services[number(tokens)] = Some(tokens);
     }
