@@ -39,8 +39,9 @@ impl fmt::Display for Kind {
 /// For every kind: 1 on an image that is not sound, 2 for a record that cannot be read. 12 is for
 /// reading out alone. 3 needs a second AID or a list, which kinds 2 and 4 have not. 4 is for loads
 /// and 5 for all others. 6 is for updates, kinds 3 to 10. 7 is for what takes a number, kinds 1
-/// and 3; the services of a whole contract always have one each. The card is lawful and within its limits before the change, so for 8 to 11 the change
-/// itself must be able to bring the cause about.
+/// and 3; the eight services of kind 11 at most always find theirs. The card is lawful and within
+/// its limits before the change, so for 8 to 11 the change itself must be able to bring the cause
+/// about.
 pub const POSSIBLE: [(Kind, &[u32]); 13] = [
     // A load can bring any of the four about.
     (Kind::Known(1), &[0, 1, 2, 3, 4, 7, 8, 9, 10, 11]),
