@@ -50,7 +50,7 @@ extern "C" {
  * results, the meaning of an answer, the bytes of images and records. The minor number goes up when something is added.
  *
  * 3.1: a record of kind 11 has a load's layout, and puts a whole contract in place of an installed package's. 3.0 gave 2 for it. Images
- * are what they were.
+ * are what they were. CARD_STACK_JUDGE goes from 1152 to 1536.
  *
  * 3.0: a grant may name a service that its package does not yet provide, and waits until caller and service are both on the card; a
  * service that is removed leaves its grants waiting. So 3 and 6 are not given for such a grant, and removing a service may get 11. An
@@ -80,7 +80,7 @@ extern "C" {
 #define CARD_STACK_CHECK 416
 #define CARD_STACK_EMPTY 64
 #define CARD_STACK_CONVERT 448
-#define CARD_STACK_JUDGE 1152
+#define CARD_STACK_JUDGE 1536
 #define CARD_STACK_READ_OUT 512
 #define CARD_STACK_AID 256
 
