@@ -1,4 +1,4 @@
--- A request written as a record is read as that request again, for all ten kinds.
+-- A request written as a record is read as that request again, for all eleven kinds.
 use Prim.Native.Nat.{ℕ, zero, suc, _+_, _*_, _/_, _%_, _^_, _≤_, _<_}
 use native.Mathlib.Omega.{arith}
 use native.Mathlib.Nat.{div-add-mod', div-lt-iff-lt-mul, pow-suc, zero-lt-suc}
