@@ -1,18 +1,24 @@
--- Rows and counts gathered number by number: what a loop that appends or adds has done, and how many pass. Assumes nothing.
+-- Rows, counts and masks gathered number by number: what a loop that appends, adds or sets bits has done, and how many pass. Assumes nothing.
 use Prim.Native.Nat.{ℕ, zero, suc, _+_, _*_, _-_, _≤_, _<_}
 use native.Mathlib.Omega.{arith}
 use native.Mathlib.Nat.{add-zero, zero-add, add-assoc}
 use mathlib.Core.Path.{_≡_, refl, sym, ap, ap₂, _∙_}
-use mathlib.Core.Bool.{Bool, true, false, not, cond}
+use mathlib.Core.Logic.{_⊎_, inl, inr}
+use mathlib.Core.Bool.{Bool, true, false, not, _||_, cond}
 use mathlib.Core.List.{List, [], _∷_, _++_, append-nil}
+use lib.Dec.{eqb}
 use lib.ListN.{length, length-append}
 use mir.Syntax.{w64}
 use mir.Val.{Fits}
+use borrow.Author.Tests.{eq-eqb, ne-eqb}
 use Rattle.policy.specs.Lists.{keep, flat, upto}
 use Rattle.policy.specs.ShortCheck.{count, sum}
+use Rattle.policy.specs.Tables.{rowOf, bit}
 use Rattle.policy.proofs.Sets.{flat-append, length-keep, length-from}
+use Rattle.policy.proofs.Bits.{bit-none}
+use Rattle.policy.proofs.Pieces.{in-or-off}
 use Rattle.bits.proofs.Loops.{upto-split}
-use Rattle.policy.specs.Tables.{bit}
+use Rattle.bits.proofs.Row.{bits-row}
 
 -- ---- lists
 module _ {A : Type 0} (h : ℕ → List A) where
@@ -103,3 +109,41 @@ count-le f n = let e = length-from 0 n in omega (arith, length-keep f (upto n))
 
 pub bits-low : (r q : ℕ) → q ≡ length (keep (bit r) (upto 16)) → q ≤ 16
 bits-low r q e = omega (arith, count-le (bit r) 16)
+
+-- ---- a mask of the numbers that pass, of those below k
+pub record Gathers (f : ℕ → Bool) (n k mask : ℕ) : Type 0 where
+  pub within : k ≤ n
+  pub on : (z : ℕ) → z < k → bit mask z ≡ f z
+  pub off : (z : ℕ) → k ≤ z → bit mask z ≡ false
+
+pub gathers-start : (f : ℕ → Bool) {n : ℕ} → Gathers f n 0 0
+gathers-start f = record { within = omega arith; on = λ z h. absurd (omega arith); off = λ z h. bit-none z }
+
+module _ {f : ℕ → Bool} {n k mask : ℕ} (g : Gathers f n k mask) where
+  module _ (l : k < n) (low : n ≤ 16) where
+    pub gathers-on : (r : ℕ) → r ≡ rowOf 16 (λ j. eqb j k || bit mask j) → f k ≡ true → Gathers f n (k + 1) r
+    gathers-on r e h = record { within = omega arith; on = λ z p. at z ∙ here z p (in-or-off z k); off = λ z p. at z ∙ past z (omega arith) }
+      where
+        past : (z : ℕ) → k < z → eqb z k || bit mask z ≡ false
+        past z p = ap₂ _||_ (ne-eqb z k (λ q. omega arith)) (g .off z (omega arith))
+
+        at : (z : ℕ) → bit r z ≡ eqb z k || bit mask z
+        at z = ap (λ (x : ℕ). bit x z) e ∙ bits-row 16 (λ j. eqb j k || bit mask j) (λ j p. past j (omega arith)) z
+
+        here : (z : ℕ) → z < k + 1 → (z < k) ⊎ (k ≤ z) → eqb z k || bit mask z ≡ f z
+        here z p (inl q) = ap₂ _||_ (ne-eqb z k (λ x. omega arith)) (g .on z q)
+        here z p (inr q) = let x : z ≡ k = omega arith in ap (λ (b : Bool). b || bit mask z) (eq-eqb z k x) ∙ sym (ap f x ∙ h)
+
+    pub gathers-off : f k ≡ false → Gathers f n (k + 1) mask
+    gathers-off h = record { within = omega arith; on = λ z p. here z p (in-or-off z k); off = λ z p. g .off z (omega arith) }
+      where
+        here : (z : ℕ) → z < k + 1 → (z < k) ⊎ (k ≤ z) → bit mask z ≡ f z
+        here z p (inl q) = g .on z q
+        here z p (inr q) = let x : z ≡ k = omega arith in g .off z q ∙ sym (ap f x ∙ h)
+
+  pub gathers-end : n ≤ k → ((z : ℕ) → n ≤ z → f z ≡ false) → (z : ℕ) → bit mask z ≡ f z
+  gathers-end l out z = go (in-or-off z k)
+    where
+      go : (z < k) ⊎ (k ≤ z) → bit mask z ≡ f z
+      go (inl q) = g .on z q
+      go (inr q) = g .off z q ∙ sym (out z (omega arith))

@@ -5,7 +5,8 @@ use mathlib.Core.Path.{_≡_, refl, sym, ap, ap₂, _∙_}
 use mathlib.Core.Bool.{Bool, true, false, not, _&&_, and-true, and-false}
 use mathlib.Core.List.{List, [], _∷_, _++_, append-nil}
 use lib.Dec.{eqb}
-use lib.ListN.{length, getD, take, drop, length-take, length-drop, drop-of-length-le, List·getD-append}
+use lib.ListN.{length, getD, take, drop, length-take, length-drop, drop-of-length-le, replicate, getD-replicate, List·getD-append}
+use lib.Seq.{getD-drop, getD-append-add}
 use borrow.Author.Tests.{not-true, not-false, ne-eqb}
 use Rattle.policy.specs.Lists.{eqBytes, first, upto}
 use Rattle.policy.specs.Contract.{Aid, eqAid, Tok, eqTok}
@@ -152,20 +153,40 @@ module _ (c : Card) (img : List ℕ) (h : Laid (layoutOf c) img) where
     pub tokens-read : (s : Tok) → s ≡ tokensIn img a → s ≡ decode (layoutOf c) img .tok j k
     tokens-read s e = e ∙ tokens-seen
 
-  -- the tokens of package j's services, copied to the front of old
-  pub tokens-copied : (j a e m : ℕ) → j < layoutOf c .packages → a ≡ tokAt (layoutOf c) j 0 → m ≡ layoutOf c .services * 2 → e ≡ a + m → (old : List ℕ) {new : List ℕ}
-      → new ≡ over 0 (take (e - a) (drop a img)) old → (k : ℕ) → k < layoutOf c .services → tokensIn new (k * 2) ≡ decode (layoutOf c) img .tok j k
-  tokens-copied j a e m p q d s old {new} w k l =
-      let at = token-row c j p in
-      let n : e - a ≡ m = omega arith in
-      let here : a + k * 2 ≡ tokAt (layoutOf c) j k = omega (arith, at .each k) in
-      let copied : (i : ℕ) → i < m → getD new i 0 ≡ getD img (a + i) 0 = λ i lt.
-      ap (λ (z : List ℕ). getD z i 0) (w ∙ ap (λ (x : ℕ). over 0 (take x (drop a img)) old) n)
-      ∙ List·getD-append (part a m img) (drop (0 + length (part a m img)) old) 0 i (rw (length-part a m img (omega (arith, laid-size, at .inside))) lt)
-      ∙ getD-part a m img i lt in
-      let next : a + (k * 2 + 1) ≡ a + k * 2 + 1 = omega arith in
-      (λ i. record { itf = copied (k * 2) (omega arith) i; mth = (copied (k * 2 + 1) (omega arith) ∙ ap (λ (x : ℕ). getD img x 0) next) i })
-      ∙ tokens-seen j k (a + k * 2) p l here
+  -- the tokens of package j's services, copied to the front of n zeros
+  module _ (j a e m : ℕ) (p : j < layoutOf c .packages) (q : a ≡ tokAt (layoutOf c) j 0) (d : m ≡ layoutOf c .services * 2) (s : e ≡ a + m) (n : ℕ) {new : List ℕ}
+      (w : new ≡ over 0 (take (e - a) (drop a img)) (replicate n 0)) where
+    abbrev old : List ℕ
+    old = replicate n 0
+
+    abbrev front : List ℕ
+    front = part a m img
+
+    long : length front ≡ m
+    long = length-part a m img (omega (arith, laid-size, token-row c j p .inside))
+
+    is : new ≡ front ++ drop (0 + length front) old
+    is = let z : e - a ≡ m = omega arith in w ∙ ap (λ (x : ℕ). over 0 (take x (drop a img)) old) z
+
+    tokens-in-front : (k : ℕ) → k < layoutOf c .services → tokensIn new (k * 2) ≡ decode (layoutOf c) img .tok j k
+    tokens-in-front k l =
+        let here : a + k * 2 ≡ tokAt (layoutOf c) j k = omega (arith, token-row c j p .each k) in
+        let copied : (i : ℕ) → i < m → getD new i 0 ≡ getD img (a + i) 0 = λ i lt.
+        ap (λ (z : List ℕ). getD z i 0) is ∙ List·getD-append front (drop (0 + length front) old) 0 i (rw long lt) ∙ getD-part a m img i lt in
+        let next : a + (k * 2 + 1) ≡ a + k * 2 + 1 = omega arith in
+        (λ i. record { itf = copied (k * 2) (omega arith) i; mth = (copied (k * 2 + 1) (omega arith) ∙ ap (λ (x : ℕ). getD img x 0) next) i })
+        ∙ tokens-seen j k (a + k * 2) p l here
+
+    zeros-behind : (i : ℕ) → layoutOf c .services * 2 ≤ i → i < n → getD new i 0 ≡ 0
+    zeros-behind i g l =
+        let r = i - length front in
+        let past : length front + r ≡ i = omega (arith, long) in
+        let from : 0 + length front + r ≡ i = omega (arith, long) in
+        ap₂ (λ (z : List ℕ) (x : ℕ). getD z x 0) is (sym past) ∙ getD-append-add front (drop (0 + length front) old) r 0
+        ∙ getD-drop (0 + length front) old r 0 ∙ ap (λ (x : ℕ). getD old x 0) from ∙ getD-replicate n i 0 0 l
+
+    pub tokens-copied : ((k : ℕ) → k < layoutOf c .services → tokensIn new (k * 2) ≡ decode (layoutOf c) img .tok j k) × ((i : ℕ) → layoutOf c .services * 2 ≤ i → i < n → getD new i 0 ≡ 0)
+    tokens-copied = (tokens-in-front, zeros-behind)
 
   module _ (j k row : ℕ) (s : Tok) (b : Bool) (p : j < layoutOf c .packages) (l : k < layoutOf c .services)
       (e : row ≡ rowOf (layoutOf c .services) (decode (layoutOf c) img .provides j)) (d : b ≡ bit row k) where

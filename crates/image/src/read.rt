@@ -104,11 +104,12 @@ pub fn tokens_at(img: &[u8], c: Card, j: usize, k: usize) -> Tokens
     tokens_in(img, at)
 }
 
-// The tokens of the services of package j, one after another, of those that it does not provide too.
+// The tokens of the services of package j, one after another, of those that it does not provide too; then zeros.
 pub fn token_row(img: &[u8], c: Card, j: usize) -> [u8; 32]
     requires laid { ⌜ Laid (layoutOf c) (now img) ⌝ }
     requires inside { ⌜ j < layoutOf c .packages ⌝ }
-    ensures { λ r. ⌜ ((k : ℕ) → k < layoutOf c .services → tokensIn r (k * 2) ≡ tablesOf c (now (img .entry)) .tok j k) ⌝ }
+    ensures { λ r. ⌜ ((k : ℕ) → k < layoutOf c .services → tokensIn r (k * 2) ≡ tablesOf c (now (img .entry)) .tok j k)
+        × ((i : ℕ) → layoutOf c .services * 2 ≤ i → i < 32 → getD r i 0 ≡ 0) ⌝ }
 {
     let at = geometry::tok_at(c, j, 0);
     let size = geometry::services(c) * 2;

@@ -1,9 +1,8 @@
 -- What the code that decides of a contract that comes has found, in the form in which its needs ask it: `search checks`, `tallies`, `causes` and `limited`. Assumes nothing.
-use Prim.Native.Nat.{ℕ, zero, suc, _+_, _-_, _≤_, _<_, suc-le-suc}
+use Prim.Native.Nat.{ℕ, zero, suc, _+_, _≤_, _<_, suc-le-suc}
 use native.Mathlib.Omega.{arith}
 use native.Mathlib.Nat.{add-zero, zero-add}
 use mathlib.Core.Path.{_≡_, refl, sym, ap, ap₂, _∙_, subst}
-use mathlib.Core.Logic.{_⊎_, inl, inr}
 use mathlib.Core.Bool.{Bool, true, false, not, _&&_, _||_, cond, and-false}
 use mathlib.Core.List.{List, [], _∷_}
 use mathlib.Core.Option.{Option}
@@ -26,13 +25,12 @@ use Rattle.policy.specs.ShortCheck.{count, sum, nowMet}
 use Rattle.policy.proofs.Sets.{T-eq, T-true, T-false, true-T, false-T, length-keep, below-in, in-below}
 use Rattle.geometry.specs.declared.Kept.the-variants.{UnmetCalls, WaitingGrants}
 use Rattle.policy.proofs.Bits.{bit-none}
-use Rattle.policy.proofs.Pieces.{in-or-off}
 use Rattle.policy.proofs.SoundFacts.{sound-formed}
 use Rattle.geometry.specs.declared.Table.{Table}
 use Rattle.geometry.specs.declared.Table.the-variants.{Calls, Needs}
 use Rattle.bits.proofs.Tests.{other, alike, unnamed, named-so, not-asking, asking-by}
 use Rattle.bits.proofs.Loops.{every-intro}
-use Rattle.bits.proofs.Row.{bits-row, row-bit, row-beside, bit-seen}
+use Rattle.bits.proofs.Row.{row-bit, row-beside, bit-seen}
 use Rattle.image.specs.declared.read.Place.{Place}
 use Rattle.image.specs.Laid.{tableOf}
 use Rattle.image.specs.Read.{numberOr, placeOr, maskOf}
@@ -232,44 +230,6 @@ none-called L img gs n d row ok e z =
 
     off : (k : ℕ) → k < L .services → t .provides n k ≡ false
     off k h = sym (row-bit (L .services) (t .provides n) row e k h) ∙ ap (λ (x : ℕ). bit x k) z ∙ bit-none k
-
--- ---- a mask of the numbers that pass, of those below k
-pub record Gathers (f : ℕ → Bool) (n k mask : ℕ) : Type 0 where
-  pub within : k ≤ n
-  pub on : (z : ℕ) → z < k → bit mask z ≡ f z
-  pub off : (z : ℕ) → k ≤ z → bit mask z ≡ false
-
-pub gathers-start : (f : ℕ → Bool) {n : ℕ} → Gathers f n 0 0
-gathers-start f = record { within = omega arith; on = λ z h. absurd (omega arith); off = λ z h. bit-none z }
-
-module _ {f : ℕ → Bool} {n k mask : ℕ} (g : Gathers f n k mask) where
-  module _ (l : k < n) (low : n ≤ 16) where
-    pub gathers-on : (r : ℕ) → r ≡ rowOf 16 (λ j. eqb j k || bit mask j) → f k ≡ true → Gathers f n (k + 1) r
-    gathers-on r e h = record { within = omega arith; on = λ z p. at z ∙ here z p (in-or-off z k); off = λ z p. at z ∙ past z (omega arith) }
-      where
-        past : (z : ℕ) → k < z → eqb z k || bit mask z ≡ false
-        past z p = ap₂ _||_ (ne-eqb z k (λ q. omega arith)) (g .off z (omega arith))
-
-        at : (z : ℕ) → bit r z ≡ eqb z k || bit mask z
-        at z = ap (λ (x : ℕ). bit x z) e ∙ bits-row 16 (λ j. eqb j k || bit mask j) (λ j p. past j (omega arith)) z
-
-        here : (z : ℕ) → z < k + 1 → (z < k) ⊎ (k ≤ z) → eqb z k || bit mask z ≡ f z
-        here z p (inl q) = ap₂ _||_ (ne-eqb z k (λ x. omega arith)) (g .on z q)
-        here z p (inr q) = let x : z ≡ k = omega arith in ap (λ (b : Bool). b || bit mask z) (eq-eqb z k x) ∙ sym (ap f x ∙ h)
-
-    pub gathers-off : f k ≡ false → Gathers f n (k + 1) mask
-    gathers-off h = record { within = omega arith; on = λ z p. here z p (in-or-off z k); off = λ z p. g .off z (omega arith) }
-      where
-        here : (z : ℕ) → z < k + 1 → (z < k) ⊎ (k ≤ z) → bit mask z ≡ f z
-        here z p (inl q) = g .on z q
-        here z p (inr q) = let x : z ≡ k = omega arith in g .off z q ∙ sym (ap f x ∙ h)
-
-  pub gathers-end : n ≤ k → ((z : ℕ) → n ≤ z → f z ≡ false) → (z : ℕ) → bit mask z ≡ f z
-  gathers-end l out z = go (in-or-off z k)
-    where
-      go : (z < k) ⊎ (k ≤ z) → bit mask z ≡ f z
-      go (inl q) = g .on z q
-      go (inr q) = g .off z q ∙ sym (out z (omega arith))
 
 -- ---- causes 10 and 11
 module _ (L : Layout) (t : Tables) (met due k : ℕ) (p : List Tok) (grants : List Row) (n : ℕ) (e : n ≡ roomAfter L UnmetCalls met t) where

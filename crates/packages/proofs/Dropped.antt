@@ -5,7 +5,7 @@ use mathlib.Core.Path.{_≡_, refl, sym, ap, _∙_, subst}
 use mathlib.Core.Logic.{_⊎_, inl, inr}
 use mathlib.Core.Bool.{Bool, true, false, _&&_, cond}
 use mathlib.Core.List.{List, [], _∷_, _++_}
-use lib.ListN.{length, getD, set, length-set}
+use lib.ListN.{length, getD, set, replicate, length-set, getD-replicate}
 use lib.Seq.{getD-set-same, getD-set-other}
 use Rattle.policy.specs.Lists.{upto}
 use Rattle.policy.specs.Layout.{Layout}
@@ -69,19 +69,25 @@ module _ (m : ℕ) (low : m ≤ 16) (f : ℕ → Bool) (off : (k : ℕ) → m �
       ∙ bits-row 16 (λ k. bit r k && bit mask k) (λ k h. ap (λ (b : Bool). b && bit mask k) (read-is k ∙ off k (omega arith))) k
       ∙ ap (λ (b : Bool). b && bit mask k) (read-is k)
 
--- the calls of the first i packages on services of package n are noted
+-- the calls of the first i packages on services of package n are noted, over zeros
 pub record Noted (t : Tables) (n mask size i : ℕ) (rows : List ℕ) : Type 0 where
   pub within : i ≤ size
   pub long : length rows ≡ 16
   pub is : (x : ℕ) → x < i → (k : ℕ) → bit (getD rows x 0) k ≡ t .calls x n k && bit mask k
+  pub rest : (x : ℕ) → i ≤ x → x < 16 → getD rows x 0 ≡ 0
 
 module _ {t : Tables} {n mask size : ℕ} where
-  pub noted-start : {rows : List ℕ} → length rows ≡ 16 → Noted t n mask size 0 rows
-  noted-start e = record { within = omega arith; long = e; is = λ x h. absurd (omega arith) }
+  pub noted-start : Noted t n mask size 0 (replicate 16 0)
+  noted-start = record { within = omega arith; long = refl; is = λ x h. absurd (omega arith); rest = λ x _. getD-replicate 16 x 0 0 }
 
   module _ {i : ℕ} {rows : List ℕ} (g : Noted t n mask size i rows) where
     noted-more : i < 16 → i < size → (q : ℕ) → ((k : ℕ) → bit q k ≡ t .calls i n k && bit mask k) → Noted t n mask size (i + 1) (set rows i q)
-    noted-more low lt q p = record { within = omega arith; long = length-set rows i q ∙ g .long; is = λ x h k. go x h k (in-or-off x i) }
+    noted-more low lt q p = record {
+      within = omega arith;
+      long = length-set rows i q ∙ g .long;
+      is = λ x h k. go x h k (in-or-off x i);
+      rest = λ x h l. getD-set-other rows i x q 0 (λ e. omega arith) ∙ g .rest x (omega arith) l;
+    }
       where
         go : (x : ℕ) → x < i + 1 → (k : ℕ) → (x < i) ⊎ (i ≤ x) → bit (getD (set rows i q) x 0) k ≡ t .calls x n k && bit mask k
         go x h k (inl l) = ap (λ (z : ℕ). bit z k) (getD-set-other rows i x q 0 (λ e. omega arith)) ∙ g .is x l k
@@ -96,5 +102,5 @@ module _ {t : Tables} {n mask size : ℕ} where
         noted-more (omega (arith, limits c)) lt q
         (note-is (layoutOf c .services) (limits c .services-low) (t .calls i n) (λ k h. T-false (t .calls i n k) (λ b. omega (arith, inside i n k b .2))) mask r q e p)
 
-    pub noted-end : (L : Layout) → size ≡ L .packages → size ≤ i → NotedIn L t n mask rows
-    noted-end L s h x l = g .is x (omega arith)
+    pub noted-end : (L : Layout) → size ≡ L .packages → size ≤ i → NotedIn L t n mask rows × ((x : ℕ) → L .packages ≤ x → x < 16 → getD rows x 0 ≡ 0)
+    noted-end L s h = (λ x l. g .is x (omega arith), λ x l. g .rest x (omega (arith, g .within)))

@@ -1,7 +1,7 @@
 // Kinds 1 and 11: the writes of a contract that was accepted.
 ghost use mathlib.Core.Path.{_≡_};
-ghost use Prim.Native.Nat.{_*_, _≤_, _<_};
-ghost use lib.ListN.{length};
+ghost use Prim.Native.Nat.{ℕ, _*_, _≤_, _<_};
+ghost use lib.ListN.{length, getD};
 ghost use mathlib.Core.Bool.{_&&_};
 ghost use Rattle.policy.specs.Contract.{Aid as Bytes, eqTok};
 ghost use Rattle.policy.specs.Record.{tokens};
@@ -130,11 +130,12 @@ pub fn load(img: &mut [u8], c: Card, b: Bring, aid: &[u8], rec: &[u8], l: Lists)
     bring_in(img, c, b, rec, l);
 }
 
-// Which services of package n that the mask names each package calls.
+// Which services of package n that the mask names each package calls; then zeros.
 fn note_calls(img: &[u8], c: Card, n: usize, dropped: u16) -> [u16; 16]
     requires laid { ⌜ Laid (layoutOf c) (now img) ⌝ }
     requires inside { ⌜ n < layoutOf c .packages ⌝ }
-    ensures { λ r. ⌜ NotedIn (layoutOf c) (tablesOf c (now (img .entry))) n dropped r ⌝ }
+    ensures { λ r. ⌜ NotedIn (layoutOf c) (tablesOf c (now (img .entry))) n dropped r
+        × ((i : ℕ) → layoutOf c .packages ≤ i → i < 16 → getD r i 0 ≡ 0) ⌝ }
 {
     let mut rows = [0u16; 16];
     let size = geometry::packages(c);

@@ -18,7 +18,7 @@ use Rattle.policy.proofs.Sets.{and-l, and-r, or-e, test, not-i, in-keep
 use Rattle.policy.proofs.Equal.{eqAid→, row-path, has-tok}
 use Rattle.policy.proofs.Formed.{Bits, ProvidesAt, at, RowAt, GrantAt, HasContract}
 use Rattle.policy.proofs.Found.{NumberIs, ServiceIs, ServerIs, number-is, service-is, server-is}
-use Rattle.policy.proofs.Facts.{provides-kept, need-bits}
+use Rattle.policy.proofs.Facts.{provides-kept, row-cases, need-bits}
 use Rattle.policy.proofs.Dropped.{in-left-by}
 use Rattle.policy.proofs.BroughtNames.{Coming, on, dropped, gone, nowMet, waitedFor, unmetStill, waitsStill, leftOff, bothThere, waitsNew, broughtAt, Brought, brought, tok-in, in-tok, service-kept}
 use Rattle.policy.proofs.BroughtBits.{Named, CallIs, GrantIs, NeedIs, call-is, grant-is, need-is}
@@ -43,18 +43,16 @@ module _ (L : Layout) (t : Tables) (m : ℕ) (k : Contract) (now : Services) (ne
   -- ---- the contract's calls and needs: a bit where the service is on the card, else a row
   rows-new : (rs : List Row) (b : ℕ → ℕ → ℕ → Bool) (us : List Unmet) → ((y z : ℕ) → T (b m y z) ↔ Named L t m k now rs y z)
       → ((r : Row) → In (callRow m r) (leftOff L t m k now rs) → In (callRow m r) us) → ((r : Row) → In (callRow m r) us → In r rs) → (r : Row) → In r rs ↔ RowAt after b us m r
-  rows-new rs b us bits rows own r =
-      ((λ i. to i (serverOf L names r) (server-is L names (names-on L t m k now new valid) r) (λ s. rows r (in-map (callRow m) (in-keep (notServedOn L names) i s)))), back)
+  rows-new rs b us bits rows own r = (
+    (λ i. to i (serverOf L names r) (server-is L names (names-on L t m k now new valid) r) (λ s. rows r (in-map (callRow m) (in-keep (notServedOn L names) i s)))),
+    row-cases (λ y z h e. in-cast e (bits y z .0 h .1)) (own r),
+  )
     where
       to : In r rs → (o : Option Place) → ServerIs names r o → (T (not (isSome o)) → In (callRow m r) us) → RowAt after b us m r
       to i none h f = RowAt.row (f tt)
       to i (some p) h f =
           let e : serviceAt names (p .callee) (p .service) ≡ r = row-path (h .1) (h .2) in
           RowAt.bit (p .callee) (p .service) (bits (p .callee) (p .service) .1 (h .0, in-cast e i)) (sym e)
-
-      back : RowAt after b us m r → In r rs
-      back (RowAt.bit y z h e) = in-cast e (bits y z .0 h .1)
-      back (RowAt.row i) = own r i
 
   -- a row of number m is one of the contract's
   row-of : {r s : Row} → callRow m r ≡ callRow m s → r ≡ s
@@ -144,8 +142,19 @@ module _ (L : Layout) (t : Tables) (m : ℕ) (k : Contract) (now : Services) (ne
               in-bit q = subst (λ (x : ℕ). T (b n x z)) q h
           go (inr g) = RowAt.bit y z (stays y z g h) (e ∙ sym (service-kept L t m k now new y z (bits .of-prov n y z h) g .1))
 
+    -- a row that a bit on a service of m left was that bit
+    left-bit : (r : Row) (b : ℕ → ℕ → ℕ → Bool) (us : List Unmet) (x z : ℕ) → T (b x m z) → callRow n r ≡ callRow x (serviceAt t m z) → RowAt t b us n r
+    left-bit r b us x z h e = RowAt.bit m z (subst (λ (i : ℕ). T (b i m z)) (sym (ap (λ (v : Unmet). v .caller) e)) h) (ap (λ (v : Unmet). wanted v) e)
+
     pub calls-old : (r : Row) → RowAt t (t .calls) (t .unmet) n r ↔ RowAt after (after .calls) (after .unmet) n r
-    calls-old r = (to, back)
+    calls-old r = (
+      row-cases (bit-turns (t .calls) (after .calls) (new .formed .calls) (after .unmet) (λ y z g h. call-is L t m k now n y z .1 (CallIs.old n-ne g h))
+          (λ v i. in-right (keep (unmetStill L t m k now) (t .unmet)) (in-right (leftOff L t m k now (k .calls)) i)) r)
+          (λ i. turns i (test (nowMet L t m k now (callRow n r)))),
+      row-cases (λ y z h e. bits y z e (call-is L t m k now n y z .0 h))
+          (λ i. each-unmet L t m k now new valid (λ (v : Unmet). callRow n r ≡ v → RowAt t (t .calls) (t .unmet) n r)
+          (λ v j s e. RowAt.row (in-cast e j)) (λ s j q e. absurd (n-ne (ap (λ (v : Unmet). v .caller) e))) (λ x z h d. left-bit r (t .calls) (t .unmet) x z h) (callRow n r) i refl),
+    )
       where
         turns : In (callRow n r) (t .unmet) → T (nowMet L t m k now (callRow n r)) ⊎ (T (nowMet L t m k now (callRow n r)) → ⊥) → RowAt after (after .calls) (after .unmet) n r
         turns i (inl s) =
@@ -160,24 +169,10 @@ module _ (L : Layout) (t : Tables) (m : ℕ) (k : Contract) (now : Services) (ne
             neither (inl x) = n-ne (eqb→eq n m x)
             neither (inr x) = h x
 
-        to : RowAt t (t .calls) (t .unmet) n r → RowAt after (after .calls) (after .unmet) n r
-        to (RowAt.bit y z h e) = bit-turns (t .calls) (after .calls) (new .formed .calls) (after .unmet) (λ y z g h. call-is L t m k now n y z .1 (CallIs.old n-ne g h))
-            (λ v i. in-right (keep (unmetStill L t m k now) (t .unmet)) (in-right (leftOff L t m k now (k .calls)) i)) r y z h e
-        to (RowAt.row i) = turns i (test (nowMet L t m k now (callRow n r)))
-
         bits : (y z : ℕ) → r ≡ serviceAt names y z → CallIs L t m k now n y z → RowAt t (t .calls) (t .unmet) n r
         bits y z e (CallIs.own q h) = absurd (n-ne q)
         bits y z e (CallIs.met _ q p i) = RowAt.row (in-cast (ap (callRow n) (e ∙ ap (λ (j : ℕ). serviceAt names j z) q)) i)
         bits y z e (CallIs.old _ g h) = RowAt.bit y z h (e ∙ service-kept L t m k now new y z (new .formed .calls .of-prov n y z h) g .1)
-
-        back : RowAt after (after .calls) (after .unmet) n r → RowAt t (t .calls) (t .unmet) n r
-        back (RowAt.bit y z h e) = bits y z e (call-is L t m k now n y z .0 h)
-        back (RowAt.row i) = each-unmet L t m k now new valid (λ (v : Unmet). callRow n r ≡ v → RowAt t (t .calls) (t .unmet) n r)
-            (λ v j s e. RowAt.row (in-cast e j)) (λ s j q e. absurd (n-ne (ap (λ (v : Unmet). v .caller) e)))
-            (λ x z h d e. left-bit (t .calls) (t .unmet) x z h e) (callRow n r) i refl
-          where
-            left-bit : (b : ℕ → ℕ → ℕ → Bool) (us : List Unmet) (x z : ℕ) → T (b x m z) → callRow n r ≡ callRow x (serviceAt t m z) → RowAt t b us n r
-            left-bit b us x z h e = RowAt.bit m z (subst (λ (i : ℕ). T (b i m z)) (sym (ap (λ (v : Unmet). v .caller) e)) h) (ap (λ (v : Unmet). wanted v) e)
 
     pub grants-old : (r : Row) → GrantAt t n r ↔ GrantAt after n r
     grants-old r = (to, back)
@@ -215,25 +210,20 @@ module _ (L : Layout) (t : Tables) (m : ℕ) (k : Contract) (now : Services) (ne
             (each-waiting L t m k now new valid (λ (w : Waiting). (w .callee ≡ m → ⊥) → In w (t .waiting)) (λ w j s h. j) (λ s j q h. absurd (h refl)) (grantRow n r) i n-ne)
 
     pub needs-old : (r : Row) → RowAt t (t .needs) [] n r ↔ RowAt after (after .needs) lost n r
-    needs-old r = (to, back)
+    needs-old r = (
+      row-cases (bit-turns (t .needs) (after .needs) nb lost (λ y z g h. need-is L t m k now n y z .1 (NeedIs.old n-ne g h)) (λ v i. in-right (leftOff L t m k now (k .needs)) i) r)
+          (λ i. absurd (in-nil i)),
+      row-cases (λ y z h e. bits y z e (need-is L t m k now n y z .0 h))
+          (λ i. each-lost L t m k now new valid (t .needs) nb (λ (v : Unmet). callRow n r ≡ v → RowAt t (t .needs) [] n r) (k .needs)
+          (λ s j q e. absurd (n-ne (ap (λ (v : Unmet). v .caller) e))) (λ x z h d. left-bit r (t .needs) [] x z h) (callRow n r) i refl),
+    )
       where
         nb : Bits (t .used) (t .provides) (t .needs)
         nb = need-bits L t (new .formed)
 
-        to : RowAt t (t .needs) [] n r → RowAt after (after .needs) lost n r
-        to (RowAt.bit y z h e) = bit-turns (t .needs) (after .needs) nb lost (λ y z g h. need-is L t m k now n y z .1 (NeedIs.old n-ne g h))
-            (λ v i. in-right (leftOff L t m k now (k .needs)) i) r y z h e
-        to (RowAt.row i) = absurd (in-nil i)
-
         bits : (y z : ℕ) → r ≡ serviceAt names y z → NeedIs L t m k now n y z → RowAt t (t .needs) [] n r
         bits y z e (NeedIs.own q h) = absurd (n-ne q)
         bits y z e (NeedIs.old _ g h) = RowAt.bit y z h (e ∙ service-kept L t m k now new y z (nb .of-prov n y z h) g .1)
-
-        back : RowAt after (after .needs) lost n r → RowAt t (t .needs) [] n r
-        back (RowAt.bit y z h e) = bits y z e (need-is L t m k now n y z .0 h)
-        back (RowAt.row i) = each-lost L t m k now new valid (t .needs) nb (λ (v : Unmet). callRow n r ≡ v → RowAt t (t .needs) [] n r) (k .needs)
-            (λ s j q e. absurd (n-ne (ap (λ (v : Unmet). v .caller) e)))
-            (λ x z h d e. RowAt.bit m z (subst (λ (i : ℕ). T (t .needs i m z)) (sym (ap (λ (v : Unmet). v .caller) e)) h) (ap (λ (v : Unmet). wanted v) e)) (callRow n r) i refl
 
     pub has-old : (c : Contract) → HasContract t [] n c → HasContract after lost n c
     has-old c h = record {

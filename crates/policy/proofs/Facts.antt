@@ -10,7 +10,7 @@ use Rattle.policy.specs.Contract.{Aid, eqAid, Tok, Row, Contract, under}
 use Rattle.policy.specs.Layout.{Layout}
 use Rattle.policy.specs.Tables.{Tables, Unmet}
 use Rattle.policy.specs.Lookup.{serviceAt}
-use Rattle.policy.specs.Draft.{grantRow}
+use Rattle.policy.specs.Draft.{callRow, grantRow}
 use Rattle.policy.proofs.Sets.{and-l, and-r, and-i, exists-in, in-exists}
 use Rattle.policy.proofs.Equal.{eqAid→, eqAid-of}
 use Rattle.policy.proofs.EveryBit.{BitIn, among, among-to, among-back}
@@ -18,6 +18,12 @@ use Rattle.policy.proofs.Formed.{Names, Bits, Off, grantBit, Formed, La
 
 pub no-rows : (t : Tables) → Off (t .used) (t .aid) (t .tok) (t .provides) []
 no-rows t = record { off-used = λ u m. absurd (in-nil m); off-card = λ u m. absurd (in-nil m) }
+
+-- what follows of a call or need as a bit and as a row
+pub row-cases : {t : Tables} {b : ℕ → ℕ → ℕ → Bool} {l : List Unmet} {n : ℕ} {r : Row} {P : Type 0}
+    → ((j k : ℕ) → T (b n j k) → r ≡ serviceAt t j k → P) → (In (callRow n r) l → P) → RowAt t b l n r → P
+row-cases f g (bit j k h e) = f j k h e
+row-cases f g (row m) = g m
 
 -- ---- package n provides, calls or needs the same where its services stay
 module _ (t t′ : Tables) (n : ℕ) where
@@ -32,15 +38,7 @@ module _ (t t′ : Tables) (n : ℕ) where
       back (at k p e) = at k (g k p) (e ∙ sym (same k))
 
   pub row-kept : (b : ℕ → ℕ → ℕ → Bool) (l : List Unmet) → ((j k : ℕ) → T (b n j k) → serviceAt t j k ≡ serviceAt t′ j k) → (r : Row) → RowAt t b l n r ↔ RowAt t′ b l n r
-  row-kept b l same r = (to, back)
-    where
-      to : RowAt t b l n r → RowAt t′ b l n r
-      to (bit j k h e) = bit j k h (e ∙ same j k h)
-      to (row m) = row m
-
-      back : RowAt t′ b l n r → RowAt t b l n r
-      back (bit j k h e) = bit j k h (e ∙ sym (same j k h))
-      back (row m) = row m
+  row-kept b l same r = (row-cases (λ j k h e. bit j k h (e ∙ same j k h)) row, row-cases (λ j k h e. bit j k h (e ∙ sym (same j k h))) row)
 
 -- ---- some of the bits
 pub bits-sub : {used : ℕ → Bool} {provides : ℕ → ℕ → Bool} {b b′ : ℕ → ℕ → ℕ → Bool} → Bits used provides b → ((i j k : ℕ) → T (b′ i j k) → T (b i j k)) → Bits used provides b′

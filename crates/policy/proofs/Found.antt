@@ -5,7 +5,7 @@ use mathlib.Core.Path.{_≡_, refl, sym, ap, _∙_, subst}
 use mathlib.Core.Bool.{Bool, true, false, not, _&&_, cond}
 use mathlib.Core.Option.{Option, none, some}
 use lib.Dec.{T}
-use Rattle.policy.specs.Lists.{first, from, upto, orElse}
+use Rattle.policy.specs.Lists.{first, from, upto, isSome, orElse}
 use Rattle.policy.specs.Contract.{Aid, eqAid, Tok, eqTok, Row}
 use Rattle.policy.specs.Layout.{Layout}
 use Rattle.policy.specs.Tables.{Tables}
@@ -85,6 +85,21 @@ module _ (L : Layout) (t : Tables) where
         go : (o : Option ℕ) → Found (λ k. t .provides j k && eqTok (t .tok j k) s) (places L) o → ServiceIs t j s o
         go none h = λ k u e. h k (in-upto (L .services) k (names .prov-lt j k u)) (and-i (t .provides j k) (eqTok (t .tok j k) s) u (eqTok-of e))
         go (some k) h = (and-l (t .provides j k) (eqTok (t .tok j k) s) (h .1), eqTok→ (t .tok j k) s (and-r (t .provides j k) (eqTok (t .tok j k) s) (h .1)))
+
+    -- a service that is provided is found, and one that is found is provided
+    pub provided-found : (j : ℕ) (s : Tok) (k : ℕ) → T (t .provides j k) → t .tok j k ≡ s → T (isSome (serviceOf L t j s))
+    provided-found j s k p e = go (serviceOf L t j s) (service-is j s)
+      where
+        go : (o : Option ℕ) → ServiceIs t j s o → T (isSome o)
+        go none h = h k p e
+        go (some i) h = tt
+
+    pub found-provided : (j : ℕ) (s : Tok) → T (isSome (serviceOf L t j s)) → (k : ℕ) × T (t .provides j k) × (t .tok j k ≡ s)
+    found-provided j s = go (serviceOf L t j s) (service-is j s)
+      where
+        go : (o : Option ℕ) → ServiceIs t j s o → T (isSome o) → (k : ℕ) × T (t .provides j k) × (t .tok j k ≡ s)
+        go none h q = absurd q
+        go (some k) h q = (k, h .0, h .1)
 
     pub server-is : (r : Row) → ServerIs t r (serverOf L t r)
     unfolding serverOf

@@ -22,7 +22,7 @@ use Rattle.policy.proofs.Equal.{eqAid→, eqAid-refl, eqAid-of, eqb-of,
 use Rattle.policy.proofs.Put.{NewPlace, new-place, orNew, OldOrNew, old-or-new}
 use Rattle.policy.proofs.Formed.{Names, Bits, grantBit, Formed, ProvidesAt, at, RowAt, bit, row, GrantAt, Stands, Turns, KindTurns}
 use Rattle.policy.proofs.Found.{NumberIs, number-is}
-use Rattle.policy.proofs.Facts.{no-rows, row-kept, need-bits}
+use Rattle.policy.proofs.Facts.{no-rows, row-cases, row-kept, need-bits}
 use Rattle.policy.proofs.Reach.{reach-3}
 use Rattle.policy.proofs.Alter.{More, turned-same, turned-union, turned-one, stands-turned}
 
@@ -293,7 +293,11 @@ module _ (L : Layout) (t : Tables) (f : Formed L t) (j k : ℕ) (uj : T (t .used
           rw (p .0, q .2) (new (q .0) (q .1) (numberOf L t (q .0)) (number-is L t (f .names) (q .0)) refl)
 
   calls-as : (n : ℕ) (r : Row) → RowAt t (t .calls) (t .unmet) n r ↔ RowAt after (after .calls) (after .unmet) n r
-  calls-as n r = (there, back)
+  calls-as n r = (
+    row-cases (λ y z b e. bit y z (old-or-new j k (t .calls) asked n y z .1 (inl b)) (e ∙ sym (service-as y z (f .calls .of-prov n y z b))))
+        (λ m. met m (test (asksFor L t (t .aid j) s (callRow n r)))),
+    row-cases (λ y z b e. was y z e (old-or-new j k (t .calls) asked n y z .0 b)) (λ m. row (was-unmet (callRow n r) m .0)),
+  )
     where
       -- an unmet call on the new service is a bit now
       met : In (callRow n r) (t .unmet) → T (asksFor L t (t .aid j) s (callRow n r)) ⊎ (T (asksFor L t (t .aid j) s (callRow n r)) → ⊥) → RowAt after (after .calls) (after .unmet) n r
@@ -305,20 +309,12 @@ module _ (L : Layout) (t : Tables) (f : Formed L t) (j k : ℕ) (uj : T (t .used
           bit j k (old-or-new j k (t .calls) asked n j k .1 (inr (refl, refl, h))) (row-path ea e)
       met m (inr h) = row (in-keep (λ v. not (asksFor L t (t .aid j) s v)) m (not-i (asksFor L t (t .aid j) s (callRow n r)) h))
 
-      there : RowAt t (t .calls) (t .unmet) n r → RowAt after (after .calls) (after .unmet) n r
-      there (bit y z b e) = bit y z (old-or-new j k (t .calls) asked n y z .1 (inl b)) (e ∙ sym (service-as y z (f .calls .of-prov n y z b)))
-      there (row m) = met m (test (asksFor L t (t .aid j) s (callRow n r)))
-
       was : (y z : ℕ) → r ≡ serviceAt after y z → OldOrNew j k (t .calls) asked n y z → RowAt t (t .calls) (t .unmet) n r
       was y z e (inl b) = bit y z b (e ∙ service-as y z (f .calls .of-prov n y z b))
       was y z e (inr h) =
           let es : r .tok ≡ s = ap (λ (v : Row). v .tok) e ∙ tok-new y z (h .0) (h .1) in
           let ea : r .aid ≡ t .aid j = ap (λ (v : Row). v .aid) e ∙ ap (t .aid) (h .0) in
           row (in-cast (λ i. record { callee = ea i; tok = es i; caller = n }) (was-asked n (h .2)))
-
-      back : RowAt after (after .calls) (after .unmet) n r → RowAt t (t .calls) (t .unmet) n r
-      back (bit y z b e) = was y z e (old-or-new j k (t .calls) asked n y z .0 b)
-      back (row m) = row (was-unmet (callRow n r) m .0)
 
   needs-as : (n : ℕ) (r : Row) → RowAt t (t .needs) [] n r ↔ RowAt after (t .needs) [] n r
   needs-as n = row-kept t after n (t .needs) [] (λ y z h. sym (service-as y z (need-bits L t f .of-prov n y z h)))

@@ -1,11 +1,9 @@
 -- Kind 11 (whole contract): a contract comes to the number that its package has; the package has that contract, and the others keep theirs.
 use Prim.Native.Nat.{ℕ, _≤_}
-use mathlib.Core.Path.{_≡_, refl, sym, _∙_, subst}
-use mathlib.Core.Logic.{_⊎_, inl, inr}
-use mathlib.Core.Bool.{Bool, true, not, _&&_, _||_, cond}
+use mathlib.Core.Path.{_≡_, refl, sym, ap, _∙_, subst}
+use mathlib.Core.Bool.{Bool, true, not, _&&_, _||_, cond, or-false}
 use mathlib.Core.List.{List, [], _++_, map}
 use mathlib.Core.List.{List·Memᴰ as In}
-use mathlib.Core.Option.{Option, none, some}
 use lib.Dec.{T, eqb}
 use lib.ListN.{length}
 use Rattle.policy.specs.Lists.{keep, isSome}
@@ -19,17 +17,29 @@ use Rattle.policy.specs.Lookup.{serviceAt, serviceOf}
 use Rattle.policy.specs.Draft.{Draft, Look, Services, callRow, grantRow, hasUnmet, hasWaiting, namedOn, notServedOn, put, leftBy, newServices, replacedNames, replaceWith, draft}
 use Rattle.policy.specs.Judge.{tableCauses}
 use Rattle.policy.specs.ShortCheck.{shortReplace, shortLook}
-use Rattle.policy.proofs.Sets.{T-eq, T-true, and-l, and-r, or-l, or-e, keep-ext}
+use Rattle.policy.proofs.Sets.{T-true, T-false, and-l, and-r, keep-ext}
 use Rattle.policy.proofs.Equal.{eqAid→, has-waiting}
 use Rattle.policy.proofs.Put.{at-new, at-old, by-number}
 use Rattle.policy.proofs.Formed.{Formed, Stands, Turns, KindTurns}
-use Rattle.policy.proofs.Found.{ServiceIs, service-is}
+use Rattle.policy.proofs.Found.{found-provided}
 use Rattle.policy.proofs.Reach.{reach-11}
 use Rattle.policy.proofs.Alter.{turned-to, stands-turned}
 use Rattle.policy.proofs.BroughtNames.{lists-of, Coming, on, dropped, gone, waitedFor, unmetStill, waitsNew, waitedBit, grantedBit, broughtAt}
 use Rattle.policy.proofs.BroughtFormed.{brought-formed, brought-lost}
 use Rattle.policy.proofs.BroughtStands.{has-new, provides-old, calls-old, grants-old, needs-old}
 use Rattle.policy.proofs.PlacedServices.{placed-new}
+
+pub or-never : (a b : Bool) → (T b → ⊥) → a ≡ (a || b)
+or-never a b h = sym (ap (λ (x : Bool). a || x) (T-false b h) ∙ or-false a)
+
+-- no grant to a package that is on the card waits for it alone
+pub none-waited : (L : Layout) (t : Tables) (n : ℕ) (c : Contract) → Formed L t → T (t .used n) → t .aid n ≡ c .aid
+    → (w : Waiting) → In w (t .waiting) → T (eqAid (w .caller) (c .aid) && isSome (serviceOf L t (w .callee) (w .tok))) → ⊥
+none-waited L t n c f un an w m h =
+    let a = eqAid (w .caller) (c .aid) in
+    let o = isSome (serviceOf L t (w .callee) (w .tok)) in
+    let q = found-provided L t (f .names) (w .callee) (w .tok) (and-r a o h) in
+    f .waiting .wait-off w m n (q .0) un (an ∙ sym (eqAid→ (w .caller) (c .aid) (and-l a o h))) (q .1) (q .2)
 
 module _ (L : Layout) (t : Tables) (n : ℕ) (c : Contract) (now : Services) (formed : Formed L t) (un : T (t .used n)) (an : t .aid n ≡ c .aid) where
   same-used : (x : ℕ) → t .used x ≡ put n true (t .used) x
@@ -58,21 +68,6 @@ module _ (L : Layout) (t : Tables) (n : ℕ) (c : Contract) (now : Services) (fo
       let p = and-l (t .provides x z) (hasWaiting w (t .waiting)) h in
       formed .waiting .wait-off w (has-waiting w (t .waiting) (and-r (t .provides x z) (hasWaiting w (t .waiting)) h)) n z un an p refl
 
-  pub none-waited : (w : Waiting) → In w (t .waiting) → T (waitedFor L t n c now w) → ⊥
-  none-waited w m h = go (serviceOf L t (w .callee) (w .tok)) (service-is L t (formed .names) (w .callee) (w .tok)) (and-r (eqAid (w .caller) (c .aid)) (isSome (serviceOf L t (w .callee) (w .tok))) h)
-    where
-      go : (o : Option ℕ) → ServiceIs t (w .callee) (w .tok) o → T (isSome o) → ⊥
-      go none s x = x
-      go (some z) s x = formed .waiting .wait-off w m n z un
-          (an ∙ sym (eqAid→ (w .caller) (c .aid) (and-l (eqAid (w .caller) (c .aid)) (isSome (serviceOf L t (w .callee) (w .tok))) h))) (s .0) (s .1)
-
-  pub or-never : (a b : Bool) → (T b → ⊥) → a ≡ (a || b)
-  or-never a b h = T-eq a (a || b) (or-l a b) (λ x. go (or-e a b x))
-    where
-      go : T a ⊎ T b → T a
-      go (inl y) = y
-      go (inr y) = absurd (h y)
-
   pub replace-is : replaceWith L t n c now ≡ broughtAt L t n c now
   replace-is = λ i. record {
     tables = record {
@@ -88,7 +83,7 @@ module _ (L : Layout) (t : Tables) (n : ℕ) (c : Contract) (now : Services) (fo
       unmet = keep (unmetStill L t n c now) (t .unmet)
           ++ (map (callRow n) (keep (notServedOn L (names-are i)) (c .calls)) ++ leftBy L t (t .calls) n (dropped L t n c now));
       waiting = keep-ext (λ w. not (eqb (w .callee) n)) (λ w. not (eqb (w .callee) n || waitedFor L t n c now w)) (t .waiting)
-          (λ w m x. not (or-never (eqb (w .callee) n) (waitedFor L t n c now w) (none-waited w m) x)) i
+          (λ w m x. not (or-never (eqb (w .callee) n) (waitedFor L t n c now w) (none-waited L t n c formed un an w m) x)) i
           ++ map (grantRow n) (keep (waitsNew L t n c now) (c .grants));
     };
     lost = map (callRow n) (keep (notServedOn L (names-are i)) (c .needs)) ++ leftBy L t (t .needs) n (dropped L t n c now);
@@ -99,19 +94,23 @@ module _ (L : Layout) (t : Tables) (a : Aid) (p : List Tok) (c g n : List Row) w
   abbrev contract : Contract
   contract = record { aid = a; provides = p; calls = c; grants = g; needs = n }
 
+  -- the contract comes to the number of its package
+  pub renewal : Formed L t → length p ≤ L .services → T (proper L a (replace p c g n)) → (i : ℕ) → T (t .used i) → t .aid i ≡ a → Coming L t i contract (newServices L t i contract)
+  unfolding proper
+  renewal f fit pr i u e = record {
+    formed = f;
+    number-lt = f .names .used-lt i u;
+    own-aid = λ _. e;
+    only = λ x v q. f .names .aid-inj x i v u (q ∙ sym e);
+    lists = lists-of L a p c g n pr;
+    placed = placed-new L t i contract f fit;
+  }
+
   pub replace-reached : (P : Draft → Look → Type 0) → Formed L t → length p ≤ L .services → T (proper L a (replace p c g n))
       → ((i : ℕ) → T (t .used i) → t .aid i ≡ a → Coming L t i contract (newServices L t i contract) → P (broughtAt L t i contract (newServices L t i contract)) (shortReplace L t i contract))
       → answer (tableCauses L t a (replace p c g n)) ≡ 0 → P (draft L t a (replace p c g n)) (shortLook L t a (replace p c g n))
-  unfolding proper
   replace-reached P f fit pr h = reach-11 L t f a P p c g n (λ i u e.
-      subst (λ (d : Draft). P d (shortReplace L t i contract)) (sym (replace-is L t i contract (newServices L t i contract) f u e)) (h i u e (record {
-        formed = f;
-        number-lt = f .names .used-lt i u;
-        own-aid = λ _. e;
-        only = λ x v q. f .names .aid-inj x i v u (q ∙ sym e);
-        lists = lists-of L a p c g n pr;
-        placed = placed-new L t i contract f fit;
-      })))
+      subst (λ (d : Draft). P d (shortReplace L t i contract)) (sym (replace-is L t i contract (newServices L t i contract) f u e)) (h i u e (renewal f fit pr i u e)))
 
 module _ (L : Layout) (t : Tables) (m : ℕ) (k : Contract) (now : Services) (new : Coming L t m k now) (valid : T (validAid (k .aid))) (um : T (t .used m)) where
   replace-stands : (cs : List Contract) → Stands t [] cs

@@ -14,13 +14,13 @@ use Rattle.policy.specs.Layout.{Layout}
 use Rattle.policy.specs.Record.{load, replace}
 use Rattle.policy.specs.Tables.{Tables, Unmet, Waiting}
 use Rattle.policy.specs.Lookup.{Place, serviceAt, numbers, places, numberOf, serviceOf, serverOf}
-use Rattle.policy.specs.Draft.{Draft, Services, callRow, grantRow, hasWaiting, notServedOn, leftBy, newServices, loadAt, look}
+use Rattle.policy.specs.Draft.{Draft, Services, callRow, grantRow, hasWaiting, notServedOn, leftBy, droppedBy, newServices, loadAt, look}
 use Rattle.policy.specs.ShortCheck.{count, newcomerRights, nowMet, othersRights, shortLoad, ownRights, keptRights, othersNeeds, shortReplace}
 use Rattle.policy.proofs.Sets.{T-eq, T-true, T-false, and-l, and-r, and-i, or-l, or-r, or-e, implies-i, implies-e, not-i, not-e, every-in, in-every, keep-ext, in-upto}
 use Rattle.policy.proofs.Equal.{eqAid→, eqAid-of, row-path, has-tok, tok-has, has-row, row-has, has-waiting, waiting-has}
 use Rattle.policy.proofs.Put.{by-number}
 use Rattle.policy.proofs.EveryBit.{BitIn, among, among-to, among-back}
-use Rattle.policy.proofs.Formed.{grantBit, Lawful, KindShort}
+use Rattle.policy.proofs.Formed.{grantBit, Formed, Lawful, KindShort}
 use Rattle.policy.proofs.Found.{NumberIs, ServerIs, number-is, server-is, same-place}
 use Rattle.policy.proofs.Facts.{place-in, bit-in}
 use Rattle.policy.proofs.BroughtNames.{Coming, on, dropped, gone, unmetStill, waitsStill, waitedFor, waitsNew, leftOff, broughtAt, Brought, brought, tok-in, in-tok, new-lt, service-kept}
@@ -28,6 +28,53 @@ use Rattle.policy.proofs.BroughtBits.{CallIs, GrantIs, call-is, grant-i
 use Rattle.policy.proofs.KindLoad.{inOrder, load-is, load-reached}
 use Rattle.policy.proofs.KindReplace.{none-waited, or-never, replace-reached}
 use Rattle.policy.proofs.Short.{nil-append, none-kept, length-kept, left-count, none-left, look-is, fits-as}
+
+-- ---- what the short check asks: each call of the contract on a service of the card is granted, by a bit or by a grant that waits; and so is each on services that stay
+module _ (L : Layout) (t : Tables) (m : ℕ) (k : Contract) where
+  abbrev toIt : ℕ → Tok → Waiting
+  toIt y s = record { caller = k .aid; callee = y; tok = s }
+
+  abbrev grantedAt : Tok → Place → Bool
+  grantedAt s p = t .grants (p .callee) m (p .service) || hasWaiting (toIt (p .callee) s) (t .waiting)
+
+  abbrev rightOf : Row → Option Place → Bool
+  rightOf r o = orElse o true (grantedAt (r .tok))
+
+  abbrev itsRights : Bool
+  itsRights = every (λ r. rightOf r (serverOf L t r)) (k .calls)
+
+  abbrev keptCall : ℕ → ℕ → Bool
+  keptCall x z = t .calls x m z && not (droppedBy L t k m z)
+
+  abbrev keptRight : ℕ → ℕ → Bool
+  keptRight x z = hasRow (record { aid = t .aid x; tok = t .tok m z }) (k .grants)
+
+  module _ (f : Formed L t) where
+    -- the number is free: nothing is granted to it but by waiting grants, and nothing calls it
+    module _ (free : T (t .used m) → ⊥) where
+      pub newcomer-rights : itsRights ≡ newcomerRights L t k
+      newcomer-rights = λ i. every (λ r. orElse (serverOf L t r) true (λ p. no-grant p i || hasWaiting (toIt (p .callee) (r .tok)) (t .waiting))) (k .calls)
+        where
+          no-grant : (p : Place) → t .grants (p .callee) m (p .service) ≡ false
+          no-grant p = T-false (t .grants (p .callee) m (p .service)) (λ h. free (f .grants .by-used m (p .callee) (p .service) h))
+
+      pub nothing-kept : keptRights L t m k ≡ true
+      nothing-kept = T-true (keptRights L t m k) (in-every (λ x. every (test x) (places L)) (numbers L) (λ x _. in-every (test x) (places L)
+          (λ z _. implies-i (keptCall x z) (keptRight x z) (λ q. absurd (free (f .names .prov-used m z (f .calls .of-prov x m z (and-l (t .calls x m z) (not (droppedBy L t k m z)) q))))))))
+        where
+          test : ℕ → ℕ → Bool
+          test x z = implies (keptCall x z) (keptRight x z)
+
+    -- the number is the package's: no grant to it waits for it alone
+    pub own-rights : T (t .used m) → t .aid m ≡ k .aid → itsRights ≡ ownRights L t m k
+    own-rights un an = λ i. every (λ r. same r (serverOf L t r) (server-is L t (f .names) r) i) (k .calls)
+      where
+        same : (r : Row) (o : Option Place) → ServerIs t r o → rightOf r o ≡ orElse o true (λ p. t .grants (p .callee) m (p .service))
+        same r none h = refl
+        same r (some p) h =
+            let w = toIt (p .callee) (r .tok) in
+            sym (or-never (t .grants (p .callee) m (p .service)) (hasWaiting w (t .waiting))
+            (λ x. f .waiting .wait-off w (has-waiting w (t .waiting) x) m (p .service) un an (h .0) (h .2)))
 
 module _ (L : Layout) (t : Tables) (m : ℕ) (k : Contract) (now : Services) (new : Coming L t m k now) where
   abbrev names : Tables
@@ -84,38 +131,19 @@ module _ (L : Layout) (t : Tables) (m : ℕ) (k : Contract) (now : Services) (ne
   right : T full → (x y z : ℕ) → BitIn L x y z → CallIs L t m k now x y z → GrantIs L t m k now y x z
   right h x y z c i = grant-is L t m k now y x z .0 (among-to L (after .calls) (grantBit after) h x y z c (call-is L t m k now x y z .1 i))
 
-  -- a grant to the package of service z of package y, and the rights that the short check asks
-  abbrev toIt : ℕ → Tok → Waiting
-  toIt y s = record { caller = k .aid; callee = y; tok = s }
-
-  abbrev grantedAt : Tok → Place → Bool
-  grantedAt s p = t .grants (p .callee) m (p .service) || hasWaiting (toIt (p .callee) s) (t .waiting)
-
-  abbrev rightOf : Row → Option Place → Bool
-  rightOf r o = orElse o true (grantedAt (r .tok))
-
-  abbrev itsRights : Bool
-  itsRights = every (λ r. rightOf r (serverOf L t r)) (k .calls)
-
   abbrev rightBy : Unmet → Row
   rightBy u = record { aid = t .aid (u .caller); tok = u .tok }
 
-  abbrev keptCall : ℕ → ℕ → Bool
-  keptCall x z = t .calls x m z && not (dropped L t m k now z)
-
-  abbrev keptRight : ℕ → ℕ → Bool
-  keptRight x z = hasRow (record { aid = t .aid x; tok = t .tok m z }) (k .grants)
-
-  its : T full → T itsRights
-  its h = in-every (λ r. rightOf r (serverOf L t r)) (k .calls) (λ r i. go r i (serverOf L t r) (server-is L t (new .formed .names) r))
+  its : T full → T (itsRights L t m k)
+  its h = in-every (λ r. rightOf L t m k r (serverOf L t r)) (k .calls) (λ r i. go r i (serverOf L t r) (server-is L t (new .formed .names) r))
     where
-      stands : (p : Place) (s : Tok) → (p .callee ≡ m → ⊥) → t .tok (p .callee) (p .service) ≡ s → GrantIs L t m k now (p .callee) m (p .service) → T (grantedAt s p)
+      stands : (p : Place) (s : Tok) → (p .callee ≡ m → ⊥) → t .tok (p .callee) (p .service) ≡ s → GrantIs L t m k now (p .callee) m (p .service) → T (grantedAt L t m k s p)
       stands p s ne e (GrantIs.own q _ _ _) = absurd (ne q)
       stands p s ne e (GrantIs.waited _ _ _ i) =
-          or-r (t .grants (p .callee) m (p .service)) (hasWaiting (toIt (p .callee) s) (t .waiting)) (waiting-has (in-cast (λ z. toIt (p .callee) (sym e z)) i))
-      stands p s ne e (GrantIs.old _ g) = or-l (t .grants (p .callee) m (p .service)) (hasWaiting (toIt (p .callee) s) (t .waiting)) g
+          or-r (t .grants (p .callee) m (p .service)) (hasWaiting (toIt L t m k (p .callee) s) (t .waiting)) (waiting-has (in-cast (λ z. toIt L t m k (p .callee) (sym e z)) i))
+      stands p s ne e (GrantIs.old _ g) = or-l (t .grants (p .callee) m (p .service)) (hasWaiting (toIt L t m k (p .callee) s) (t .waiting)) g
 
-      go : (r : Row) → In r (k .calls) → (o : Option Place) → ServerIs t r o → T (rightOf r o)
+      go : (r : Row) → In r (k .calls) → (o : Option Place) → ServerIs t r o → T (rightOf L t m k r o)
       go r i none q = tt
       go r i (some p) q =
           let y = p .callee in
@@ -143,28 +171,28 @@ module _ (L : Layout) (t : Tables) (m : ℕ) (k : Contract) (now : Services) (ne
       grants u z f (GrantIs.old n _) = absurd (n refl)
 
   -- a kept call, by its bit
-  kept-bit : (x z : ℕ) → T (keptCall x z) → T (t .calls x m z) × (T (gone L t m k now m z) → ⊥)
+  kept-bit : (x z : ℕ) → T (keptCall L t m k x z) → T (t .calls x m z) × (T (gone L t m k now m z) → ⊥)
   kept-bit x z h = (
     and-l (t .calls x m z) (not (dropped L t m k now z)) h,
     λ g. not-e (dropped L t m k now z) (and-r (t .calls x m z) (not (dropped L t m k now z)) h) (and-r (eqb m m) (dropped L t m k now z) g),
   )
 
   kept : T full → T (keptRights L t m k)
-  kept h = in-every (λ x. every (test x) (places L)) (numbers L) (λ x _. in-every (test x) (places L) (λ z _. implies-i (keptCall x z) (keptRight x z) (λ q.
+  kept h = in-every (λ x. every (test x) (places L)) (numbers L) (λ x _. in-every (test x) (places L) (λ z _. implies-i (keptCall L t m k x z) (keptRight L t m k x z) (λ q.
       let c = kept-bit x z q in
       let s = service-kept L t m k now new m z (new .formed .calls .of-prov x m z (c .0)) (c .1) in
       grants x z (ap (λ (r : Row). r .tok) (s .1)) (right h x m z (bit-in L t (new .formed .names) (new .formed .calls) x m z (c .0)) (CallIs.old (new .formed .calls .other x m z (c .0)) (c .1) (c .0))))))
     where
       test : ℕ → ℕ → Bool
-      test x z = implies (keptCall x z) (keptRight x z)
+      test x z = implies (keptCall L t m k x z) (keptRight L t m k x z)
 
-      grants : (x z : ℕ) → names .tok m z ≡ t .tok m z → GrantIs L t m k now m x z → T (keptRight x z)
+      grants : (x z : ℕ) → names .tok m z ≡ t .tok m z → GrantIs L t m k now m x z → T (keptRight L t m k x z)
       grants x z f (GrantIs.own e p v i) = row-has (in-cast (row-path refl (sym f)) i)
       grants x z f (GrantIs.waited n _ _ _) = absurd (n refl)
       grants x z f (GrantIs.old n _) = absurd (n refl)
 
-  all-granted : Lawful t → T itsRights → T (othersRights L t k) → T (keptRights L t m k) → (x y z : ℕ) → CallIs L t m k now x y z → GrantIs L t m k now y x z
-  all-granted lawful a b c x y z (CallIs.own e h) = go (serverOf L t r) (server-is L t (new .formed .names) r) (every-in (λ q. rightOf q (serverOf L t q)) (k .calls) a (h .1))
+  all-granted : Lawful t → T (itsRights L t m k) → T (othersRights L t k) → T (keptRights L t m k) → (x y z : ℕ) → CallIs L t m k now x y z → GrantIs L t m k now y x z
+  all-granted lawful a b c x y z (CallIs.own e h) = go (serverOf L t r) (server-is L t (new .formed .names) r) (every-in (λ q. rightOf L t m k q (serverOf L t q)) (k .calls) a (h .1))
     where
       r : Row
       r = serviceAt names y z
@@ -175,15 +203,15 @@ module _ (L : Layout) (t : Tables) (m : ℕ) (k : Contract) (now : Services) (ne
       p : T (t .provides y z)
       p = l .prov-back y z ne (h .0)
 
-      granted : (v w : ℕ) → y ≡ v → z ≡ w → T (t .grants v m w) ⊎ T (hasWaiting (toIt v (names .tok y z)) (t .waiting)) → GrantIs L t m k now y x z
+      granted : (v w : ℕ) → y ≡ v → z ≡ w → T (t .grants v m w) ⊎ T (hasWaiting (toIt L t m k v (names .tok y z)) (t .waiting)) → GrantIs L t m k now y x z
       granted v w ev ew (inl g) = GrantIs.old ne (subst (λ (i : ℕ). T (t .grants y i z)) (sym e) (subst (λ (i : ℕ). T (t .grants i m z)) (sym ev) (subst (λ (i : ℕ). T (t .grants v m i)) (sym ew) g)))
-      granted v w ev ew (inr g) = GrantIs.waited ne e p (in-cast (λ i. toIt (ev i) (sym (l .tok-old y z ne) i)) (has-waiting (toIt v (names .tok y z)) (t .waiting) g))
+      granted v w ev ew (inr g) = GrantIs.waited ne e p (in-cast (λ i. toIt L t m k (ev i) (sym (l .tok-old y z ne) i)) (has-waiting (toIt L t m k v (names .tok y z)) (t .waiting) g))
 
-      go : (o : Option Place) → ServerIs t (serviceAt names y z) o → T (rightOf (serviceAt names y z) o) → GrantIs L t m k now y x z
+      go : (o : Option Place) → ServerIs t (serviceAt names y z) o → T (rightOf L t m k (serviceAt names y z) o) → GrantIs L t m k now y x z
       go none q s = absurd (q y z p (sym (l .aid-old y ne)) (sym (l .tok-old y z ne)))
       go (some w) q s =
           let at = same-place L t (new .formed .names) y z (w .callee) (w .service) p (q .0) (sym (l .aid-old y ne) ∙ sym (q .1)) (sym (l .tok-old y z ne) ∙ sym (q .2)) in
-          granted (w .callee) (w .service) (at .0) (at .1) (or-e (t .grants (w .callee) m (w .service)) (hasWaiting (toIt (w .callee) (names .tok y z)) (t .waiting)) s)
+          granted (w .callee) (w .service) (at .0) (at .1) (or-e (t .grants (w .callee) m (w .service)) (hasWaiting (toIt L t m k (w .callee) (names .tok y z)) (t .waiting)) s)
   all-granted lawful a b c x y z (CallIs.met n e p i) =
       let u = callRow x (serviceAt names m z) in
       let f = eqAid (u .callee) (k .aid) in
@@ -198,34 +226,20 @@ module _ (L : Layout) (t : Tables) (m : ℕ) (k : Contract) (now : Services) (ne
           let s = service-kept L t m k now new m z (new .formed .calls .of-prov x m z h) g in
           let i = bit-in L t (new .formed .names) (new .formed .calls) x m z h in
           let stays = not-i (dropped L t m k now z) (λ d. g (and-i (eqb m m) (dropped L t m k now z) (eqb-refl m) d)) in
-          let q = every-in (λ z. implies (keptCall x z) (keptRight x z)) (places L)
-          (every-in (λ x. every (λ z. implies (keptCall x z) (keptRight x z)) (places L)) (numbers L) c (in-upto (L .packages) x (i .0))) (in-upto (L .services) z (i .2)) in
+          let q = every-in (λ z. implies (keptCall L t m k x z) (keptRight L t m k x z)) (places L)
+          (every-in (λ x. every (λ z. implies (keptCall L t m k x z) (keptRight L t m k x z)) (places L)) (numbers L) c (in-upto (L .packages) x (i .0))) (in-upto (L .services) z (i .2)) in
           GrantIs.own refl (s .0) (new .formed .calls .by-used x m z h) (in-cast (row-path refl (ap (λ (r : Row). r .tok) (s .1)))
-          (has-row (record { aid = t .aid x; tok = t .tok m z }) (k .grants) (implies-e (keptCall x z) (keptRight x z) q (and-i (t .calls x m z) (not (dropped L t m k now z)) h stays))))
+          (has-row (record { aid = t .aid x; tok = t .tok m z }) (k .grants) (implies-e (keptCall L t m k x z) (keptRight L t m k x z) q (and-i (t .calls x m z) (not (dropped L t m k now z)) h stays))))
 
-  granted-same : Lawful t → full ≡ (itsRights && (othersRights L t k && keptRights L t m k))
+  granted-same : Lawful t → full ≡ (itsRights L t m k && (othersRights L t k && keptRights L t m k))
   granted-same lawful =
+      let i = itsRights L t m k in
       let o = othersRights L t k in
       let r = keptRights L t m k in
-      T-eq full (itsRights && (o && r))
-      (λ h. and-i itsRights (o && r) (its h) (and-i o r (others h) (kept h)))
+      T-eq full (i && (o && r))
+      (λ h. and-i i (o && r) (its h) (and-i o r (others h) (kept h)))
       (λ h. among-back L (after .calls) (grantBit after) (λ x y z c. grant-is L t m k now y x z .1
-      (all-granted lawful (and-l itsRights (o && r) h) (and-l o r (and-r itsRights (o && r) h)) (and-r o r (and-r itsRights (o && r) h)) x y z (call-is L t m k now x y z .0 c))))
-
-  -- ---- kind 1: the number is free, so that nothing is granted to it but by waiting grants, and nothing calls it
-  module _ (free : T (t .used m) → ⊥) where
-    newcomer-rights : itsRights ≡ newcomerRights L t k
-    newcomer-rights = λ i. every (λ r. orElse (serverOf L t r) true (λ p. no-grant p i || hasWaiting (toIt (p .callee) (r .tok)) (t .waiting))) (k .calls)
-      where
-        no-grant : (p : Place) → t .grants (p .callee) m (p .service) ≡ false
-        no-grant p = T-false (t .grants (p .callee) m (p .service)) (λ h. free (new .formed .grants .by-used m (p .callee) (p .service) h))
-
-    nothing-kept : keptRights L t m k ≡ true
-    nothing-kept = T-true (keptRights L t m k) (in-every (λ x. every (test x) (places L)) (numbers L) (λ x _. in-every (test x) (places L)
-        (λ z _. implies-i (keptCall x z) (keptRight x z) (λ q. absurd (free (new .formed .names .prov-used m z (new .formed .calls .of-prov x m z (kept-bit x z q .0))))))))
-      where
-        test : ℕ → ℕ → Bool
-        test x z = implies (keptCall x z) (keptRight x z)
+      (all-granted lawful (and-l i (o && r) h) (and-l o r (and-r i (o && r) h)) (and-r o r (and-r i (o && r) h)) x y z (call-is L t m k now x y z .0 c))))
 
 -- ---- kind 1
 module _ (L : Layout) (t : Tables) (m : ℕ) (k : Contract) (new : Coming L t m k (inOrder (k .provides))) (free : T (t .used m) → ⊥) where
@@ -235,7 +249,7 @@ module _ (L : Layout) (t : Tables) (m : ℕ) (k : Contract) (new : Coming L t m 
   look-1 : Lawful t → look L (broughtAt L t m k now) ≡ shortLoad L t k
   look-1 lawful = ap (look L) (sym is) ∙ look-is L (loadAt L t m k)
       (ap (λ (d : Draft). among L (d .tables .calls) (grantBit (d .tables))) is ∙ granted-same L t m k now new lawful
-      ∙ (λ i. newcomer-rights L t m k now new free i && (othersRights L t k && nothing-kept L t m k now new free i)) ∙ ap (λ (b : Bool). newcomerRights L t k && b) (and-true (othersRights L t k)))
+      ∙ (λ i. newcomer-rights L t m k (new .formed) free i && (othersRights L t k && nothing-kept L t m k (new .formed) free i)) ∙ ap (λ (b : Bool). newcomerRights L t k && b) (and-true (othersRights L t k)))
       (ap (λ (rs : List Row). isNil (map (callRow m) rs)) (left-same L t m k now new (k .needs) (new .lists .needs-called)) ∙ none-kept (λ r. isSome (serverOf L t r)) (callRow m) (k .needs))
       (fits-as L (length-kept (keep (λ u. not (nowMet L t k u)) (t .unmet)) (callRow m) (keep (notServedOn L (on L t m k now)) (k .calls))
       ∙ ap (λ (rs : List Row). count (λ u. not (nowMet L t k u)) (t .unmet) + length rs) (left-same L t m k now new (k .calls) (λ r i. i))))
@@ -253,19 +267,9 @@ module _ (L : Layout) (t : Tables) (n : ℕ) (k : Contract) (now : Services) (ne
   an : t .aid n ≡ k .aid
   an = new .own-aid un
 
-  own-rights : itsRights L t n k now new ≡ ownRights L t n k
-  own-rights = λ i. every (λ r. same r (serverOf L t r) (server-is L t (new .formed .names) r) i) (k .calls)
-    where
-      same : (r : Row) (o : Option Place) → ServerIs t r o → rightOf L t n k now new r o ≡ orElse o true (λ p. t .grants (p .callee) n (p .service))
-      same r none h = refl
-      same r (some p) h =
-          let w : Waiting = record { caller = k .aid; callee = p .callee; tok = r .tok } in
-          sym (or-never L t n k now (new .formed) un an (t .grants (p .callee) n (p .service)) (hasWaiting w (t .waiting))
-          (λ x. new .formed .waiting .wait-off w (has-waiting w (t .waiting) x) n (p .service) un an (h .0) (h .2)))
-
   look-11 : Lawful t → look L (broughtAt L t n k now) ≡ shortReplace L t n k
   look-11 lawful = look-is L (broughtAt L t n k now)
-      (granted-same L t n k now new lawful ∙ ap (λ (b : Bool). b && (othersRights L t k && keptRights L t n k)) own-rights)
+      (granted-same L t n k now new lawful ∙ ap (λ (b : Bool). b && (othersRights L t k && keptRights L t n k)) (own-rights L t n k (new .formed) un an))
       (nil-append (leftOff L t n k now (k .needs)) (leftBy L t (t .needs) n (dropped L t n k now))
       ∙ (λ i. isNil (map (callRow n) (left-same L t n k now new (k .needs) (new .lists .needs-called) i)) && none-left L t (t .needs) n (dropped L t n k now) i)
       ∙ ap (λ (b : Bool). b && othersNeeds L t n k) (none-kept (λ r. isSome (serverOf L t r)) (callRow n) (k .needs)))
@@ -274,7 +278,7 @@ module _ (L : Layout) (t : Tables) (n : ℕ) (k : Contract) (now : Services) (ne
       ∙ (λ i. length-map (left-same L t n k now new (k .calls) (λ r i. i) i) (callRow n) i + left-count L t (t .calls) n (dropped L t n k now) i))))
       (fits-as L (length-kept (keep (waitsStill L t n k now) (t .waiting)) (grantRow n) (keep (waitsNew L t n k now) (k .grants))
       ∙ (λ i. length (keep-ext (waitsStill L t n k now) (λ w. not (eqb (w .callee) n)) (t .waiting)
-      (λ w h. sym (λ x. not (or-never L t n k now (new .formed) un an (eqb (w .callee) n) (waitedFor L t n k now w) (none-waited L t n k now (new .formed) un an w h) x))) i)
+      (λ w h. sym (λ x. not (or-never (eqb (w .callee) n) (waitedFor L t n k now w) (none-waited L t n k (new .formed) un an w h) x))) i)
       + count (waitsNew L t n k now) (k .grants))))
     where
       still : Unmet → Bool

@@ -5,20 +5,16 @@ use mathlib.Core.List.{List, _++_}
 use Rattle.policy.specs.Contract.{Aid}
 use Rattle.policy.specs.Layout.{Layout}
 use Rattle.policy.specs.Record.{Change}
-use Rattle.policy.specs.Causes.{Cause, answer}
-use Rattle.policy.specs.Tables.{Tables, decode}
+use Rattle.policy.specs.Causes.{answer}
+use Rattle.policy.specs.Tables.{decode}
 use Rattle.policy.specs.Draft.{look, draft, numberFor}
 use Rattle.policy.specs.Judge.{Out, tableCauses, lookCauses, judged}
-
--- causes 4 to 7
-abbrev pub earlyCauses : Layout → Tables → Aid → Change → List Cause
-earlyCauses L t a c = tableCauses L t a c
 
 unfoldable pub settled : Layout → List ℕ → Aid → Change → Out
 settled L img a c =
     let t = decode L img in
     let d = draft L t a c in
-    judged L img (numberFor L t a) (d .tables) (answer (earlyCauses L t a c ++ lookCauses (look L d)))
+    judged L img (numberFor L t a) (d .tables) (answer (tableCauses L t a c ++ lookCauses (look L d)))
 
 -- an outcome by its three parts
 pub record Gives (o : Out) (number second : ℕ) (img : List ℕ) : Type 0 where

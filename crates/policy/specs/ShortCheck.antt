@@ -34,9 +34,6 @@ module _ (L : Layout) (t : Tables) where
   abbrev pub ones : (ℕ → ℕ → Bool) → ℕ
   ones f = sum (λ i. count (f i) (places L)) (numbers L)
 
-  abbrev pub notInstalled : Aid → Bool
-  notInstalled a = not (isSome (numberOf L t a))
-
   -- kind 5: a call of package i
   abbrev pub shortAddCall : ℕ → Option Place → Look
   shortAddCall i none = record { granted = true; needed = true; unmetFits = fits (suc (length (t .unmet))); waitingFits = true }

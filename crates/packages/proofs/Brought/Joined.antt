@@ -18,7 +18,7 @@ use Rattle.policy.specs.ShortCheck.{nowMet}
 use Rattle.policy.proofs.Sets.{T-eq, and-l, and-r, and-i, in-row}
 use Rattle.policy.proofs.Equal.{eqAid→, eqAid-of, eqTok→, eqTok-of, eqb-of, has-tok, tok-has, has-unmet, has-waiting}
 use Rattle.policy.proofs.Formed.{Names}
-use Rattle.policy.proofs.Found.{NumberIs, ServiceIs, SpotIs, number-is, service-is, spot-is}
+use Rattle.policy.proofs.Found.{NumberIs, ServiceIs, SpotIs, number-is, service-is, provided-found, found-provided, spot-is}
 use Rattle.policy.proofs.BroughtNames.{Coming, on, gone, metBit, waitedBit, unmetStill, waitsStill, Brought, brought, tok-in, in-tok, names-brought}
 use Rattle.rows.specs.Area.{keepRows}
 use Rattle.image.specs.Read.{numberOr, maskOf, unmetRow, waitingRow}
@@ -62,21 +62,6 @@ found-is L v names j s z = go (serviceOf L v j s) (service-is L v names j s)
         (λ q. let f = eqb→eq z k q in and-i p e (subst (λ (x : ℕ). T (v .provides j x)) (sym f) (h .0)) (eqTok-of (ap (v .tok j) f ∙ h .1)))
         (λ q. eqb-of (names .tok-inj j z k (and-l p e q) (h .0) (eqTok→ (v .tok j z) s (and-r p e q) ∙ sym (h .1))))
 
--- a service that is provided is found, and the other way round
-found-at : (L : Layout) (v : Tables) → Names L (v .used) (v .aid) (v .tok) (v .provides) → (j : ℕ) (s : Tok) (z : ℕ) → T (v .provides j z) → v .tok j z ≡ s → T (isSome (serviceOf L v j s))
-found-at L v names j s z p e = go (serviceOf L v j s) (service-is L v names j s)
-  where
-    go : (o : Option ℕ) → ServiceIs v j s o → T (isSome o)
-    go none h = h z p e
-    go (some k) h = tt
-
-at-found : (L : Layout) (v : Tables) → Names L (v .used) (v .aid) (v .tok) (v .provides) → (j : ℕ) (s : Tok) → T (isSome (serviceOf L v j s)) → (z : ℕ) × T (v .provides j z) × (v .tok j z ≡ s)
-at-found L v names j s = go (serviceOf L v j s) (service-is L v names j s)
-  where
-    go : (o : Option ℕ) → ServiceIs v j s o → T (isSome o) → (z : ℕ) × T (v .provides j z) × (v .tok j z ≡ s)
-    go none h q = absurd q
-    go (some k) h q = (k, h .0, h .1)
-
 module _ (L : Layout) (t : Tables) (n : ℕ) (k : Contract) (now : Services) where
   -- the package with its services, known to the others
   abbrev pub joined : Tables
@@ -110,7 +95,7 @@ module _ (L : Layout) (t : Tables) (n : ℕ) (k : Contract) (now : Services) (ne
 
   -- ---- the unmet calls that are met
   met-there : {s : Tok} → In s p → T (isSome (serviceOf L v n s))
-  met-there {s} m = let q = in-tok L t n k now new m in found-at L v names n s (q .0) (q .1) (q .2)
+  met-there {s} m = let q = in-tok L t n k now new m in provided-found L v names n s (q .0) (q .1) (q .2)
 
   calls-there : (met : ℕ) → met ≡ maskOf (nowMet L t k) (t .unmet) → (r : ℕ) → r < length (t .unmet) → CallOn L met n (readiedWith L t n k now) r
   calls-there met e r h q =
@@ -188,8 +173,8 @@ module _ (L : Layout) (t : Tables) (n : ℕ) (k : Contract) (now : Services) (ne
 
   offered-on : (j : ℕ) (s : Tok) → (j ≡ n → ⊥) → T (isSome (serviceOf L t j s)) → T (isSome (serviceOf L v j s))
   offered-on j s ne h =
-      let q = at-found L t (new .formed .names) j s h in
-      found-at L v names j s (q .0) (l .prov-old j (q .0) ne (q .1)) (l .tok-old j (q .0) ne ∙ q .2)
+      let q = found-provided L t (new .formed .names) j s h in
+      provided-found L v names j s (q .0) (l .prov-old j (q .0) ne (q .1)) (l .tok-old j (q .0) ne ∙ q .2)
 
   dues-there : (due : ℕ) → due ≡ maskOf (comesDue L t (k .aid)) (t .waiting) → (r : ℕ) → r < length (t .waiting) → DueAt L due (readiedWith L t n k now) r
   dues-there due e r h q =
@@ -198,7 +183,7 @@ module _ (L : Layout) (t : Tables) (n : ℕ) (k : Contract) (now : Services) (ne
       let o = isSome (serviceOf L t (w .callee) (w .tok)) in
       let d : T (c && o) = subst T (named-row (comesDue L t a) (t .waiting) due r _ e h) q in
       let ne = by-others w (in-row (t .waiting) r _ h) (eqAid→ (w .caller) a (and-l c o d)) in
-      let at = at-found L v names (w .callee) (w .tok) (offered-on (w .callee) (w .tok) ne (and-r c o d)) in
+      let at = found-provided L v names (w .callee) (w .tok) (offered-on (w .callee) (w .tok) ne (and-r c o d)) in
       go w (eqAid→ (w .caller) a (and-l c o d)) (at .0) (at .1) (at .2) (spotOf L v (w .callee) (grantAt w)) (spot-is L v names (w .callee) (grantAt w))
     where
       go : (w : Waiting) → w .caller ≡ a → (z : ℕ) → T (v .provides (w .callee) z) → v .tok (w .callee) z ≡ w .tok → (o : Option Spot) → SpotIs v (w .callee) (grantAt w) o → T (isSome o)
@@ -263,7 +248,7 @@ module _ (L : Layout) (t : Tables) (n : ℕ) (k : Contract) (now : Services) (ne
           let ne = by-others w i ec in
           let pz : T (t .provides j z) = subst (λ (i : ℕ). T (t .provides i z)) ex hp in
           let ez : t .tok j z ≡ s = ap (λ (i : ℕ). t .tok i z) (sym ex) ∙ eqTok→ (t .tok x z) s he in
-          let ho = found-at L t (new .formed .names) j s z pz ez in
+          let ho = provided-found L t (new .formed .names) j s z pz ez in
           and-i (c && o) (f && g && m) (and-i c o (eqAid-of ec) ho)
           (and-i (f && g) m (and-i f g hf (eqb-of (eqb→eq y n hq ∙ sym (holder-new (w .caller) ec))))
           (subst T (sym (found-is L v names j s z (offered-on j s ne ho))) (and-i (v .provides j z) (eqTok (v .tok j z) s) (l .prov-old j z ne pz) (eqTok-of (l .tok-old j z ne ∙ ez)))))

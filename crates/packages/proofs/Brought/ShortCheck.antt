@@ -3,7 +3,7 @@ use Prim.Native.Nat.{ℕ, suc, _+_, _-_, _≤_, _<_, suc-le-suc}
 use native.Mathlib.Omega.{arith}
 use native.Mathlib.Nat.{add-zero, add-suc, suc-add, zero-add}
 use mathlib.Core.Path.{_≡_, refl, sym, ap, ap₂, _∙_, subst}
-use mathlib.Core.Bool.{Bool, true, false, not, _&&_, _||_, and-comm, and-true, or-false}
+use mathlib.Core.Bool.{Bool, true, false, not, _&&_, _||_, and-comm, and-true, or-comm}
 use mathlib.Core.List.{List, [], _∷_}
 use mathlib.Core.List.{List·Memᴰ as In}
 use mathlib.Core.Option.{Option, none, some}
@@ -18,12 +18,14 @@ use Rattle.policy.specs.Tables.{Tables, Unmet, Waiting, noTok, bit}
 use Rattle.policy.specs.Lookup.{Place, places, numbers, serviceOf, serverOf}
 use Rattle.policy.specs.Sound.{eqWaiting}
 use Rattle.policy.specs.Draft.{hasWaiting, droppedBy}
-use Rattle.policy.specs.ShortCheck.{count, sum, newcomerRights, newcomerNeeds, othersRights, shortLoad, ownRights, keptRights, othersNeeds, shortReplace, nowMet}
+use Rattle.policy.specs.ShortCheck.{count, sum, newcomerRights, newcomerNeeds, othersRights, shortLoad, keptRights, othersNeeds, shortReplace, nowMet}
 use Rattle.policy.proofs.Sets.{T-eq, T-true, T-false, true-T, false-T, and-l, and-r, and-i, not-i, in-every, in-row, keep-in, keep-ext, no-members}
-use Rattle.policy.proofs.Equal.{eqAid→, eqAid-of, eqTok→, eqTok-of, eqb-of, has-waiting}
+use Rattle.policy.proofs.Equal.{eqAid→, eqAid-of, eqTok→, eqTok-of, eqb-of}
 use Rattle.policy.proofs.Formed.{Formed, Fitting}
-use Rattle.policy.proofs.Found.{ServiceIs, ServerIs, service-is, server-is}
+use Rattle.policy.proofs.Found.{ServerIs, provided-found, server-is}
 use Rattle.policy.proofs.Short.{none-pairs}
+use Rattle.policy.proofs.KindReplace.{or-never, none-waited}
+use Rattle.policy.proofs.ShortBrought.{newcomer-rights, nothing-kept, own-rights}
 use Rattle.geometry.specs.declared.Kept.the-variants.{UnmetCalls}
 use Rattle.geometry.specs.declared.Table.{Table}
 use Rattle.geometry.specs.declared.Table.the-variants.{Calls, Needs}
@@ -76,14 +78,6 @@ beside-same true true d g h e = e
 beside-same true false d g h e = absurd (h tt)
 beside-same false p d g h e = refl
 
--- kind 11: no grant to the package, which has number n, waits for it alone
-pub none-due : (L : Layout) (t : Tables) (f : Formed L t) (c : Contract) (n : ℕ) → T (t .used n) → t .aid n ≡ c .aid → (w : Waiting) → In w (t .waiting) → T (comesDue L t (c .aid) w) → ⊥
-none-due L t f c n un an w m h = go (serviceOf L t (w .callee) (w .tok)) (service-is L t (f .names) (w .callee) (w .tok)) (and-r (eqAid (w .caller) (c .aid)) (isSome (serviceOf L t (w .callee) (w .tok))) h)
-  where
-    go : (o : Option ℕ) → ServiceIs t (w .callee) (w .tok) o → T (isSome o) → ⊥
-    go none s x = x
-    go (some z) s x = f .waiting .wait-off w m n z un (an ∙ sym (eqAid→ (w .caller) (c .aid) (and-l (eqAid (w .caller) (c .aid)) (isSome (serviceOf L t (w .callee) (w .tok))) h))) (s .0) (s .1)
-
 module _ (L : Layout) (t : Tables) (f : Formed L t) (fit : Fitting L t) (low : L .capacity ≤ 32) (c : Contract) (n : ℕ) (b : Bring) (is : Comes L t c n b) where
   abbrev due : ℕ
   due = maskOf (comesDue L t (c .aid)) (t .waiting)
@@ -104,7 +98,7 @@ module _ (L : Layout) (t : Tables) (f : Formed L t) (fit : Fitting L t) (low : L
           (λ q. let e = and-l (a′ && j′) s′ q in
           let ej = sym (eqb→eq (p .callee) (w .callee) (and-r a′ j′ e)) in
           let es = sym (eqTok→ (r .tok) (w .tok) (and-r (a′ && j′) s′ q)) in
-          and-i (a && o) (j && s) (and-i a o (eqAid-of (sym (eqAid→ (c .aid) (w .caller) (and-l a′ j′ e)))) (provided (serviceOf L t (w .callee) (w .tok)) (service-is L t (f .names) (w .callee) (w .tok)) ej es)) (and-i j s (eqb-of ej) (eqTok-of es)))
+          and-i (a && o) (j && s) (and-i a o (eqAid-of (sym (eqAid→ (c .aid) (w .caller) (and-l a′ j′ e)))) (provided ej es)) (and-i j s (eqb-of ej) (eqTok-of es)))
         where
           a : Bool
           a = eqAid (w .caller) (c .aid)
@@ -127,13 +121,12 @@ module _ (L : Layout) (t : Tables) (f : Formed L t) (fit : Fitting L t) (low : L
           s′ : Bool
           s′ = eqTok (r .tok) (w .tok)
 
-          provided : (o : Option ℕ) → ServiceIs t (w .callee) (w .tok) o → w .callee ≡ p .callee → w .tok ≡ r .tok → T (isSome o)
-          provided none q ej es = q (p .service) (subst (λ (x : ℕ). T (t .provides x (p .service))) (sym ej) (h .0)) (ap (λ (x : ℕ). t .tok x (p .service)) ej ∙ h .2 ∙ sym es)
-          provided (some k) q ej es = tt
+          provided : w .callee ≡ p .callee → w .tok ≡ r .tok → T o
+          provided ej es = provided-found L t (f .names) (w .callee) (w .tok) (p .service) (subst (λ (x : ℕ). T (t .provides x (p .service))) (sym ej) (h .0)) (ap (λ (x : ℕ). t .tok x (p .service)) ej ∙ h .2 ∙ sym es)
 
-  -- its calls, by waiting grants and by bits
+  -- its calls, by bits and by waiting grants
   abbrev right : Row → Place → Bool
-  right r p = hasWaiting (toIt p r) (t .waiting) || t .grants (p .callee) n (p .service)
+  right r p = t .grants (p .callee) n (p .service) || hasWaiting (toIt p r) (t .waiting)
 
   rights-same : every (callGranted L t (b .due) (b .at)) (c .calls) ≡ every (λ r. orElse (serverOf L t r) true (right r)) (c .calls)
   rights-same =
@@ -142,7 +135,7 @@ module _ (L : Layout) (t : Tables) (f : Formed L t) (fit : Fitting L t) (low : L
     where
       one : (r : Row) (o : Option Place) → ServerIs t r o → orElse o true (grantedAt L t due n (r .tok)) ≡ orElse o true (right r)
       one r none h = refl
-      one r (some p) h = ap (λ (w : Bool). w || t .grants (p .callee) n (p .service)) (waits-same r p h)
+      one r (some p) h = ap (λ (w : Bool). w || t .grants (p .callee) n (p .service)) (waits-same r p h) ∙ or-comm (hasWaiting (toIt p r) (t .waiting)) (t .grants (p .callee) n (p .service))
 
   others-same : othersGranted L t (c .grants) (b .met) ≡ othersRights L t c
   others-same =
@@ -226,20 +219,6 @@ module _ (L : Layout) (t : Tables) (f : Formed L t) (fit : Fitting L t) (low : L
     used-else : (x : ℕ) → T (t .used x) → T (eqb x n) → ⊥
     used-else x u e = free (subst (λ (i : ℕ). T (t .used i)) (eqb→eq x n e) u)
 
-    none-kept : keptRights L t n c ≡ true
-    none-kept = (λ i. every (λ x. every (λ z. one x z i) (places L)) (numbers L)) ∙ all (numbers L) (all-in (places L))
-      where
-        one : (x z : ℕ) → implies (t .calls x n z && not (droppedBy L t c n z)) (hasRow (record { aid = t .aid x; tok = t .tok n z }) (c .grants)) ≡ true
-        one x z = ap (λ (o : Bool). implies (o && not (droppedBy L t c n z)) (hasRow (record { aid = t .aid x; tok = t .tok n z }) (c .grants))) (T-false (t .calls x n z) (λ h. no-service z (f .calls .of-prov x n z h)))
-
-        all-in : (l : List ℕ) → every (λ z. true) l ≡ true
-        all-in [] = refl
-        all-in (z ∷ l) = all-in l
-
-        all : (l : List ℕ) {m : Bool} → m ≡ true → every (λ x. m) l ≡ true
-        all [] e = refl
-        all (x ∷ l) {m} e = ap₂ _&&_ e (all l e)
-
     none-needed : othersNeeds L t n c ≡ true
     none-needed = T-true (othersNeeds L t n c) (in-every (λ x. every (λ z. not (t .needs x n z && droppedBy L t c n z)) (places L)) (numbers L) (λ x _. in-every (λ z. not (t .needs x n z && droppedBy L t c n z)) (places L)
         (λ z _. not-i (t .needs x n z && droppedBy L t c n z) (λ h. no-service z (f .calls .of-prov x n z (f .need-call x n z (and-l (t .needs x n z) (droppedBy L t c n z) h)))))))
@@ -249,13 +228,9 @@ module _ (L : Layout) (t : Tables) (f : Formed L t) (fit : Fitting L t) (low : L
     none-left (x ∷ l) = ap₂ _+_ (ap length (no-members (keep (λ z. t .calls x n z && droppedBy L t c n z) (places L))
         (λ z m. no-service z (f .calls .of-prov x n z (and-l (t .calls x n z) (droppedBy L t c n z) (keep-in (λ z. t .calls x n z && droppedBy L t c n z) (places L) m .1)))))) (none-left l)
 
-    newcomer-rights : every (λ r. orElse (serverOf L t r) true (right r)) (c .calls) ≡ newcomerRights L t c
-    newcomer-rights = λ i. every (λ r. orElse (serverOf L t r) true (λ p. (ap (λ (g : Bool). hasWaiting (toIt p r) (t .waiting) || g)
-        (T-false (t .grants (p .callee) n (p .service)) (λ h. free (f .grants .by-used n (p .callee) (p .service) h))) ∙ or-false (hasWaiting (toIt p r) (t .waiting))) i)) (c .calls)
-
     pub load-look : bringLook L t c b ≡ shortLoad L t c
     load-look = λ i. record {
-      granted = ((λ j. (rights-same ∙ newcomer-rights) j && (others-same j && (kept-same ∙ none-kept) j)) ∙ ap (λ (g : Bool). newcomerRights L t c && g) (and-true (othersRights L t c))) i;
+      granted = ((λ j. (rights-same ∙ newcomer-rights L t n c f free) j && (others-same j && (kept-same ∙ nothing-kept L t n c f free) j)) ∙ ap (λ (g : Bool). newcomerRights L t c && g) (and-true (othersRights L t c))) i;
       needed = (ap (λ (g : Bool). newcomerNeeds L t c && g) (needs-same ∙ none-needed) ∙ and-true (newcomerNeeds L t c)) i;
       unmetFits = (unmet-room (unserved + inColumn L Calls t (b .at) (bit (b .dropped)))
           ∙ ap₂ (λ (l : List Unmet) (m : ℕ). leb (length l + m) (L .capacity))
@@ -267,21 +242,13 @@ module _ (L : Layout) (t : Tables) (f : Formed L t) (fit : Fitting L t) (low : L
 
   -- ---- kind 11: the number is the package's
   module _ (un : T (t .used n)) (an : t .aid n ≡ c .aid) where
-    own-rights : every (λ r. orElse (serverOf L t r) true (right r)) (c .calls) ≡ ownRights L t n c
-    own-rights = λ i. every (λ r. one r (serverOf L t r) (server-is L t (f .names) r) i) (c .calls)
-      where
-        one : (r : Row) (o : Option Place) → ServerIs t r o → orElse o true (right r) ≡ orElse o true (λ p. t .grants (p .callee) n (p .service))
-        one r none h = refl
-        one r (some p) h = ap (λ (w : Bool). w || t .grants (p .callee) n (p .service))
-            (T-false (hasWaiting (toIt p r) (t .waiting)) (λ x. f .waiting .wait-off (toIt p r) (has-waiting (toIt p r) (t .waiting) x) n (p .service) un an (h .0) (h .2)))
-
     pub replace-look : bringLook L t c b ≡ shortReplace L t n c
     replace-look = λ i. record {
-      granted = (rights-same ∙ own-rights) i && (others-same i && kept-same i);
+      granted = (rights-same ∙ own-rights L t n c f un an) i && (others-same i && kept-same i);
       needed = newcomerNeeds L t c && needs-same i;
       unmetFits = (unmet-room (unserved + inColumn L Calls t (b .at) (bit (b .dropped)))
           ∙ ap (λ (m : ℕ). leb (count (λ u. not (eqb (u .caller) n || nowMet L t c u)) (t .unmet) + (unserved + m)) (L .capacity)) calls-left) i;
       waitingFits = (waiting-room waiters ∙ ap (λ (l : List Waiting). leb (length l + waiters) (L .capacity))
           (keep-ext (λ w. not (eqb (w .callee) n || comesDue L t (c .aid) w)) (λ w. not (eqb (w .callee) n)) (t .waiting)
-          (λ w m. ap not (ap (λ (o : Bool). eqb (w .callee) n || o) (T-false (comesDue L t (c .aid) w) (none-due L t f c n un an w m)) ∙ or-false (eqb (w .callee) n))))) i;
+          (λ w m. sym (ap not (or-never (eqb (w .callee) n) (comesDue L t (c .aid) w) (none-waited L t n c f un an w m)))))) i;
     }

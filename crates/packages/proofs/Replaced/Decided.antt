@@ -2,8 +2,8 @@
 use Prim.Native.Nat.{ℕ, zero, suc, _≤_, _<_}
 use native.Mathlib.Omega.{arith}
 use mathlib.Core.Path.{_≡_, refl, sym, ap, _∙_, subst}
-use mathlib.Core.Bool.{Bool, not, _||_, cond, or-comm, or-false}
-use mathlib.Core.List.{List, List·Memᴰ as In}
+use mathlib.Core.Bool.{not, _||_, cond, or-comm}
+use mathlib.Core.List.{List}
 use mathlib.Core.Option.{Option, none, some}
 use lib.Bits.{bitOr}
 use lib.Dec.{T, eqb}
@@ -11,7 +11,7 @@ use Rattle.policy.specs.Lists.{exists, isSome, orElse}
 use Rattle.policy.specs.Contract.{Contract}
 use Rattle.policy.specs.Layout.{Layout}
 use Rattle.policy.specs.Causes.{answer}
-use Rattle.policy.specs.Tables.{Tables, Waiting, decode, encode}
+use Rattle.policy.specs.Tables.{Tables, decode, encode}
 use Rattle.policy.specs.Lookup.{numberOf, freeNumber}
 use Rattle.policy.specs.Draft.{Look, kept, replaceAt, draft, numberFor}
 use Rattle.policy.specs.ShortCheck.{fine, nowMet, shortReplace, shortLook}
@@ -21,6 +21,7 @@ use Rattle.policy.proofs.Sets.{T-false, exists-in}
 use Rattle.policy.proofs.Formed.{Formed}
 use Rattle.policy.proofs.Found.{NumberIs, number-is}
 use Rattle.policy.proofs.SoundFacts.{sound-formed, sound-fitting}
+use Rattle.policy.proofs.KindReplace.{or-never, none-waited}
 use Rattle.policy.proofs.Settled.{settled-refused, settled-short, settled-accepted}
 use Rattle.image.specs.Read.{numberOr, maskOf}
 use Rattle.image.proofs.Masks.{mask-ext, mask-or, mask-zero}
@@ -29,7 +30,7 @@ use Rattle.changes.specs.Asked.{Asked}
 use Rattle.packages.specs.Decides.{comesDue, bringCause, Replaces, Comes, replaceOf, Renews, Decides}
 use Rattle.packages.specs.declared.decide.Bring.{Bring}
 use Rattle.packages.specs.declared.decide.Decided.{Decided}
-use Rattle.packages.proofs.Brought.ShortCheck.{none-due, replace-look}
+use Rattle.packages.proofs.Brought.ShortCheck.{replace-look}
 
 -- at the package's number
 replaces-so : (L : Layout) (t : Tables) (k : Contract) (n : ℕ) (b : Bring) → Formed L t → T (t .used n) → t .aid n ≡ k .aid → Replaces L t k n b → Comes L t k n b
@@ -37,16 +38,13 @@ replaces-so L t k n b f un an h = record {
   at-is = h .at-is;
   met-is = h .met-is;
   due-is = h .none-due ∙ sym (mask-zero (comesDue L t (k .aid)) (t .waiting) (T-false (exists (comesDue L t (k .aid)) (t .waiting))
-      (λ x. let q = exists-in (comesDue L t (k .aid)) (t .waiting) x in never (q .0) (q .1) (q .2))));
+      (λ x. let q = exists-in (comesDue L t (k .aid)) (t .waiting) x in none-waited L t n k f un an (q .0) (q .1) (q .2))));
   calls-is = h .calls-is ∙ ap (λ (m : ℕ). bitOr m (maskOf (λ u. eqb (u .caller) n) (t .unmet))) (h .met-is) ∙ mask-or (nowMet L t k) (λ u. eqb (u .caller) n) (t .unmet)
       ∙ mask-ext (λ u. nowMet L t k u || eqb (u .caller) n) (λ u. eqb (u .caller) n || nowMet L t k u) (t .unmet) (λ u _. or-comm (nowMet L t k u) (eqb (u .caller) n));
   grants-is = h .grants-is ∙ mask-ext (λ w. eqb (w .callee) n) (λ w. eqb (w .callee) n || comesDue L t (k .aid) w) (t .waiting)
-      (λ w m. sym (ap (λ (o : Bool). eqb (w .callee) n || o) (T-false (comesDue L t (k .aid) w) (never w m)) ∙ or-false (eqb (w .callee) n)));
+      (λ w m. or-never (eqb (w .callee) n) (comesDue L t (k .aid) w) (none-waited L t n k f un an w m));
   dropped-is = h .dropped-is;
 }
-  where
-    never : (w : Waiting) → In w (t .waiting) → T (comesDue L t (k .aid) w) → ⊥
-    never = none-due L t f k n un an
 
 module _ (L : Layout) (img : List ℕ) (k : Contract) (ask : Asked L img (k .aid) (replaceOf k)) where
   abbrev t : Tables

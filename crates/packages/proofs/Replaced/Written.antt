@@ -7,7 +7,6 @@ use lib.ListN.{length}
 use Rattle.policy.specs.Lists.{orElse}
 use Rattle.policy.specs.Contract.{Contract}
 use Rattle.policy.specs.Layout.{Layout}
-use Rattle.policy.specs.Record.{proper}
 use Rattle.policy.specs.Causes.{answer}
 use Rattle.policy.specs.Tables.{Tables, decode}
 use Rattle.policy.specs.Draft.{Draft, Services, kept, replaceAt, newServices, draft}
@@ -16,9 +15,8 @@ use Rattle.policy.proofs.Pieces.{valid-short}
 use Rattle.policy.proofs.Formed.{Formed}
 use Rattle.policy.proofs.Found.{NumberIs, number-is}
 use Rattle.policy.proofs.SoundFacts.{sound-formed}
-use Rattle.policy.proofs.BroughtNames.{Coming, lists-of, broughtAt}
-use Rattle.policy.proofs.PlacedServices.{placed-new}
-use Rattle.policy.proofs.KindReplace.{replace-is}
+use Rattle.policy.proofs.BroughtNames.{Coming, broughtAt}
+use Rattle.policy.proofs.KindReplace.{replace-is, renewal}
 use Rattle.geometry.specs.declared.Kept.the-variants.{UnmetCalls}
 use Rattle.image.specs.Wrote.{Wrote}
 use Rattle.changes.specs.Asked.{Asked}
@@ -49,15 +47,7 @@ module _ (L : Layout) (img : List ℕ) (k : Contract) (ask : Asked L img (k .aid
   its = subst (NumberIs t (k .aid)) (ok .here) (number-is L t (formed .names) (k .aid))
 
   coming : Coming L t n k now
-  unfolding proper
-  coming = record {
-    formed = formed;
-    number-lt = formed .names .used-lt n (its .0);
-    own-aid = λ _. its .1;
-    only = λ x v q. formed .names .aid-inj x n v (its .0) (q ∙ sym (its .1));
-    lists = lists-of L (k .aid) (k .provides) (k .calls) (k .grants) (k .needs) (ask .is-proper);
-    placed = placed-new L t n k formed (ask .within .0 .0);
-  }
+  coming = renewal L t (k .aid) (k .provides) (k .calls) (k .grants) (k .needs) formed (ask .within .0 .0) (ask .is-proper) n (its .0) (its .1)
 
   draft-is : replaceAt L t n k ≡ broughtAt L t n k now
   draft-is = replace-is L t n k now formed (its .0) (its .1)

@@ -27,4 +27,4 @@ token-row-spec =
     (λ c. let s = c .before .before .before .before .before .before .before in
     let at = c .before .before .before .before .before .tok-at in
     tokens-copied (s .args .c) (s .args .img .now) (s .pre .0) (s .args .j) (at .result) _ _ (s .pre .1) (at .ensures)
-    (omega (arith, c .before .before .before .before .services .ensures)) refl _ (c .before .put .ensures)))
+    (omega (arith, c .before .before .before .before .services .ensures)) refl 32 (c .before .put .ensures)))

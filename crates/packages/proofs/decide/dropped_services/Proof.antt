@@ -14,8 +14,8 @@ use Rattle.policy.proofs.Sets.{T-false}
 use Rattle.geometry.specs.Geometry.{layoutOf}
 use Rattle.geometry.proofs.Bounds.{limits}
 use Rattle.bits.proofs.Row.{row-bit}
+use Rattle.bits.proofs.Gathered.{Gathers, gathers-start, gathers-on, gathers-off, gathers-end}
 use Rattle.record.specs.Meaning.{itemsIn}
-use Rattle.packages.proofs.Checks.{Gathers, gathers-start, gathers-on, gathers-off, gathers-end}
 use Rattle.packages.proofs.decide.dropped_services.Statement.{statement}
 use Rattle.packages.proofs.decide.dropped_services.Tie as tie
 

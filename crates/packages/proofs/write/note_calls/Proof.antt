@@ -1,7 +1,6 @@
 -- `packages::write::note_calls` meets its contract. Assumes nothing.
 use Prim.Native.Nat.{_-_}
 use native.Mathlib.Omega.{arith}
-use mathlib.Core.Path.{refl}
 use borrow.Author.Needs.{needs}
 use Rattle.policy.specs.Tables.{decode}
 use Rattle.geometry.specs.Geometry.{layoutOf}
@@ -39,7 +38,7 @@ note-calls-spec =
     Inv-loop
     μ-loop
     (λ c κs. search needs)
-    (λ c. noted-start refl)
+    (λ c. noted-start)
     entry-requires
     (λ c κs. search needs)
     (λ c. search (needs, low c))

@@ -42,7 +42,7 @@ leave-noted-requires c κs =
         (omega (arith, limits (s .args .c)), omega (arith, limits (s .args .c))),
         (
           aid-short _ _ _ (s .pre .0) _ (s .pre .1 .1),
-          replace-room _ _ _ (s .pre .0) _ (s .pre .1 .1) (off .strip .ensures) w (rows .note-calls .result) (toks .token-row .result) (rows .note-calls .ensures) (toks .token-row .ensures),
+          replace-room _ _ _ (s .pre .0) _ (s .pre .1 .1) (off .strip .ensures) w (rows .note-calls .result) (toks .token-row .result) (rows .note-calls .ensures .0) (toks .token-row .ensures .0),
         ),
       ),
     )
@@ -55,7 +55,7 @@ returns c =
     let toks = off .before .before in
     let rows = toks .before .before in
     let s = rows .before .before .before .before .before in
-    replace-written _ _ _ (s .pre .0) _ (s .pre .1 .1) (off .strip .ensures) (own .bring-in .ensures (s .args .aid .now)) (rows .note-calls .result) (toks .token-row .result) (rows .note-calls .ensures) (toks .token-row .ensures)
+    replace-written _ _ _ (s .pre .0) _ (s .pre .1 .1) (off .strip .ensures) (own .bring-in .ensures (s .args .aid .now)) (rows .note-calls .result) (toks .token-row .result) (rows .note-calls .ensures .0) (toks .token-row .ensures .0)
     (left .leave-noted .ensures)
 
 pub replace-spec : {M : Type 1} → statement M
