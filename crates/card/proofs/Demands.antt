@@ -11,7 +11,7 @@ use lib.ListN.{length, take, drop}
 use lib.Seq.{take-append-seam}
 use Rattle.policy.specs.Lists.{every}
 use Rattle.policy.specs.Contract.{Aid, Contract, validAid}
-use Rattle.policy.specs.Layout.{narrow, small}
+use Rattle.policy.specs.Layout.{narrow, ahead, renewed, small}
 use Rattle.policy.specs.Causes.{Cause, _when_, answer}
 use Rattle.policy.specs.Tables.{decode, emptyImage}
 use Rattle.policy.specs.Judge.{Out, refusal, judge, check, writeEmpty, loadRecord}
@@ -27,13 +27,14 @@ use Rattle.policy.proofs.Entries.{answers-always}
 use Rattle.policy.proofs.Numbering.{second-number, check-counts}
 use Rattle.policy.proofs.Placing.{placing}
 use Rattle.policy.proofs.Records.{longest-record}
+use Rattle.policy.proofs.Needs.{needs-after, needs-stay, needs-go-on}
 use Rattle.policy.proofs.SoundFacts.{sound-sized}
 use Rattle.policy.proofs.Step.{unsound-refused}
 use Rattle.policy.proofs.Eras.{converts, history-from}
 use Rattle.policy.proofs.Theorems.{empty-stands, so-far, first-cause, accepted-exactly, sound-stands, read-out-again, narrow-ok, small-ok}
 use Rattle.card.specs.Packed.{answerOf, secondOf, aidPlace}
 use Rattle.card.specs.Calls.{Returned, Converted, Calls}
-use Rattle.card.specs.Demands.{Refused, CallsAnswer, CallsCause, CallsVerdict, Restores, CallsReadOut, CallsNumber, HistoryOfCalls, imageOld, contractsOld, CallsHistory, CallsConvert, CallsAid}
+use Rattle.card.specs.Demands.{Refused, CallsAnswer, CallsCause, CallsVerdict, Restores, CallsReadOut, CallsNumber, HistoryOfCalls, imageOld, contractsOld, CallsHistory, CallsConvert, CallsNeeds, CallsAid}
 use Rattle.card.proofs.Packs.{placed, aid-short}
 use Rattle.card.proofs.Tells.{Tells, checked-tells, emptied-tells, converted, converted-tells, judged-tells, wrote, read-tells}
 
@@ -130,13 +131,13 @@ calls-read-out image n lent r left c z =
     (w .0, un, subst (λ (s : List ℕ). Restores k s) (sym is) (restores image n (w .0) un))
 
 -- ---- second numbers
--- where an image that is not sound is answered 1, what is answered 0 is sound
-sound-if : (image : List ℕ) {n : ℕ} → ((T (sound small image) → ⊥) → n ≡ 1) → n ≡ 0 → T (sound small image)
-sound-if image {n} bad z = go (test (sound small image))
+-- what is accepted was judged on a sound image
+accepted-sound : (image rec : List ℕ) → judge small image rec .answered ≡ 0 → T (sound small image)
+accepted-sound image rec z = go (test (sound small image))
   where
     go : T (sound small image) ⊎ (T (sound small image) → ⊥) → T (sound small image)
     go (inl h) = h
-    go (inr h) = let e : _≡_ {A = ℕ} 1 0 = sym (bad h) ∙ z in absurd (omega arith)
+    go (inr h) = let e : _≡_ {A = ℕ} 1 0 = sym (ap (λ (o : Out). o .answered) (first-cause small small-ok image rec .0 h)) ∙ z in absurd (omega arith)
 
 pub calls-number : CallsNumber
 calls-number =
@@ -145,7 +146,7 @@ calls-number =
       judging = λ image rec r left q c z e.
           let t = judged-tells image rec c in
           let a = sym (t .answer) ∙ z in
-          let ok = sound-if image (λ h. ap (λ (o : Out). o .answered) (first-cause small small-ok image rec .0 h)) a in
+          let ok = accepted-sound image rec a in
           record {
             numbered = rw (t .second, c .left-is) (second-number small small-ok image rec q ok e a);
             placed = rw (t .second, c .left-is) (placing small small-ok image rec q ok e a);
@@ -230,6 +231,11 @@ old-valid before middle ok = go (test (sound narrow (imageThen before)))
     go (inl h) = so-far .told before h
     go (inr h) = absurd (h (subst (λ (b : List ℕ). T (sound narrow b)) (stays (imageThen before) h middle) ok))
 
+-- the kinds that are read change no card
+kinds-stand : (image : List ℕ) (cs : List Contract) → StandsFor ahead image cs ⊎ StandsFor renewed image cs → StandsFor small image cs
+kinds-stand image cs (inl f) = so-far .retirement .goes-on image cs (so-far .renewal .goes-on image cs f)
+kinds-stand image cs (inr f) = so-far .retirement .goes-on image cs f
+
 pub calls-history : CallsHistory
 calls-history =
     record {
@@ -239,7 +245,7 @@ calls-history =
       over-conversion = λ before middle lent r image c z.
           let al = old-valid before middle (took (imageOld before middle) lent c z .0) in
           calls-from image (contractsOld before middle) (converted-stands (imageOld before middle) lent c z (contractsOld before middle) (old-stands before middle al));
-      over-renewal = λ image cs f. calls-from image cs (so-far .renewed-stands image cs f);
+      over-kinds = λ image cs f. calls-from image cs (kinds-stand image cs f);
       told = λ before middle lent r left c e. (
         λ z. old-valid before middle (took (imageOld before middle) lent c z .0),
         λ al. converted-tells (imageOld before middle) lent c .answer
@@ -273,4 +279,17 @@ calls-aid rec r c =
           let at : answerOf r ≡ 5 = omega arith in
           let n : secondOf r ≡ length (q .aid) = omega arith in
           (at, n, h .1 ∙ (λ i. take (sym n i) (drop (sym at i) rec)));
+    }
+
+-- ---- needs
+pub calls-needs : CallsNeeds
+calls-needs =
+    record {
+      retired-kinds = λ image rec r left c ok m. refused c (judged-tells image rec c) (2, here refl, so-far .retired-kinds rec m .engine image ok);
+      no-aid = λ rec r c m. calls-aid rec r c .malformed (so-far .retired-kinds rec m .not-read);
+      go-on = needs-go-on;
+      after = λ image rec r left q c z e a x.
+          let n = sym (judged-tells image rec c .answer) ∙ z in
+          rw (c .left-is) (needs-after small small-ok image rec q (accepted-sound image rec n) e n a x);
+      stay = λ image ss rs left h ok a x off. rw (as-history ss rs image h .1) (needs-stay small small-ok (λ h. h) (λ h. h) image ss a x ok off);
     }

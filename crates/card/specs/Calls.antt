@@ -1,5 +1,5 @@
 -- What a call of each exported function returns and leaves: the functions' contracts, and what the demands speak of.
--- `small` has the rules in force, R-2's.
+-- `small` has the rules in force, R-13's.
 use Prim.Native.Nat.{ℕ}
 use mathlib.Core.Path.{_≡_}
 use mathlib.Core.List.{List, [], _∷_}

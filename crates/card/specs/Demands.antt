@@ -7,10 +7,10 @@ use mathlib.Core.List.{List, [], _∷_, map}
 use mathlib.Core.List.{List·Memᴰ as In}
 use mathlib.Core.Option.{none, some}
 use lib.Dec.{T, eqb, leb, ltb}
-use lib.ListN.{length, take, drop}
+use lib.ListN.{length, getD, take, drop}
 use Rattle.policy.specs.Lists.{from}
-use Rattle.policy.specs.Contract.{Contract, lawful}
-use Rattle.policy.specs.Layout.{narrow, ahead, small}
+use Rattle.policy.specs.Contract.{Aid, Row, Contract, lawful}
+use Rattle.policy.specs.Layout.{narrow, ahead, renewed, small}
 use Rattle.policy.specs.Record.{Request, parse, proper}
 use Rattle.policy.specs.Causes.{Cause, _when_}
 use Rattle.policy.specs.Machine.{effect, causes4to7}
@@ -22,6 +22,7 @@ use Rattle.policy.specs.Records.{loadOf, requestOf}
 use Rattle.policy.specs.History.{SameContract, AllValid, StandsFor, imageAfter, machineAnswers, contractsAfter}
 use Rattle.policy.specs.Numbering.{Numbered}
 use Rattle.policy.specs.Placing.{Placed}
+use Rattle.policy.specs.Needs.{NeededBy, NeedsOn, MovesNeed}
 use Rattle.policy.specs.Eras.{imageThen, contractsThen}
 use Rattle.policy.specs.Claims.{CallsGranted, NeedsPresent, FitsLimits, IsFirst, allCauses}
 use Rattle.card.specs.Packed.{answerOf, secondOf}
@@ -137,8 +138,8 @@ pub record CallsHistory : Type 0 where
   pub over-conversion : (before middle : List (List ℕ)) (lent : List ℕ) (r : ℕ) (image : List ℕ)
       → Converted (imageOld before middle) lent r image → answerOf r ≡ 0
       → (ss : List (List ℕ)) (rs left : List ℕ) → Calls image ss rs left → HistoryOfCalls (contractsOld before middle) ss rs left
-  -- R-1: from any card that R-2's rules left, with the contracts that it stands for by them; kind 11 begins
-  pub over-renewal : (image : List ℕ) (cs : List Contract) → StandsFor ahead image cs
+  -- from any card that R-2's rules left, or R-1's, with the contracts that it stands for by them: no byte is converted
+  pub over-kinds : (image : List ℕ) (cs : List Contract) → StandsFor ahead image cs ⊎ StandsFor renewed image cs
       → (ss : List (List ℕ)) (rs left : List ℕ) → Calls image ss rs left → HistoryOfCalls cs ss rs left
   -- a buffer of the card's size takes every such card but those that R-7 left out, which held a method token of 128 or more at its change
   pub told : (before middle : List (List ℕ)) (lent : List ℕ) (r : ℕ) (left : List ℕ) → Converted (imageOld before middle) lent r left
@@ -165,3 +166,20 @@ pub record AidTold (rec : List ℕ) (r : ℕ) : Type 0 where
 
 abbrev pub CallsAid : Type 0
 CallsAid = (rec : List ℕ) (r : ℕ) → AidFound rec r → AidTold rec r
+
+-- ---- R-13: 'Needs only with the contract'
+pub record CallsNeeds : Type 0 where
+  -- 'Kinds 9 and 10 are retired and get 2'
+  pub retired-kinds : (image rec : List ℕ) (r : ℕ) (left : List ℕ) → Judged image rec r left → T (sound small image)
+      → In (getD rec 3 0) (9 ∷ 10 ∷ []) → Refused (2 ∷ []) 255 image r left
+  pub no-aid : (rec : List ℕ) (r : ℕ) → AidFound rec r → In (getD rec 3 0) (9 ∷ 10 ∷ []) → r ≡ 0
+  -- 'Needs set by them stay in force': those of a card that R-1's rules left
+  pub go-on : (image : List ℕ) → T (sound renewed image) → (a : Aid) (x : Row) → NeedsOn renewed image a x ↔ NeedsOn small image a x
+  -- what the package of an accepted record needs after it, and that the others need what they needed
+  pub after : (image rec : List ℕ) (r : ℕ) (left : List ℕ) (q : Request) → Judged image rec r left → answerOf r ≡ 0
+      → parse small rec ≡ some q → (a : Aid) (x : Row)
+      → ((q .aid ≡ a) → NeedsOn small left a x ↔ NeededBy (q .change) x (NeedsOn small image a x))
+      × ((q .aid ≡ a → ⊥) → NeedsOn small left a x ↔ NeedsOn small image a x)
+  -- over records among which no whole contract of a stands (kinds 1, 2 and 11), and none that removes its call on x (kind 6)
+  pub stay : (image : List ℕ) (ss : List (List ℕ)) (rs left : List ℕ) → Calls image ss rs left → T (sound small image)
+      → (a : Aid) (x : Row) → ((s : List ℕ) → In s ss → MovesNeed small a x s → ⊥) → NeedsOn small left a x ↔ NeedsOn small image a x

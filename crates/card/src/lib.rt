@@ -1,5 +1,5 @@
-// The engine's C functions, on the card of 1,110 bytes, by the rules in force (R-2's). Each takes any bytes of any length: none asks
-// anything of its caller.
+// The engine's C functions, on the card of 1,110 bytes, by the rules in force. Each takes any bytes of any length: none asks anything of
+// its caller.
 ghost use mathlib.Core.Path.{_≡_};
 ghost use Rattle.card.specs.Packed.{joined};
 ghost use Rattle.card.specs.Calls.{Checked, Emptied, Converted, Judged, ReadInto, AidFound};

@@ -10,13 +10,13 @@ use Rattle.policy.specs.Contract.{Row, eqRow, hasRow}
 use Rattle.policy.specs.Layout.{Layout}
 use Rattle.policy.specs.Tables.{Tables, Unmet, Waiting}
 use Rattle.policy.specs.Lookup.{Place, Spot, serviceAt, numberOf, serviceOf, serverOf, spotOf}
-use Rattle.policy.specs.Draft.{callRow, grantRow, put3, withCalls, withGrants, withNeeds, addCallAt, addGrantAt, addNeedAt}
+use Rattle.policy.specs.Draft.{callRow, grantRow, put3, withCalls, withGrants, withNeeds, addCallAt, addGrantAt}
 use Rattle.policy.proofs.Sets.{T-eq, T-false, and-l, and-r, and-i}
 use Rattle.policy.proofs.Equal.{eqb-of, row-path, eqRow→, eqRow-refl}
 use Rattle.policy.proofs.Formed.{Names}
 use Rattle.policy.proofs.Found.{ServerIs, SpotIs, server-is, spot-is, same-place}
 use Rattle.changes.proofs.MaskedRows.{or-none, row-off}
-use Rattle.changes.specs.Own.{served, calledAll, grantedAll, neededAll, ownRows, NoRows, withOwn}
+use Rattle.changes.specs.Own.{needAt, served, calledAll, grantedAll, neededAll, ownRows, NoRows, withOwn}
 
 -- ---- one row more among those of a package: p is its row of bits, s that a place stands for the row
 row-more : (p q r b u s e : Bool) → q && r ≡ u && s → cond (p && q && r) true b || (p && (u && e)) ≡ b || (p && (u && (s || e)))
@@ -105,7 +105,7 @@ module _ (L : Layout) (v : Tables) (names : Names L (v .used) (v .aid) (v .tok) 
   needed-rows (r ∷ l) b = go (serverOf L v r) (server-is L v names r) (λ b. needed-rows l b)
     where
       go : (o : Option Place) → ServerIs v r o → ((b : ℕ → ℕ → ℕ → Bool) → neededAll L n l (withNeeds b v) ≡ withNeeds (onServices b l) v)
-          → neededAll L n l (addNeedAt L (withNeeds b v) n r o .tables) ≡ withNeeds (onServices b (r ∷ l)) v
+          → neededAll L n l (needAt (withNeeds b v) n o) ≡ withNeeds (onServices b (r ∷ l)) v
       go none h ih = ih b ∙ (λ i. withNeeds (no-server b r l h i) v)
       go (some p) h ih = ih (put3 n (p .callee) (p .service) true b) ∙ (λ i. withNeeds (at-server b r l p h i) v)
 

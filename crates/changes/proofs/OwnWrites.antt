@@ -15,7 +15,7 @@ use Rattle.policy.specs.Layout.{Layout}
 use Rattle.policy.specs.Record.{aRow}
 use Rattle.policy.specs.Tables.{Tables, Unmet, Waiting, decode}
 use Rattle.policy.specs.Lookup.{Place as Found, Spot as SpotFound, numberOf, serviceOf, serverOf, spotOf}
-use Rattle.policy.specs.Draft.{put3, callRow, grantRow, withCalls, withGrants, withNeeds, addCallAt, addGrantAt, addNeedAt}
+use Rattle.policy.specs.Draft.{put3, callRow, grantRow, withCalls, withGrants, withNeeds, addCallAt, addGrantAt}
 use Rattle.policy.specs.ShortCheck.{count}
 use Rattle.policy.proofs.Sets.{T-true, and-l, and-r}
 use Rattle.geometry.specs.declared.Card.{Card}
@@ -30,7 +30,7 @@ use Rattle.image.proofs.Numbers.{server-none, server-some, spot-none, spot-some
 use Rattle.record.specs.Meaning.{itemsIn}
 use Rattle.record.specs.declared.Items.{Items}
 use Rattle.changes.proofs.ItemLoops.{aid-short, Turns, Turning, RoomBy, room-here, room-after}
-use Rattle.changes.specs.Own.{served, calledAll, grantedAll, neededAll, ownRows, OwnFits}
+use Rattle.changes.specs.Own.{needAt, served, calledAll, grantedAll, neededAll, ownRows, OwnFits}
 use Rattle.changes.proofs.Tests.{served-is}
 
 -- ---- one row
@@ -50,8 +50,8 @@ module _ (L : Layout) (t : Tables) (r : Row) (p : Place) (q : p ≡ placeOr L (s
     service-in = server-some L t r p q h .1
 
     -- a need is a bit; so is a call on a service of the card
-    pub need-bit : (n : ℕ) {img : List ℕ} → Wrote L img (withNeeds (put3 n (p .callee) (p .service) true (t .needs)) t) → Wrote L img (addNeedAt L t n r (serverOf L t r) .tables)
-    need-bit n {img} w = subst (λ (o : Option Found). Wrote L img (addNeedAt L t n r o .tables)) (sym (server-some L t r p q h .0)) w
+    pub need-bit : (n : ℕ) {img : List ℕ} → Wrote L img (withNeeds (put3 n (p .callee) (p .service) true (t .needs)) t) → Wrote L img (needAt t n (serverOf L t r))
+    need-bit n {img} w = subst (λ (o : Option Found). Wrote L img (needAt t n o)) (sym (server-some L t r p q h .0)) w
 
     pub call-bit : (n : ℕ) {img : List ℕ} → Wrote L img (withCalls (put3 n (p .callee) (p .service) true (t .calls)) (t .unmet) t) → Wrote L img (addCallAt L t n r (serverOf L t r) .tables)
     call-bit n {img} w = subst (λ (o : Option Found). Wrote L img (addCallAt L t n r o .tables)) (sym (server-some L t r p q h .0)) w
@@ -129,14 +129,14 @@ module _ (L : Layout) (n : ℕ) where
   abbrev pub NeedsAsk : List Row → Tables → Type 0
   NeedsAsk l t = T (every (served L t) l)
 
-  pub needs-still : (x : Row) (l : List Row) (t : Tables) (o : Option Found) → NeedsAsk l t → NeedsAsk l (addNeedAt L t n x o .tables)
+  pub needs-still : (x : Row) (l : List Row) (t : Tables) (o : Option Found) → NeedsAsk l t → NeedsAsk l (needAt t n o)
   unfolding numberOf serviceOf serverOf
   needs-still x l t none h = h
   needs-still x l t (some p) h = h
 
   abbrev pub needed : Turns Row
   needed = record {
-    one = λ x t. addNeedAt L t n x (serverOf L t x) .tables;
+    one = λ x t. needAt t n (serverOf L t x);
     all = neededAll L n;
     Asks = λ x t. T (served L t x);
     AllAsk = NeedsAsk;

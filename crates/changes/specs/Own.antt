@@ -1,17 +1,23 @@
 -- The rows of a package, one after another: its calls, its grants, its needs.
 use Prim.Native.Nat.{ℕ, _+_, _≤_, _<_}
 use mathlib.Core.Path.{_≡_}
-use mathlib.Core.Bool.{Bool, false, not, _&&_, cond}
+use mathlib.Core.Bool.{Bool, true, false, not, _&&_, cond}
 use mathlib.Core.List.{List, [], _∷_, _++_, map}
+use mathlib.Core.Option.{Option, none, some}
 use lib.Dec.{T, eqb}
 use lib.ListN.{length}
 use Rattle.policy.specs.Lists.{every, keep, isSome}
 use Rattle.policy.specs.Contract.{Row, hasRow}
 use Rattle.policy.specs.Layout.{Layout}
 use Rattle.policy.specs.Tables.{Tables}
-use Rattle.policy.specs.Lookup.{serviceAt, serverOf, spotOf}
-use Rattle.policy.specs.Draft.{callRow, grantRow, addCallAt, addGrantAt, addNeedAt}
+use Rattle.policy.specs.Lookup.{Place, serviceAt, serverOf, spotOf}
+use Rattle.policy.specs.Draft.{callRow, grantRow, put3, withNeeds, addCallAt, addGrantAt}
 use Rattle.policy.specs.ShortCheck.{count}
+
+-- a need of package n more: a bit, at the place of its service
+abbrev pub needAt : Tables → ℕ → Option Place → Tables
+needAt t n none = t
+needAt t n (some p) = withNeeds (put3 n (p .callee) (p .service) true (t .needs)) t
 
 module _ (L : Layout) where
   -- the service of a row is on the card
@@ -28,7 +34,7 @@ module _ (L : Layout) where
 
   abbrev pub neededAll : ℕ → List Row → Tables → Tables
   neededAll n [] t = t
-  neededAll n (r ∷ l) t = neededAll n l (addNeedAt L t n r (serverOf L t r) .tables)
+  neededAll n (r ∷ l) t = neededAll n l (needAt t n (serverOf L t r))
 
   -- all of them
   abbrev pub ownRows : ℕ → List Row → List Row → List Row → Tables → Tables

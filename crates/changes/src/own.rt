@@ -8,13 +8,13 @@ ghost use lib.ListN.{length};
 ghost use Rattle.policy.specs.Lists.{every, isSome};
 ghost use Rattle.policy.specs.Record.{aRow};
 ghost use Rattle.policy.specs.Lookup.{serverOf, spotOf};
-ghost use Rattle.policy.specs.Draft.{addCallAt, addGrantAt, addNeedAt};
+ghost use Rattle.policy.specs.Draft.{addCallAt, addGrantAt};
 ghost use Rattle.policy.specs.ShortCheck.{count};
 ghost use Rattle.geometry.specs.Geometry.{layoutOf, tablesOf};
 ghost use Rattle.image.specs.Laid.{Laid};
 ghost use Rattle.image.specs.Wrote.{Wrote};
 ghost use Rattle.record.specs.Meaning.{AidFits, Stands, ListsStand, rowIn, itemsIn};
-ghost use Rattle.changes.specs.Own.{served, calledAll, grantedAll, neededAll, ownRows, OwnFits};
+ghost use Rattle.changes.specs.Own.{needAt, served, calledAll, grantedAll, neededAll, ownRows, OwnFits};
 use geometry::Card;
 use geometry::Kept;
 use geometry::Table;
@@ -108,8 +108,8 @@ fn need(img: &mut [u8], c: Card, n: usize, rec: &[u8], r: Row)
     requires inside { ⌜ n < layoutOf c .packages ⌝ }
     requires there { ⌜ T (served (layoutOf c) (tablesOf c (now img)) (rowIn (now rec) r)) ⌝ }
     ensures { λ _. ⌜ Wrote (layoutOf c) (now (img .exit))
-        (addNeedAt (layoutOf c) (tablesOf c (now (img .entry))) n (rowIn (now (rec .entry)) r)
-        (serverOf (layoutOf c) (tablesOf c (now (img .entry))) (rowIn (now (rec .entry)) r)) .tables) ⌝ }
+        (needAt (tablesOf c (now (img .entry))) n
+        (serverOf (layoutOf c) (tablesOf c (now (img .entry))) (rowIn (now (rec .entry)) r))) ⌝ }
 {
     let p = crate::find::server(img, c, rec, r);
     image::write::set_bit(img, c, Table::Needs, n, p.callee, p.service);

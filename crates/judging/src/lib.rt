@@ -54,7 +54,7 @@ fn add_service(
     services::adding::add_service(img, c, own, t, rec, callers)
 }
 
-// Kinds 5 to 10, with cause 3.
+// Kinds 5 to 8, with cause 3.
 fn change(img: &mut [u8], c: Card, own: &[u8], rec: &[u8], k: RowKind, r: Row) -> Verdict
     requires taken { ⌜ Taken (layoutOf c) (now img) (now own) (changeOf k (rowIn (now rec) r)) ⌝ }
     requires fits { ⌜ AidFits (now rec) (r .other) ⌝ }

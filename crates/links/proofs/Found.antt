@@ -1,4 +1,4 @@
--- What code has found of a record of kinds 5 to 10: where its row stands, `search spots`, and its plan, `search plans`. Assumes nothing.
+-- What code has found of a record of kinds 5 to 8: where its row stands, `search spots`, and its plan, `search plans`. Assumes nothing.
 use Prim.Native.Nat.{ℕ, _≤_, _<_}
 use native.Mathlib.Omega.{arith}
 use mathlib.Core.Path.{_≡_, refl, sym, ap, ap₂, _∙_, subst}
@@ -65,7 +65,7 @@ row-marked l t n r m k p q = ap₂ bitAnd p q ∙ mask-and (λ x. eqAid (itemAid
 pub row-dropped : (l : Kept) (n m k : ℕ) → m ≡ k → Accept n (Drop l m) ≡ Accept n (Drop l k)
 row-dropped l n m k e = ap (λ (z : ℕ). Accept n (Drop l z)) e
 
--- ---- where a call or need stands: i is the number of its package, p the place of its service
+-- ---- where a call stands: i is the number of its package, p the place of its service
 module _ (L : Layout) (t : Tables) (a : Aid) (r : Row) (n i : ℕ) (en : n ≡ L .packages) (ei : i ≡ numberOr (L .packages) (numberOf L t a)) where
   by-caller : (o : Option ℕ) → numberOf L t a ≡ o → orElse o call.Absent (λ i. callAt L t a r i (serverOf L t r)) ≡ callSpot L t a r
   by-caller o e = sym (ap (λ (o : Option ℕ). orElse o call.Absent (λ i. callAt L t a r i (serverOf L t r))) e)

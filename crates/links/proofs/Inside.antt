@@ -1,4 +1,4 @@
--- What the plans of kinds 5 to 10 need, where the tables are formed and the row's AID is valid. Assumes nothing.
+-- What the plans of kinds 5 to 8 need, where the tables are formed and the row's AID is valid. Assumes nothing.
 use Prim.Native.Nat.{ℕ, _≤_, _<_}
 use mathlib.Core.Path.{_≡_, refl}
 use mathlib.Core.Bool.{Bool, true, false, cond}
@@ -14,11 +14,11 @@ use Rattle.policy.specs.Lookup.{Place, Spot, numberOf, serverOf, spotOf}
 use Rattle.policy.proofs.Sets.{and-r}
 use Rattle.policy.proofs.Formed.{Formed}
 use Rattle.policy.proofs.Found.{NumberIs, ServerIs, SpotIs, number-is, server-is, spot-is}
-use Rattle.geometry.specs.declared.Table.the-variants.{Calls, Grants, Needs}
+use Rattle.geometry.specs.declared.Table.the-variants.{Calls, Grants}
 use Rattle.geometry.specs.declared.Kept.{Kept}
 use Rattle.geometry.specs.declared.Kept.the-variants.{UnmetCalls, WaitingGrants}
 use Rattle.image.specs.Read.{itemsOf}
-use Rattle.links.specs.Plans.{Inside, CallIn, GrantIn, rowMask, callAt, callSpot, grantIs, grantSpot, callPlan, grantPlan, addRow, dropRow, addCallPlan, removeCallPlan, addNeedPlan, removeNeedPlan, addGrantPlan, removeGrantPlan}
+use Rattle.links.specs.Plans.{Inside, CallIn, GrantIn, rowMask, callAt, callSpot, grantIs, grantSpot, callPlan, grantPlan, addRow, dropRow, addCallPlan, removeCallPlan, addGrantPlan, removeGrantPlan}
 use Rattle.links.specs.declared.spots.CallSpot.{CallSpot}
 use Rattle.links.specs.declared.spots.CallSpot.the-variants.{Unserved, Served}
 use Rattle.links.specs.declared.spots.CallSpot.the-variants as call
@@ -27,7 +27,7 @@ use Rattle.links.specs.declared.spots.GrantSpot.the-variants.{Waits, Gra
 use Rattle.links.specs.declared.spots.GrantSpot.the-variants as grant
 use Rattle.links.specs.declared.plan.Plan.{Plan}
 use Rattle.links.specs.declared.plan.Plan.the-variants.{Refuse, Accept}
-use Rattle.links.specs.declared.plan.Edit.the-variants.{Set, Clear, Uncall, Add, Drop}
+use Rattle.links.specs.declared.plan.Edit.the-variants.{Set, Ungrant, Uncall, Add, Drop}
 
 module _ (L : Layout) (t : Tables) (formed : Formed L t) (a : Aid) (r : Row) (va : T (validAid (r .aid))) where
   short : length (r .aid) ≤ 16
@@ -100,20 +100,4 @@ module _ (L : Layout) (t : Tables) (formed : Formed L t) (a : Aid) (r : Row) (va
       go : (s : GrantSpot) → GrantIn L s → Inside L t r (removeGrantPlan L t r s)
       go grant.Absent h = tt
       go (Waits j) h = drop-row-inside WaitingGrants j h
-      go (Granted j i k) h = by-test (t .grants j i k) _ (Refuse 6) (λ e. by-test (t .calls i j k) (Refuse 8) (Accept j (Clear Grants i k)) (λ e. tt) (λ e. (h .0, h))) (λ e. tt)
-
-  pub add-need-inside : Inside L t r (callPlan L t (addNeedPlan L t r) a r)
-  add-need-inside = go (callSpot L t a r) call-in
-    where
-      go : (s : CallSpot) → CallIn L s → Inside L t r (addNeedPlan L t r s)
-      go call.Absent h = tt
-      go (Unserved i) h = by-test (eqb (rowMask UnmetCalls t i r) 0) (Refuse 6) (Refuse 9) (λ e. tt) (λ e. tt)
-      go (Served i j k) h = by-test (t .calls i j k) _ (Refuse 6) (λ e. by-test (t .needs i j k) (Refuse 6) (Accept i (Set Needs j k)) (λ e. tt) (λ e. (h .0, h))) (λ e. tt)
-
-  pub remove-need-inside : Inside L t r (callPlan L t (removeNeedPlan L t r) a r)
-  remove-need-inside = go (callSpot L t a r) call-in
-    where
-      go : (s : CallSpot) → CallIn L s → Inside L t r (removeNeedPlan L t r s)
-      go call.Absent h = tt
-      go (Unserved i) h = tt
-      go (Served i j k) h = by-test (t .needs i j k) (Accept i (Clear Needs j k)) (Refuse 6) (λ e. (h .0, h)) (λ e. tt)
+      go (Granted j i k) h = by-test (t .grants j i k) _ (Refuse 6) (λ e. by-test (t .calls i j k) (Refuse 8) (Accept j (Ungrant i k)) (λ e. tt) (λ e. (h .0, h))) (λ e. tt)

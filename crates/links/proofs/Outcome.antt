@@ -1,4 +1,4 @@
--- The kinds 5 to 10: a plan that comes to the outcome, and can be carried out. `search kinds`. Assumes nothing.
+-- The kinds 5 to 8: a plan that comes to the outcome, and can be carried out. `search kinds`. Assumes nothing.
 use Prim.Native.Nat.{ℕ}
 use mathlib.Core.Path.{_≡_, sym, ap, _∙_, subst}
 use mathlib.Core.List.{List}
@@ -13,7 +13,7 @@ use Rattle.policy.proofs.Formed.{Formed}
 use Rattle.policy.proofs.SoundFacts.{sound-formed}
 use Rattle.record.specs.Meaning.{changeOf}
 use Rattle.record.specs.declared.RowKind.{RowKind}
-use Rattle.record.specs.declared.RowKind.the-variants.{AddCall, RemoveCall, AddGrant, RemoveGrant, AddNeed, RemoveNeed}
+use Rattle.record.specs.declared.RowKind.the-variants.{AddCall, RemoveCall, AddGrant, RemoveGrant}
 use Rattle.geometry.specs.Geometry.{layoutOf}
 use Rattle.geometry.specs.declared.Card.{Card}
 use Rattle.geometry.proofs.Bounds.{early}
@@ -21,8 +21,8 @@ use Rattle.changes.specs.Asked.{Asked}
 use Rattle.links.specs.Plans.{done, Inside, planOf}
 use Rattle.links.specs.declared.plan.Plan.{Plan}
 use Rattle.changes.proofs.Verdicts.{asked-laid}
-use Rattle.links.proofs.Planned.{add-call-planned, remove-call-planned, add-grant-planned, remove-grant-planned, add-need-planned, remove-need-planned}
-use Rattle.links.proofs.Inside.{add-call-inside, remove-call-inside, add-grant-inside, remove-grant-inside, add-need-inside, remove-need-inside}
+use Rattle.links.proofs.Planned.{add-call-planned, remove-call-planned, add-grant-planned, remove-grant-planned}
+use Rattle.links.proofs.Inside.{add-call-inside, remove-call-inside, add-grant-inside, remove-grant-inside}
 
 -- the plan q comes to the outcome o of a row r
 pub record Comes (L : Layout) (img : List ℕ) (r : Row) (o : Out) (q : Plan) : Type 0 where
@@ -45,8 +45,6 @@ module _ (c : Card) (img : List ℕ) (a : Aid) (r : Row) where
   comes RemoveCall ask = record { outcome = remove-call-planned L img a r ask; inside = remove-call-inside L t (formed ask) a r (ask .within .0) }
   comes AddGrant ask = record { outcome = add-grant-planned L img a r (early c) ask; inside = add-grant-inside L t (formed ask) a r (ask .within .0) }
   comes RemoveGrant ask = record { outcome = remove-grant-planned L img a r ask; inside = remove-grant-inside L t (formed ask) a r (ask .within .0) }
-  comes AddNeed ask = record { outcome = add-need-planned L img a r ask; inside = add-need-inside L t (formed ask) a r (ask .within .0) }
-  comes RemoveNeed ask = record { outcome = remove-need-planned L img a r ask; inside = remove-need-inside L t (formed ask) a r (ask .within .0) }
 
 module _ (L : Layout) (img : List ℕ) (r : Row) (p q : Plan) where
   pub comes-inside : (o : Out) → p ≡ q → Comes L img r o q → Inside L (decode L img) r p

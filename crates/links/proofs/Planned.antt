@@ -1,4 +1,4 @@
--- The plan of a record of kinds 5 to 10 comes to its outcome. Assumes nothing.
+-- The plan of a record of kinds 5 to 8 comes to its outcome. Assumes nothing.
 use Prim.Native.Nat.{ℕ}
 use mathlib.Core.Path.{_≡_, refl, sym, ap, _∙_, subst}
 use mathlib.Core.Bool.{Bool, true, false, not, _&&_, _||_, cond, and-comm}
@@ -10,33 +10,33 @@ use borrow.Author.Tests.{eq-eqb, ne-eqb}
 use Rattle.policy.specs.Lists.{exists, keep, isSome, orElse}
 use Rattle.policy.specs.Contract.{Aid, eqAid, eqTok, Row, hasTok, hasRow}
 use Rattle.policy.specs.Layout.{Layout}
-use Rattle.policy.specs.Record.{Change, addCall, removeCall, addGrant, removeGrant, addNeed, removeNeed}
+use Rattle.policy.specs.Record.{Change, addCall, removeCall, addGrant, removeGrant}
 use Rattle.policy.specs.Causes.{_when_, answer}
 use Rattle.policy.specs.Tables.{Tables, Unmet, Waiting, decode}
 use Rattle.policy.specs.Lookup.{Place, Spot, numberOf, serverOf, spotOf, freeNumber, contractAt}
 use Rattle.policy.specs.Sound.{sound, eqUnmet, eqWaiting}
-use Rattle.policy.specs.Draft.{Draft, Look, kept, draft, numberFor, callRow, grantRow, hasUnmet, hasWaiting, addCallAt, removeCallAt, addGrantAt, removeGrantAt, addNeedAt, removeNeedAt}
-use Rattle.policy.specs.ShortCheck.{fine, shortLook, shortAddCall, shortAddGrant, shortRemoveGrant, shortAddNeed}
+use Rattle.policy.specs.Draft.{Draft, Look, kept, draft, numberFor, callRow, grantRow, hasUnmet, hasWaiting, addCallAt, removeCallAt, addGrantAt, removeGrantAt}
+use Rattle.policy.specs.ShortCheck.{fine, shortLook, shortAddCall, shortAddGrant, shortRemoveGrant}
 use Rattle.policy.specs.Judge.{Out, tableCauses, lookCauses, judged, absent, holds}
 use Rattle.policy.specs.Settled.{settled}
 use Rattle.policy.proofs.Sets.{T-eq, true-T, false-T}
 use Rattle.policy.proofs.Equal.{eqUnmet→, eqUnmet-refl, eqWaiting→, eqWaiting-refl}
 use Rattle.policy.proofs.SoundFacts.{sound-formed}
-use Rattle.policy.proofs.HasRow.{has-call-is, has-need-is, has-grant-is}
+use Rattle.policy.proofs.HasRow.{has-call-is, has-grant-is}
 use Rattle.rows.specs.Area.{keepRows}
 use Rattle.image.proofs.Masks.{mask-zero, zero-mask, keep-mask}
 use Rattle.image.specs.Laid.{withItems}
 use Rattle.image.specs.Read.{Item, itemsOf, item, itemAid, itemTok, itemNumber, maskOf}
-use Rattle.geometry.specs.declared.Table.the-variants.{Calls, Grants, Needs}
+use Rattle.geometry.specs.declared.Table.the-variants.{Calls, Grants}
 use Rattle.geometry.specs.declared.Kept.{Kept}
 use Rattle.geometry.specs.declared.Kept.the-variants.{UnmetCalls, WaitingGrants}
 use Rattle.changes.specs.Asked.{Asked}
-use Rattle.links.specs.Plans.{rowMask, edited, done, callAt, callPlan, grantIs, grantPlan, addRow, dropRow, addCallPlan, removeCallPlan, addNeedPlan, removeNeedPlan, addGrantPlan, removeGrantPlan}
+use Rattle.links.specs.Plans.{rowMask, edited, done, callAt, callPlan, grantIs, grantPlan, addRow, dropRow, addCallPlan, removeCallPlan, addGrantPlan, removeGrantPlan}
 use Rattle.links.specs.declared.spots.CallSpot.the-variants as call
 use Rattle.links.specs.declared.spots.GrantSpot.the-variants as grant
 use Rattle.links.specs.declared.plan.Plan.{Plan}
 use Rattle.links.specs.declared.plan.Plan.the-variants.{Refuse, Accept}
-use Rattle.links.specs.declared.plan.Edit.the-variants.{Set, Clear, Uncall, Add, Drop}
+use Rattle.links.specs.declared.plan.Edit.the-variants.{Set, Ungrant, Uncall, Add, Drop}
 use Rattle.changes.proofs.Verdicts.{firstOf, settled-by}
 
 -- ---- masks of the rows that are one row
@@ -153,9 +153,6 @@ module _ (L : Layout) (img : List ℕ) (a : Aid) (r : Row) where
   abbrev calledAt : ℕ → Option Place → Bool
   calledAt i o = orElse o (hasUnmet (callRow i r) (t .unmet)) (λ p. t .calls i (p .callee) (p .service))
 
-  abbrev neededAt : ℕ → Option Place → Bool
-  neededAt i o = orElse o false (λ p. t .needs i (p .callee) (p .service))
-
   abbrev grantedAt : ℕ → Option Spot → Bool
   grantedAt j o = orElse o (hasWaiting (grantRow j r) (t .waiting)) (λ p. t .grants j (p .caller) (p .service))
 
@@ -179,30 +176,6 @@ module _ (L : Layout) (img : List ℕ) (a : Aid) (r : Row) where
       go true = refl
       go false = refl
 
-  -- ---- kind 9
-  add-need-at : (i : ℕ) (o : Option Place) → outcome i (not (calledAt i o) || neededAt i o) (shortAddNeed L t o) (addNeedAt L t i r o) ≡ done L img r (addNeedPlan L t r (callAt L t a r i o))
-  add-need-at i none = go (hasUnmet (callRow i r) (t .unmet)) ∙ ap (λ (z : Bool). done L img r (cond z (Refuse 6) (Refuse 9))) (sym (row-none UnmetCalls t i r))
-    where
-      go : (b : Bool) → outcome i (not b || false) (shortAddNeed L t none) (addNeedAt L t i r none) ≡ done L img r (cond (not b) (Refuse 6) (Refuse 9))
-      go true = refl
-      go false = refl
-  add-need-at i (some p) = go (t .calls i (p .callee) (p .service)) (t .needs i (p .callee) (p .service))
-    where
-      go : (b n : Bool) → outcome i (not b || n) (shortAddNeed L t (some p)) (addNeedAt L t i r (some p))
-          ≡ done L img r (cond b (cond n (Refuse 6) (Accept i (Set Needs (p .callee) (p .service)))) (Refuse 6))
-      go true true = refl
-      go true false = refl
-      go false n = refl
-
-  -- ---- kind 10
-  remove-need-at : (i : ℕ) (o : Option Place) → outcome i (not (neededAt i o)) fine (removeNeedAt L t i r o) ≡ done L img r (removeNeedPlan L t r (callAt L t a r i o))
-  remove-need-at i none = refl
-  remove-need-at i (some p) = go (t .needs i (p .callee) (p .service))
-    where
-      go : (b : Bool) → outcome i (not b) fine (removeNeedAt L t i r (some p)) ≡ done L img r (cond b (Accept i (Clear Needs (p .callee) (p .service))) (Refuse 6))
-      go true = refl
-      go false = refl
-
   -- ---- kind 7
   add-grant-at : (j : ℕ) (o : Option Spot) → outcome j (grantedAt j o) (shortAddGrant L t o) (addGrantAt L t j r o) ≡ done L img r (addGrantPlan L t r (grantIs L t a r j o))
   add-grant-at j none = add-row-at WaitingGrants j
@@ -219,7 +192,7 @@ module _ (L : Layout) (img : List ℕ) (a : Aid) (r : Row) where
   remove-grant-at j (some p) = go (t .grants j (p .caller) (p .service)) (t .calls (p .caller) j (p .service))
     where
       go : (b c : Bool) → outcome j (not b) (record { granted = not c; needed = true; unmetFits = true; waitingFits = true }) (removeGrantAt L t j r (some p))
-          ≡ done L img r (cond b (cond c (Refuse 8) (Accept j (Clear Grants (p .caller) (p .service)))) (Refuse 6))
+          ≡ done L img r (cond b (cond c (Refuse 8) (Accept j (Ungrant (p .caller) (p .service)))) (Refuse 6))
       go true true = refl
       go true false = refl
       go false c = refl
@@ -228,9 +201,6 @@ module _ (L : Layout) (img : List ℕ) (a : Aid) (r : Row) where
   module _ (ok : T (sound L img)) where
     called : (i : ℕ) → hasRow r (contractAt L t i .calls) ≡ calledAt i (serverOf L t r)
     called i = has-call-is L t (sound-formed L img ok) i r
-
-    needed : (i : ℕ) → hasRow r (contractAt L t i .needs) ≡ neededAt i (serverOf L t r)
-    needed i = has-need-is L t (sound-formed L img ok) i r
 
     granted : (j : ℕ) → hasRow r (contractAt L t j .grants) ≡ grantedAt j (spotOf L t j r)
     granted j = has-grant-is L t (sound-formed L img ok) j r
@@ -264,19 +234,3 @@ module _ (L : Layout) (img : List ℕ) (a : Aid) (r : Row) where
       at-number (removeGrant r) ask (λ o. not (orElse o false (λ j. hasRow r (contractAt L t j .grants)))) (λ o. orElse o fine (λ j. shortRemoveGrant L t j (spotOf L t j r)))
       (λ o. orElse o (kept t) (λ j. removeGrantAt L t j r (spotOf L t j r))) (λ o. removeGrantPlan L t r (orElse o grant.Absent (λ j. grantIs L t a r j (spotOf L t j r)))) refl refl refl refl
       (λ j. ap (λ (b : Bool). outcome j (not b) (shortRemoveGrant L t j (spotOf L t j r)) (removeGrantAt L t j r (spotOf L t j r))) (granted (ask .is-sound) j) ∙ remove-grant-at j (spotOf L t j r))
-
-  pub add-need-planned : Asked L img a (addNeed r) → settled L img a (addNeed r) ≡ done L img r (callPlan L t (addNeedPlan L t r) a r)
-  unfolding draft shortLook
-  add-need-planned ask =
-      at-number (addNeed r) ask (λ o. not (orElse o false (λ i. hasRow r (contractAt L t i .calls))) || orElse o false (λ i. hasRow r (contractAt L t i .needs)))
-      (λ o. shortAddNeed L t (serverOf L t r)) (λ o. orElse o (kept t) (λ i. addNeedAt L t i r (serverOf L t r)))
-      (λ o. addNeedPlan L t r (orElse o call.Absent (λ i. callAt L t a r i (serverOf L t r)))) refl refl refl refl
-      (λ i. (λ z. outcome i (not (called (ask .is-sound) i z) || needed (ask .is-sound) i z) (shortAddNeed L t (serverOf L t r)) (addNeedAt L t i r (serverOf L t r)))
-      ∙ add-need-at i (serverOf L t r))
-
-  pub remove-need-planned : Asked L img a (removeNeed r) → settled L img a (removeNeed r) ≡ done L img r (callPlan L t (removeNeedPlan L t r) a r)
-  unfolding draft shortLook
-  remove-need-planned ask =
-      at-number (removeNeed r) ask (λ o. not (orElse o false (λ i. hasRow r (contractAt L t i .needs)))) (λ o. fine)
-      (λ o. orElse o (kept t) (λ i. removeNeedAt L t i r (serverOf L t r))) (λ o. removeNeedPlan L t r (orElse o call.Absent (λ i. callAt L t a r i (serverOf L t r)))) refl refl refl refl
-      (λ i. ap (λ (b : Bool). outcome i (not b) fine (removeNeedAt L t i r (serverOf L t r))) (needed (ask .is-sound) i) ∙ remove-need-at i (serverOf L t r))

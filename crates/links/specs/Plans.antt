@@ -1,4 +1,4 @@
--- Kinds 5 to 10 by what is found in the tables: where the record's row stands, a plan, and the outcome that it comes to.
+-- Kinds 5 to 8 by what is found in the tables: where the record's row stands, a plan, and the outcome that it comes to.
 use Prim.Native.Nat.{ℕ, _≤_, _<_}
 use mathlib.Core.Path.{_≡_}
 use mathlib.Core.Bool.{Bool, true, false, _&&_, cond}
@@ -21,7 +21,7 @@ use Rattle.geometry.specs.declared.Kept.the-variants.{UnmetCalls, WaitingGrants
 use Rattle.image.specs.Laid.{tableOf, withTable, withItems}
 use Rattle.image.specs.Read.{itemsOf, item, itemAid, itemTok, itemNumber, maskOf}
 use Rattle.record.specs.declared.RowKind.{RowKind}
-use Rattle.record.specs.declared.RowKind.the-variants.{AddCall, RemoveCall, AddGrant, RemoveGrant, AddNeed, RemoveNeed}
+use Rattle.record.specs.declared.RowKind.the-variants.{AddCall, RemoveCall, AddGrant, RemoveGrant}
 use Rattle.links.specs.declared.spots.CallSpot.{CallSpot}
 use Rattle.links.specs.declared.spots.CallSpot.the-variants.{Unserved, Served}
 use Rattle.links.specs.declared.spots.CallSpot.the-variants as call
@@ -31,7 +31,7 @@ use Rattle.links.specs.declared.spots.GrantSpot.the-variants as grant
 use Rattle.links.specs.declared.plan.Plan.{Plan}
 use Rattle.links.specs.declared.plan.Plan.the-variants.{Refuse, Accept}
 use Rattle.links.specs.declared.plan.Edit.{Edit}
-use Rattle.links.specs.declared.plan.Edit.the-variants.{Set, Clear, Uncall, Add, Drop}
+use Rattle.links.specs.declared.plan.Edit.the-variants.{Set, Ungrant, Uncall, Add, Drop}
 
 -- which rows of a list are the row r of package n
 abbrev pub rowMask : Kept → Tables → ℕ → Row → ℕ
@@ -44,7 +44,7 @@ module _ (t : Tables) where
 
 -- ---- where the row of a record with first AID a stands
 module _ (L : Layout) (t : Tables) (a : Aid) (r : Row) where
-  -- a call or need: by the number of its package, and the place of its service
+  -- a call: by the number of its package, and the place of its service
   abbrev pub callAt : ℕ → Option Place → CallSpot
   callAt i none = Unserved i
   callAt i (some p) = Served i (p .callee) (p .service)
@@ -111,17 +111,7 @@ module _ (L : Layout) (t : Tables) (r : Row) where
   abbrev pub removeGrantPlan : GrantSpot → Plan
   removeGrantPlan grant.Absent = Refuse 5
   removeGrantPlan (Waits j) = dropRow WaitingGrants j
-  removeGrantPlan (Granted j i k) = cond (t .grants j i k) (cond (t .calls i j k) (Refuse 8) (Accept j (Clear Grants i k))) (Refuse 6)
-
-  abbrev pub addNeedPlan : CallSpot → Plan
-  addNeedPlan call.Absent = Refuse 5
-  addNeedPlan (Unserved i) = cond (eqb (rowMask UnmetCalls t i r) 0) (Refuse 6) (Refuse 9)
-  addNeedPlan (Served i j k) = cond (t .calls i j k) (cond (t .needs i j k) (Refuse 6) (Accept i (Set Needs j k))) (Refuse 6)
-
-  abbrev pub removeNeedPlan : CallSpot → Plan
-  removeNeedPlan call.Absent = Refuse 5
-  removeNeedPlan (Unserved i) = Refuse 6
-  removeNeedPlan (Served i j k) = cond (t .needs i j k) (Accept i (Clear Needs j k)) (Refuse 6)
+  removeGrantPlan (Granted j i k) = cond (t .grants j i k) (cond (t .calls i j k) (Refuse 8) (Accept j (Ungrant i k))) (Refuse 6)
 
 -- the plan by where the row stands
 abbrev pub callPlan : Layout → Tables → (CallSpot → Plan) → Aid → Row → Plan
@@ -136,13 +126,11 @@ planOf L t a r AddCall = callPlan L t (addCallPlan L t r) a r
 planOf L t a r RemoveCall = callPlan L t (removeCallPlan L t r) a r
 planOf L t a r AddGrant = grantPlan L t (addGrantPlan L t r) a r
 planOf L t a r RemoveGrant = grantPlan L t (removeGrantPlan L t r) a r
-planOf L t a r AddNeed = callPlan L t (addNeedPlan L t r) a r
-planOf L t a r RemoveNeed = callPlan L t (removeNeedPlan L t r) a r
 
 -- ---- the row r of package n: the tables after a change, and the outcome of a plan
 abbrev pub edited : Tables → Row → ℕ → Edit → Tables
 edited t r n (Set tb y z) = withBit t tb n y z true
-edited t r n (Clear tb y z) = withBit t tb n y z false
+edited t r n (Ungrant i k) = withBit t Grants n i k false
 edited t r n (Uncall j k) = withBit (withBit t Needs n j k false) Calls n j k false
 edited t r n (Add l) = withItems l (itemsOf l t ++ (item l (r .aid) (r .tok) n ∷ [])) t
 edited t r n (Drop l m) = withItems l (keepRows m (itemsOf l t)) t
@@ -155,7 +143,7 @@ done L img r (Accept n e) = record { answered = 0; second = n; bytes = encode L 
 module _ (L : Layout) (t : Tables) (r : Row) where
   abbrev pub Fits : ℕ → Edit → Type 0
   Fits n (Set tb y z) = BitAt L n y z
-  Fits n (Clear tb y z) = BitAt L n y z
+  Fits n (Ungrant i k) = BitAt L n i k
   Fits n (Uncall j k) = BitAt L n j k
   Fits n (Add l) = (length (itemsOf l t) < L .capacity) × ((length (r .aid) ≤ 16) × (n < L .packages))
   Fits n (Drop l m) = Unit {0}

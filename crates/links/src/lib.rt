@@ -1,4 +1,4 @@
-// Kinds 5 to 10: one call, grant or need of a package. A plan first, then the writes.
+// Kinds 5 to 8: one call or grant of a package. A plan first, then the writes.
 ghost use Rattle.policy.specs.Settled.{settled, Gives};
 ghost use Rattle.geometry.specs.Geometry.{layoutOf, tablesOf};
 ghost use Rattle.image.specs.Laid.{Laid};
@@ -34,12 +34,12 @@ fn apply(img: &mut [u8], c: Card, owner: usize, other: &[u8], t: Tokens, edit: E
             column,
             service,
         ),
-        Edit::Clear(table, column, service) => image::write::clear_bit(
+        Edit::Ungrant(caller, service) => image::write::clear_bit(
             img,
             c,
-            table,
+            Table::Grants,
             owner,
-            column,
+            caller,
             service,
         ),
         Edit::Uncall(callee, service) => {
@@ -67,7 +67,7 @@ fn perform(img: &mut [u8], c: Card, other: &[u8], t: Tokens, plan: Plan) -> Verd
     }
 }
 
-// Kinds 5 to 10: the row of the package `own` with the AID `other` and these tokens comes, or goes.
+// Kinds 5 to 8: the row of the package `own` with the AID `other` and these tokens comes, or goes.
 pub fn change(img: &mut [u8], c: Card, own: &[u8], other: &[u8], t: Tokens, k: RowKind) -> Verdict
     requires { ⌜ Asked (layoutOf c) (now img) (now own) (changeOf k (asked (now other) t)) ⌝ }
     ensures { λ r. ⌜ Gives (settled (layoutOf c) (now (img .entry)) (now (own .entry)) (changeOf k (asked (now (other .entry)) t)))

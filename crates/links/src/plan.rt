@@ -1,10 +1,10 @@
-// What a record of kinds 5 to 10 comes to: found on the image, and not written yet.
+// What a record of kinds 5 to 8 comes to: found on the image, and not written yet.
 ghost use mathlib.Core.Path.{_≡_};
 ghost use Rattle.geometry.specs.Geometry.{layoutOf, tablesOf};
 ghost use Rattle.image.specs.Laid.{Laid};
 ghost use Rattle.image.specs.Read.{asked};
 ghost use Rattle.links.specs.Plans.{rowMask, addRow, dropRow, callPlan, grantPlan, planOf};
-ghost use Rattle.links.specs.Plans.{addCallPlan, removeCallPlan, addGrantPlan, removeGrantPlan, addNeedPlan, removeNeedPlan};
+ghost use Rattle.links.specs.Plans.{addCallPlan, removeCallPlan, addGrantPlan, removeGrantPlan};
 use crate::spots::CallSpot;
 use crate::spots::GrantSpot;
 use geometry::Card;
@@ -16,7 +16,8 @@ use record::RowKind;
 // One change of the tables, for the package of the record: a bit of its row in a table, by column and service; or a row of a list.
 pub enum Edit {
     Set(Table, usize, usize),
-    Clear(Table, usize, usize),
+    // a grant, by caller and service
+    Ungrant(usize, usize),
     // a call and the need on it, by callee and service
     Uncall(usize, usize),
     Add(Kept),
@@ -143,58 +144,12 @@ fn plan_remove_grant(img: &[u8], c: Card, aid: &[u8], other: &[u8], t: Tokens) -
             if crate::spots::has(img, c, Table::Calls, i, j, k) {
                 return Plan::Refuse(8);
             }
-            Plan::Accept(j, Edit::Clear(Table::Grants, i, k))
+            Plan::Accept(j, Edit::Ungrant(i, k))
         }
     }
 }
 
-// What kind 9 comes to.
-fn plan_add_need(img: &[u8], c: Card, aid: &[u8], other: &[u8], t: Tokens) -> Plan
-    requires { ⌜ Laid (layoutOf c) (now img) ⌝ }
-    ensures { λ r. ⌜ r ≡ callPlan (layoutOf c) (tablesOf c (now (img .entry)))
-        (addNeedPlan (layoutOf c) (tablesOf c (now (img .entry))) (asked (now (other .entry)) t))
-        (now (aid .entry)) (asked (now (other .entry)) t) ⌝ }
-{
-    match crate::spots::seek_call(img, c, aid, other, t) {
-        CallSpot::Absent => Plan::Refuse(5),
-        CallSpot::Unserved(i) => {
-            if row_mask(img, c, Kept::UnmetCalls, i, other, t) == 0 {
-                return Plan::Refuse(6);
-            }
-            Plan::Refuse(9)
-        }
-        CallSpot::Served(i, j, k) => {
-            if !crate::spots::has(img, c, Table::Calls, i, j, k) {
-                return Plan::Refuse(6);
-            }
-            if crate::spots::has(img, c, Table::Needs, i, j, k) {
-                return Plan::Refuse(6);
-            }
-            Plan::Accept(i, Edit::Set(Table::Needs, j, k))
-        }
-    }
-}
-
-// What kind 10 comes to.
-fn plan_remove_need(img: &[u8], c: Card, aid: &[u8], other: &[u8], t: Tokens) -> Plan
-    requires { ⌜ Laid (layoutOf c) (now img) ⌝ }
-    ensures { λ r. ⌜ r ≡ callPlan (layoutOf c) (tablesOf c (now (img .entry)))
-        (removeNeedPlan (layoutOf c) (tablesOf c (now (img .entry))) (asked (now (other .entry)) t))
-        (now (aid .entry)) (asked (now (other .entry)) t) ⌝ }
-{
-    match crate::spots::seek_call(img, c, aid, other, t) {
-        CallSpot::Absent => Plan::Refuse(5),
-        CallSpot::Unserved(_) => Plan::Refuse(6),
-        CallSpot::Served(i, j, k) => {
-            if crate::spots::has(img, c, Table::Needs, i, j, k) {
-                return Plan::Accept(i, Edit::Clear(Table::Needs, j, k));
-            }
-            Plan::Refuse(6)
-        }
-    }
-}
-
-// What a record of kinds 5 to 10 comes to: the row of the package `own` with the AID `other` and these tokens.
+// What a record of kinds 5 to 8 comes to: the row of the package `own` with the AID `other` and these tokens.
 pub fn plan_row(img: &[u8], c: Card, own: &[u8], other: &[u8], t: Tokens, k: RowKind) -> Plan
     requires { ⌜ Laid (layoutOf c) (now img) ⌝ }
     ensures { λ r. ⌜ r ≡ planOf (layoutOf c) (tablesOf c (now (img .entry))) (now (own .entry)) (asked (now (other .entry)) t) k ⌝ }
@@ -204,7 +159,5 @@ pub fn plan_row(img: &[u8], c: Card, own: &[u8], other: &[u8], t: Tokens, k: Row
         RowKind::RemoveCall => plan_remove_call(img, c, own, other, t),
         RowKind::AddGrant => plan_add_grant(img, c, own, other, t),
         RowKind::RemoveGrant => plan_remove_grant(img, c, own, other, t),
-        RowKind::AddNeed => plan_add_need(img, c, own, other, t),
-        RowKind::RemoveNeed => plan_remove_need(img, c, own, other, t),
     }
 }

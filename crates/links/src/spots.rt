@@ -1,4 +1,4 @@
-// Where the row of a record of kinds 5 to 10 stands.
+// Where the row of a record of kinds 5 to 8 stands.
 ghost use mathlib.Core.Path.{_≡_};
 ghost use Rattle.geometry.specs.Geometry.{layoutOf, tablesOf};
 ghost use Rattle.image.specs.Laid.{Laid, tableOf};
@@ -8,7 +8,7 @@ use geometry::Card;
 use geometry::Table;
 use geometry::Tokens;
 
-// Where a call or need stands: package number `caller`; then callee and service number where its service is on the card.
+// Where a call stands: package number `caller`; then callee and service number where its service is on the card.
 pub enum CallSpot {
     Absent,
     Unserved(usize),
@@ -32,7 +32,7 @@ pub fn has(img: &[u8], c: Card, tb: Table, i: usize, j: usize, k: usize) -> bool
     bits::has_bit(row, k)
 }
 
-// Where the call or need of the package `aid` on the service of `other` with these tokens stands.
+// Where the call of the package `aid` on the service of `other` with these tokens stands.
 pub fn seek_call(img: &[u8], c: Card, aid: &[u8], other: &[u8], t: Tokens) -> CallSpot
     requires { ⌜ Laid (layoutOf c) (now img) ⌝ }
     ensures { λ s. ⌜ CallFound (layoutOf c) (tablesOf c (now (img .entry))) (now (aid .entry)) (asked (now (other .entry)) t) s ⌝ }

@@ -2,22 +2,22 @@
 use Prim.Native.Nat.{ℕ}
 use mathlib.Core.Path.{_≡_, sym, ap, _∙_, subst}
 use mathlib.Core.Logic.{_↔_}
-use mathlib.Core.Bool.{Bool, false}
-use mathlib.Core.List.{List, []}
-use mathlib.Core.List.{List·Memᴰ as In, List·Memᴰ·not-nil as in-nil}
+use mathlib.Core.Bool.{Bool}
+use mathlib.Core.List.{List}
+use mathlib.Core.List.{List·Memᴰ as In}
 use mathlib.Core.Option.{Option, none, some}
 use lib.Dec.{T}
 use Rattle.policy.specs.Lists.{isSome, orElse}
 use Rattle.policy.specs.Contract.{Tok, Row, hasTok, hasRow}
 use Rattle.policy.specs.Layout.{Layout}
-use Rattle.policy.specs.Tables.{Tables, Unmet}
+use Rattle.policy.specs.Tables.{Tables}
 use Rattle.policy.specs.Lookup.{Place, Spot, serviceOf, serverOf, spotOf, contractAt}
 use Rattle.policy.specs.Draft.{callRow, grantRow, hasUnmet, hasWaiting}
 use Rattle.policy.proofs.Sets.{T-eq, T-true, T-false}
 use Rattle.policy.proofs.Equal.{has-tok, tok-has, has-row, row-has, has-unmet, unmet-has, has-waiting, waiting-has}
 use Rattle.policy.proofs.Formed.{Formed, ProvidesAt, at, RowAt, bit, row, GrantAt}
 use Rattle.policy.proofs.Found.{ServiceIs, ServerIs, SpotIs, service-is, server-is, spot-is, same-place}
-use Rattle.policy.proofs.ContractAt.{provides-at, calls-at, needs-at, grants-at}
+use Rattle.policy.proofs.ContractAt.{provides-at, calls-at, grants-at}
 use Rattle.policy.proofs.Facts.{granted-bit}
 
 -- a row stands in a list exactly where a test passes
@@ -37,36 +37,32 @@ module _ (L : Layout) (t : Tables) (formed : Formed L t) where
       go none h = T-false (hasTok s (contractAt L t j .provides)) (λ u. missed t j s h (provides-at L t formed j s .0 (has-tok s (contractAt L t j .provides) u)))
       go (some k) h = T-true (hasTok s (contractAt L t j .provides)) (tok-has (provides-at L t formed j s .1 (at k (h .0) (sym (h .1)))))
 
-  -- ---- a call or a need of package i: a bit where its service is on the card, else a row of the list
-  row-is : (b : ℕ → ℕ → ℕ → Bool) (l : List Unmet) → ((i j k : ℕ) → T (b i j k) → T (t .provides j k))
-      → ((u : Unmet) → In u l → (j k : ℕ) → T (t .provides j k) → t .aid j ≡ u .callee → t .tok j k ≡ u .tok → ⊥)
-      → (i : ℕ) (r : Row) (rows : List Row) → In r rows ↔ RowAt t b l i r
-      → hasRow r rows ≡ orElse (serverOf L t r) (hasUnmet (callRow i r) l) (λ p. b i (p .callee) (p .service))
-  row-is b l prov off i r rows same = go (serverOf L t r) (server-is L t (formed .names) r)
-    where
-      unserved : ServerIs t r none → RowAt t b l i r → T (hasUnmet (callRow i r) l)
-      unserved h (bit j k x e) = absurd (h j k (prov i j k x) (ap (λ (z : Row). z .aid) (sym e)) (ap (λ (z : Row). z .tok) (sym e)))
-      unserved h (row m) = unmet-has m
-
-      served : (p : Place) → ServerIs t r (some p) → RowAt t b l i r → T (b i (p .callee) (p .service))
-      served p h (bit j k x e) =
-          let q = same-place L t (formed .names) j k (p .callee) (p .service) (prov i j k x) (h .0)
-          (ap (λ (z : Row). z .aid) (sym e) ∙ sym (h .1)) (ap (λ (z : Row). z .tok) (sym e) ∙ sym (h .2)) in
-          subst (λ (z : ℕ). T (b i z (p .service))) (q .0) (subst (λ (z : ℕ). T (b i j z)) (q .1) x)
-      served p h (row m) = absurd (off (callRow i r) m (p .callee) (p .service) (h .0) (h .1) (h .2))
-
-      go : (o : Option Place) → ServerIs t r o → hasRow r rows ≡ orElse o (hasUnmet (callRow i r) l) (λ p. b i (p .callee) (p .service))
-      go none h = row-test r rows (hasUnmet (callRow i r) l) (λ m. unserved h (same .0 m)) (λ x. same .1 (row (has-unmet (callRow i r) l x)))
-      go (some p) h = row-test r rows (b i (p .callee) (p .service)) (λ m. served p h (same .0 m))
-          (λ x. same .1 (bit (p .callee) (p .service) x (λ z. record { aid = sym (h .1) z; tok = sym (h .2) z })))
-
+  -- ---- a call of package i: a bit where its service is on the card, else a row of the list
   pub has-call-is : (i : ℕ) (r : Row)
       → hasRow r (contractAt L t i .calls) ≡ orElse (serverOf L t r) (hasUnmet (callRow i r) (t .unmet)) (λ p. t .calls i (p .callee) (p .service))
-  has-call-is i r = row-is (t .calls) (t .unmet) (formed .calls .of-prov) (formed .unmet .off .off-card) i r (contractAt L t i .calls) (calls-at L t formed i r)
+  has-call-is i r = go (serverOf L t r) (server-is L t (formed .names) r)
+    where
+      rows : List Row
+      rows = contractAt L t i .calls
 
-  pub has-need-is : (i : ℕ) (r : Row) → hasRow r (contractAt L t i .needs) ≡ orElse (serverOf L t r) false (λ p. t .needs i (p .callee) (p .service))
-  has-need-is i r = row-is (t .needs) [] (λ i j k x. formed .calls .of-prov i j k (formed .need-call i j k x)) (λ u m. absurd (in-nil m)) i r
-      (contractAt L t i .needs) (needs-at L t formed i r)
+      same : In r rows ↔ RowAt t (t .calls) (t .unmet) i r
+      same = calls-at L t formed i r
+
+      unserved : ServerIs t r none → RowAt t (t .calls) (t .unmet) i r → T (hasUnmet (callRow i r) (t .unmet))
+      unserved h (bit j k x e) = absurd (h j k (formed .calls .of-prov i j k x) (ap (λ (z : Row). z .aid) (sym e)) (ap (λ (z : Row). z .tok) (sym e)))
+      unserved h (row m) = unmet-has m
+
+      served : (p : Place) → ServerIs t r (some p) → RowAt t (t .calls) (t .unmet) i r → T (t .calls i (p .callee) (p .service))
+      served p h (bit j k x e) =
+          let q = same-place L t (formed .names) j k (p .callee) (p .service) (formed .calls .of-prov i j k x) (h .0)
+          (ap (λ (z : Row). z .aid) (sym e) ∙ sym (h .1)) (ap (λ (z : Row). z .tok) (sym e) ∙ sym (h .2)) in
+          subst (λ (z : ℕ). T (t .calls i z (p .service))) (q .0) (subst (λ (z : ℕ). T (t .calls i j z)) (q .1) x)
+      served p h (row m) = absurd (formed .unmet .off .off-card (callRow i r) m (p .callee) (p .service) (h .0) (h .1) (h .2))
+
+      go : (o : Option Place) → ServerIs t r o → hasRow r rows ≡ orElse o (hasUnmet (callRow i r) (t .unmet)) (λ p. t .calls i (p .callee) (p .service))
+      go none h = row-test r rows (hasUnmet (callRow i r) (t .unmet)) (λ m. unserved h (same .0 m)) (λ x. same .1 (row (has-unmet (callRow i r) (t .unmet) x)))
+      go (some p) h = row-test r rows (t .calls i (p .callee) (p .service)) (λ m. served p h (same .0 m))
+          (λ x. same .1 (bit (p .callee) (p .service) x (λ z. record { aid = sym (h .1) z; tok = sym (h .2) z })))
 
   -- ---- a grant of package j: a bit where its caller and its service are on the card, else a row that waits
   pub has-grant-is : (j : ℕ) (r : Row)

@@ -1,16 +1,18 @@
--- Rules that differ in the kinds that are read, and in nothing else, judge every record alike whose kind both read or neither does.
+-- Rules that differ in the kinds that are read, and in nothing else: every record is judged alike whose kind both read or neither does, and
+-- every card goes on. A record of a kind that is not read is malformed.
 use Prim.Native.Nat.{ℕ, zero, suc, _+_, _*_, _≤_, _<_}
 use native.Mathlib.Omega.{arith}
 use mathlib.Core.Path.{_≡_, refl, ap, _∙_}
 use mathlib.Core.Logic.{_⊎_, inl, inr}
-use mathlib.Core.Bool.{Bool, not, _&&_, cond}
+use mathlib.Core.Bool.{Bool, false, not, _&&_, cond}
 use mathlib.Core.List.{List, [], _∷_, _++_}
+use mathlib.Core.List.{List·Memᴰ as In, List·Memᴰ·head as here, List·Memᴰ·tail as there}
 use mathlib.Core.Option.{Option, none, some}
-use lib.Dec.{T, eqb, leb, leb→le, le→leb, nleb→lt}
+use lib.Dec.{T, eqb, eqb→eq, leb, leb→le, le→leb, nleb→lt}
 use lib.ListN.{length, getD}
 use Rattle.policy.specs.Contract.{Aid, Contract}
-use Rattle.policy.specs.Layout.{Layout, eleven, ahead, renewed}
-use Rattle.policy.specs.Record.{Request, Change, load, remove, addService, removeService, addCall, removeCall, addGrant, removeGrant, addNeed, removeNeed, replace, bad, andThen, done, given}
+use Rattle.policy.specs.Layout.{Layout, LayoutOk, ten, eleven, nine}
+use Rattle.policy.specs.Record.{Request, Change, load, remove, addService, removeService, addCall, removeCall, addGrant, removeGrant, addNeed, removeNeed, replace, Got, got, bad, andThen, done, given}
 use Rattle.policy.specs.Record.{byte, bytes, number, aid, tokens, rowOf, validTokens, counted, aContract, aService, kinds, change, fields, whole, parse, proper}
 use Rattle.policy.specs.Causes.{_when_, answer}
 use Rattle.policy.specs.Machine.{effect, causes4to7, causes8to11, causes3to11, Held, held, machine}
@@ -19,8 +21,17 @@ use Rattle.policy.specs.Lookup.{numberOf, serviceOf, serverOf, spotOf, f
 use Rattle.policy.specs.Sound.{aidsOk, tokensOk, blanksOk, entriesOk, bitsProvided, needsCalled, bitsGranted, listsOk, rowsOk, methodsOk, grantsOk, soundTables, sound}
 use Rattle.policy.specs.Draft.{Draft, draft, newServices, numberFor, look}
 use Rattle.policy.specs.Judge.{Out, refusal, lookCauses, tableCauses, judgeCauses, judged, judgeTables, judge}
-use Rattle.policy.specs.Eras.{withReads, JudgedAlike, OtherKindsStay}
-use Rattle.policy.proofs.Sets.{T-eq, test, not-i}
+use Rattle.policy.specs.History.{AllAllowed}
+use Rattle.policy.specs.Eras.{withReads, Stays, OtherKindsStay, KindsChange, UnreadMalformed}
+use Rattle.policy.proofs.Sets.{T-eq, T-false, test, not-i, or-l, or-r, or-e}
+use Rattle.policy.proofs.Equal.{eqb-of}
+use Rattle.policy.proofs.Step.{standing-allowed}
+use Rattle.policy.proofs.Settled.{judge-malformed}
+use Rattle.policy.proofs.Eras.{stays}
+
+-- what the machine holds after what was read
+abbrev after : (L : Layout) → List Contract → Option Request → Held L
+after L cs o = elim o [ none ↦ held L cs cs 2 | some q ↦ held L cs (effect L cs (q .aid) (q .change)) (answer (causes3to11 L cs q)) ]
 
 module _ (M : Layout) (r : ℕ → Bool) where
   same-readers : kinds (withReads M r) ≡ kinds M
@@ -39,47 +50,28 @@ module _ (M : Layout) (r : ℕ → Bool) where
   unfolding sound soundTables decode encode aidsOk tokensOk blanksOk entriesOk bitsProvided needsCalled bitsGranted listsOk rowsOk methodsOk grantsOk numberOf serviceOf serverOf spotOf
   same-sound img = refl
 
-  same-proper : (a : Aid) (c : Change) → proper (withReads M r) a c ≡ proper M a c
-  unfolding proper
-  same-proper a (load p c g n) = refl
-  same-proper a remove = refl
-  same-proper a (addService x l) = refl
-  same-proper a (removeService x) = refl
-  same-proper a (addCall x) = refl
-  same-proper a (removeCall x) = refl
-  same-proper a (addGrant x) = refl
-  same-proper a (removeGrant x) = refl
-  same-proper a (addNeed x) = refl
-  same-proper a (removeNeed x) = refl
-  same-proper a (replace p c g n) = refl
+  -- the kinds ask nothing of what is read: cause 3, causes 4 to 7 and the draft on tables, the machine's effect and its causes 4 to 7
+  abbrev SameKind : Aid → Change → Type 0
+  SameKind a c =
+      (proper (withReads M r) a c ≡ proper M a c)
+      × ((t : Tables) → tableCauses (withReads M r) t a c ≡ tableCauses M t a c)
+      × ((t : Tables) → draft (withReads M r) t a c ≡ draft M t a c)
+      × ((cs : List Contract) → effect (withReads M r) cs a c ≡ effect M cs a c)
+      × ((cs : List Contract) → causes4to7 (withReads M r) cs a c ≡ causes4to7 M cs a c)
 
-  same-causes : (t : Tables) (a : Aid) (c : Change) → tableCauses (withReads M r) t a c ≡ tableCauses M t a c
-  unfolding numberOf freeNumber freeService contractAt
-  same-causes t a (load p c g n) = refl
-  same-causes t a remove = refl
-  same-causes t a (addService x l) = refl
-  same-causes t a (removeService x) = refl
-  same-causes t a (addCall x) = refl
-  same-causes t a (removeCall x) = refl
-  same-causes t a (addGrant x) = refl
-  same-causes t a (removeGrant x) = refl
-  same-causes t a (addNeed x) = refl
-  same-causes t a (removeNeed x) = refl
-  same-causes t a (replace p c g n) = refl
-
-  same-draft : (t : Tables) (a : Aid) (c : Change) → draft (withReads M r) t a c ≡ draft M t a c
-  unfolding draft newServices numberOf serviceOf serverOf spotOf freeNumber freeService
-  same-draft t a (load p c g n) = refl
-  same-draft t a remove = refl
-  same-draft t a (addService x l) = refl
-  same-draft t a (removeService x) = refl
-  same-draft t a (addCall x) = refl
-  same-draft t a (removeCall x) = refl
-  same-draft t a (addGrant x) = refl
-  same-draft t a (removeGrant x) = refl
-  same-draft t a (addNeed x) = refl
-  same-draft t a (removeNeed x) = refl
-  same-draft t a (replace p c g n) = refl
+  same-kind : (a : Aid) (c : Change) → SameKind a c
+  unfolding proper draft newServices numberOf serviceOf serverOf spotOf freeNumber freeService contractAt
+  same-kind a (load p c g n) = (refl, λ t. refl, λ t. refl, λ cs. refl, λ cs. refl)
+  same-kind a remove = (refl, λ t. refl, λ t. refl, λ cs. refl, λ cs. refl)
+  same-kind a (addService x l) = (refl, λ t. refl, λ t. refl, λ cs. refl, λ cs. refl)
+  same-kind a (removeService x) = (refl, λ t. refl, λ t. refl, λ cs. refl, λ cs. refl)
+  same-kind a (addCall x) = (refl, λ t. refl, λ t. refl, λ cs. refl, λ cs. refl)
+  same-kind a (removeCall x) = (refl, λ t. refl, λ t. refl, λ cs. refl, λ cs. refl)
+  same-kind a (addGrant x) = (refl, λ t. refl, λ t. refl, λ cs. refl, λ cs. refl)
+  same-kind a (removeGrant x) = (refl, λ t. refl, λ t. refl, λ cs. refl, λ cs. refl)
+  same-kind a (addNeed x) = (refl, λ t. refl, λ t. refl, λ cs. refl, λ cs. refl)
+  same-kind a (removeNeed x) = (refl, λ t. refl, λ t. refl, λ cs. refl, λ cs. refl)
+  same-kind a (replace p c g n) = (refl, λ t. refl, λ t. refl, λ cs. refl, λ cs. refl)
 
   same-number : (t : Tables) (a : Aid) → numberFor (withReads M r) t a ≡ numberFor M t a
   unfolding numberFor numberOf freeNumber
@@ -110,9 +102,10 @@ module _ (M : Layout) (r : ℕ → Bool) where
       let L = withReads M r in
       let a = q .aid in
       let c = q .change in
-      let looks : look L (draft L t a c) ≡ look M (draft M t a c) = same-look (draft L t a c) ∙ ap (look M) (same-draft t a c) in
+      let (propers, causes, drafts, _, _) = same-kind a c in
+      let looks : look L (draft L t a c) ≡ look M (draft M t a c) = same-look (draft L t a c) ∙ ap (look M) (drafts t) in
       same-judged img (numberFor L t a) (draft L t a c .tables) (answer (judgeCauses L t q))
-      ∙ (λ i. judged M img (same-number t a i) (same-draft t a c i .tables) (answer (3 when not (same-proper a c i) ∷ same-causes t a c i ++ lookCauses (looks i))))
+      ∙ (λ i. judged M img (same-number t a i) (drafts t i .tables) (answer (3 when not (propers i) ∷ causes t i ++ lookCauses (looks i))))
 
   same-engine : (img s : List ℕ) → r (getD s 3 0) ≡ M .reads (getD s 3 0) → judge (withReads M r) img s ≡ judge M img s
   unfolding judge
@@ -121,34 +114,11 @@ module _ (M : Layout) (r : ℕ → Bool) where
       ∙ ap (λ (o : Out). cond (sound M img) o (refusal 1 255 img)) (same-tables img (decode M img) (parse M s))
 
   -- ---- the machine
-  same-effect : (cs : List Contract) (a : Aid) (c : Change) → effect (withReads M r) cs a c ≡ effect M cs a c
-  same-effect cs a (load p c g n) = refl
-  same-effect cs a remove = refl
-  same-effect cs a (addService x l) = refl
-  same-effect cs a (removeService x) = refl
-  same-effect cs a (addCall x) = refl
-  same-effect cs a (removeCall x) = refl
-  same-effect cs a (addGrant x) = refl
-  same-effect cs a (removeGrant x) = refl
-  same-effect cs a (addNeed x) = refl
-  same-effect cs a (removeNeed x) = refl
-  same-effect cs a (replace p c g n) = refl
-
-  same-tests : (cs : List Contract) (a : Aid) (c : Change) → causes4to7 (withReads M r) cs a c ≡ causes4to7 M cs a c
-  same-tests cs a (load p c g n) = refl
-  same-tests cs a remove = refl
-  same-tests cs a (addService x l) = refl
-  same-tests cs a (removeService x) = refl
-  same-tests cs a (addCall x) = refl
-  same-tests cs a (removeCall x) = refl
-  same-tests cs a (addGrant x) = refl
-  same-tests cs a (removeGrant x) = refl
-  same-tests cs a (addNeed x) = refl
-  same-tests cs a (removeNeed x) = refl
-  same-tests cs a (replace p c g n) = refl
+  same-effect : (cs : List Contract) (q : Request) → effect (withReads M r) cs (q .aid) (q .change) ≡ effect M cs (q .aid) (q .change)
+  same-effect cs q = same-kind (q .aid) (q .change) .3 cs
 
   same-answer : (cs : List Contract) (q : Request) → answer (causes3to11 (withReads M r) cs q) ≡ answer (causes3to11 M cs q)
-  same-answer cs q = λ i. answer (3 when not (same-proper (q .aid) (q .change) i) ∷ same-tests cs (q .aid) (q .change) i ++ causes8to11 M (same-effect cs (q .aid) (q .change) i))
+  same-answer cs q = let (propers, _, _, _, tests) = same-kind (q .aid) (q .change) in λ i. answer (3 when not (propers i) ∷ tests cs i ++ causes8to11 M (same-effect cs q i))
 
   held-answered : (cs ds : List Contract) (n : ℕ) → held (withReads M r) cs ds n .answered ≡ held M cs ds n .answered
   held-answered cs ds zero = refl
@@ -158,21 +128,17 @@ module _ (M : Layout) (r : ℕ → Bool) where
   held-contracts cs ds zero = refl
   held-contracts cs ds (suc n) = refl
 
-  -- what the machine holds after what was read
-  abbrev after : (L : Layout) → List Contract → Option Request → Held L
-  after L cs o = elim o [ none ↦ held L cs cs 2 | some q ↦ held L cs (effect L cs (q .aid) (q .change)) (answer (causes3to11 L cs q)) ]
-
   same-answered : (cs : List Contract) (o : Option Request) → after (withReads M r) cs o .answered ≡ after M cs o .answered
   same-answered cs none = refl
   same-answered cs (some q) =
       held-answered cs (effect (withReads M r) cs (q .aid) (q .change)) (answer (causes3to11 (withReads M r) cs q))
-      ∙ (λ i. held M cs (same-effect cs (q .aid) (q .change) i) (same-answer cs q i) .answered)
+      ∙ (λ i. held M cs (same-effect cs q i) (same-answer cs q i) .answered)
 
   same-contracts : (cs : List Contract) (o : Option Request) → after (withReads M r) cs o .contracts ≡ after M cs o .contracts
   same-contracts cs none = refl
   same-contracts cs (some q) =
       held-contracts cs (effect (withReads M r) cs (q .aid) (q .change)) (answer (causes3to11 (withReads M r) cs q))
-      ∙ (λ i. held M cs (same-effect cs (q .aid) (q .change) i) (same-answer cs q i) .contracts)
+      ∙ (λ i. held M cs (same-effect cs q i) (same-answer cs q i) .contracts)
 
   pub other-kinds-stay : OtherKindsStay M r
   unfolding machine
@@ -182,17 +148,85 @@ module _ (M : Layout) (r : ℕ → Bool) where
     contracts = λ cs. ap (λ (o : Option Request). after (withReads M r) cs o .contracts) (same-parse s e) ∙ same-contracts cs (parse M s);
   }
 
--- ---- the changes of the rules
-pub renewed-others : (s : List ℕ) → (getD s 3 0 ≡ 11 → ⊥) → JudgedAlike renewed ahead s
-renewed-others s n = other-kinds-stay ahead eleven s (T-eq (leb (getD s 3 0) 11) (leb (getD s 3 0) 10)
-    (λ h. let q = leb→le (getD s 3 0) 11 h in le→leb (getD s 3 0) 10 (below (getD s 3 0) 10 n q)) (λ h. let q = leb→le (getD s 3 0) 10 h in le→leb (getD s 3 0) 11 (omega arith)))
+  -- ---- every card goes on
+  pub same-allowed : (cs : List Contract) → AllAllowed M cs → AllAllowed (withReads M r) cs
+  same-allowed cs a c m = let v = a c m in record { tokens = record { provides = v .tokens .provides; calls = v .tokens .calls; grants = v .tokens .grants }; own = v .own }
+
+  pub kinds-change : LayoutOk (withReads M r) → (ks : List ℕ) → ((k : ℕ) → (In k ks → ⊥) → r k ≡ M .reads k) → KindsChange M (withReads M r) ks
+  kinds-change lo ks same =
+      let h : Stays M (withReads M r) = stays M (withReads M r) (record { packages = refl; services = refl; width = refl; capacity = refl; header = refl; early = refl }) lo in
+      record {
+        same-image = h .same-image;
+        goes-on = λ img cs f. h .goes-on img cs f (same-allowed cs (standing-allowed M img cs f));
+        others = λ s n. other-kinds-stay s (same (getD s 3 0) n);
+      }
+
+-- ---- which kinds begin and end
+-- a number up to m + 1 is one up to m, or m + 1
+last : (k m : ℕ) → k ≤ suc m → (k ≤ m) ⊎ (k ≡ suc m)
+last k m h = go (test (leb k m))
   where
-    below : (k m : ℕ) → (k ≡ suc m → ⊥) → k ≤ suc m → k ≤ m
-    below k m n h = go (test (leb k m))
+    go : T (leb k m) ⊎ (T (leb k m) → ⊥) → (k ≤ m) ⊎ (k ≡ suc m)
+    go (inl x) = inl (leb→le k m x)
+    go (inr x) = inr (same (nleb→lt k m (not-i (leb k m) x)))
       where
-        go : T (leb k m) ⊎ (T (leb k m) → ⊥) → k ≤ m
-        go (inl x) = leb→le k m x
-        go (inr x) = absurd (n (same (nleb→lt k m (not-i (leb k m) x))))
-          where
-            same : m < k → k ≡ suc m
-            same g = omega (arith, h)
+        same : m < k → k ≡ suc m
+        same g = omega (arith, h)
+
+-- R-1
+pub but-11 : (k : ℕ) → (In k (11 ∷ []) → ⊥) → eleven k ≡ ten k
+but-11 k n = T-eq (eleven k) (ten k) (λ h. le→leb k 10 (go (last k 10 (leb→le k 11 h)))) (λ h. le→leb k 11 (wider (leb→le k 10 h)))
+  where
+    go : (k ≤ 10) ⊎ (k ≡ 11) → k ≤ 10
+    go (inl h) = h
+    go (inr e) = absurd (n (here e))
+
+    wider : k ≤ 10 → k ≤ 11
+    wider h = omega arith
+
+-- R-13
+pub but-9-and-10 : (k : ℕ) → (In k (9 ∷ 10 ∷ []) → ⊥) → nine k ≡ eleven k
+but-9-and-10 k n = T-eq (nine k) (eleven k) (λ h. le→leb k 11 (to (or-e (leb k 8) (eqb k 11) h))) (λ h. at-11 (last k 10 (leb→le k 11 h)))
+  where
+    to : T (leb k 8) ⊎ T (eqb k 11) → k ≤ 11
+    to (inl h) = let q = leb→le k 8 h in omega arith
+    to (inr h) = let q = eqb→eq k 11 h in omega arith
+
+    at-9 : (k ≤ 8) ⊎ (k ≡ 9) → T (nine k)
+    at-9 (inl h) = or-l (leb k 8) (eqb k 11) (le→leb k 8 h)
+    at-9 (inr e) = absurd (n (here e))
+
+    at-10 : (k ≤ 9) ⊎ (k ≡ 10) → T (nine k)
+    at-10 (inl h) = at-9 (last k 8 h)
+    at-10 (inr e) = absurd (n (there (here e)))
+
+    at-11 : (k ≤ 10) ⊎ (k ≡ 11) → T (nine k)
+    at-11 (inl h) = at-10 (last k 9 h)
+    at-11 (inr e) = or-r (leb k 8) (eqb k 11) (eqb-of e)
+
+-- ---- a kind that is not read
+module _ (L : Layout) where
+  bad-after : {A B : Type 0} (x : Got A) → andThen {B = B} x (λ a s. bad) ≡ bad
+  bad-after (got a s) = refl
+  bad-after bad = refl
+
+  unread : (s : List ℕ) → L .reads (getD s 3 0) ≡ false → parse L s ≡ none
+  unfolding parse fields number byte change
+  unread [] e = refl
+  unread (h ∷ []) e = refl
+  unread (h ∷ x ∷ []) e = refl
+  unread (h ∷ x ∷ v ∷ []) e = refl
+  unread (h ∷ x ∷ v ∷ k ∷ s) e =
+      let first = given (eqb ((0 * 256 + h) * 256 + x) (length (h ∷ x ∷ v ∷ k ∷ s)) && eqb v (L .version)) aid s in
+      (λ i. whole (andThen first (λ a t. andThen (given (e i) (getD (kinds L) k (λ s. bad)) t) (λ c. done (record { aid = a; change = c }))))) ∙ ap whole (bad-after first)
+
+  pub unread-malformed : UnreadMalformed L
+  unfolding machine
+  unread-malformed s n =
+      let e = unread s (T-false (L .reads (getD s 3 0)) n) in
+      record {
+        not-read = e;
+        engine = λ img ok. judge-malformed L img s ok e;
+        answers = λ cs. ap (λ (o : Option Request). after L cs o .answered) e;
+        contracts = λ cs. ap (λ (o : Option Request). after L cs o .contracts) e;
+      }

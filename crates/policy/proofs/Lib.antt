@@ -55,3 +55,4 @@ pub mod PlacingLists
 pub mod PlacingKinds
 pub mod Placing
 pub mod Numbering
+pub mod Needs

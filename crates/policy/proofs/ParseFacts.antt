@@ -302,6 +302,9 @@ module _ (L : Layout) where
     pub parsed-within : Within L q
     parsed-within = parsed s q e .within
 
+    pub parsed-kind : T (L .reads (kindOf (q .change)))
+    parsed-kind = parsed s q e .is-read
+
     abbrev after : List ℕ
     after = L .version ∷ kindOf (q .change) ∷ bodyBytes L q
 

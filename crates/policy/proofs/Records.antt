@@ -10,7 +10,7 @@ use lib.ListN.{length, replicate}
 use lib.Seq.{length-take-le}
 use Rattle.policy.specs.Contract.{Aid, Row}
 use Rattle.policy.specs.Layout.{Layout, LayoutOk, small}
-use Rattle.policy.specs.Record.{Request, Change, load, remove, addService, removeService, addCall, removeCall, addGrant, removeGrant, addNeed, removeNeed, replace, parse}
+use Rattle.policy.specs.Record.{Request, load, parse}
 use Rattle.policy.specs.Tables.{noTok}
 use Rattle.policy.specs.Judge.{readOut}
 use Rattle.policy.specs.Records.{kindOf, ValidTok, ValidRow, AtMost, recordBytes, Within, longestRecord, LongestRecord}
@@ -48,23 +48,9 @@ module _ (L : Layout) (lo : LayoutOk L) where
 pub small-longest : longestRecord small ≡ 4145
 small-longest = refl
 
--- every kind is read
-small-reads : (c : Change) → T (small .reads (kindOf c))
-small-reads (load p c g n) = tt
-small-reads remove = tt
-small-reads (addService s l) = tt
-small-reads (removeService s) = tt
-small-reads (addCall r) = tt
-small-reads (removeCall r) = tt
-small-reads (addGrant r) = tt
-small-reads (removeGrant r) = tt
-small-reads (addNeed r) = tt
-small-reads (removeNeed r) = tt
-small-reads (replace p c g n) = tt
-
 -- two bytes hold the length of every record within its limits
-pub small-written-read : (q : Request) → Within small q → parse small (recordBytes small q) ≡ some q
-small-written-read q v = written-read small small-ok q (within-writable small (lit≤ tt) q (small-reads (q .change)) v)
+pub small-written-read : (q : Request) → Within small q → T (small .reads (kindOf (q .change))) → parse small (recordBytes small q) ≡ some q
+small-written-read q v on = written-read small small-ok q (within-writable small (lit≤ tt) q on v)
 
 -- and a load of as many bytes is read: every list at its limit, every AID of 16 bytes
 each-same : {A : Type 0} (P : A → Type 0) (n : ℕ) (x : A) → P x → (y : A) → In y (replicate n x) → P y
@@ -78,4 +64,4 @@ small-longest-read =
     let rows = replicate 72 r in
     let within : AtMost 72 (ValidRow small) rows = (lit≤ tt, each-same (ValidRow small) 72 r (tt, tt)) in
     let q : Request = record { aid = a; change = load (replicate 8 noTok) rows rows rows } in
-    (q, refl, small-written-read q (tt, ((lit≤ tt, each-same (ValidTok small) 8 noTok tt), within, within, within)))
+    (q, refl, small-written-read q (tt, ((lit≤ tt, each-same (ValidTok small) 8 noTok tt), within, within, within)) tt)

@@ -9,10 +9,10 @@ use mathlib.Core.List.{List·Memᴰ as In, List·Memᴰ·head as here, List·Mem
 use mathlib.Core.List.{List·Memᴰ·append-cases as in-append, Memᴰ·cast as in-cast}
 use mathlib.Core.Option.{Option, none, some}
 use lib.Dec.{T, leb, leb→le, le→leb, ltb, ltb→lt, lit≤}
-use lib.ListN.{length, take, drop, length-append}
+use lib.ListN.{length, getD, take, drop, length-append}
 use Rattle.policy.specs.Lists.{every, orElse}
 use Rattle.policy.specs.Contract.{Aid, eqAid, Tok, Contract, under, lawful, callsGranted, needsMet, unmetCalls, waitingGrants}
-use Rattle.policy.specs.Layout.{Layout, LayoutOk, cardOf, base, narrow, ahead, renewed, small, aidsAt, tokensAt, providesAt, callsAt, grantsAt, needsAt, unmetAt, waitingAt, size}
+use Rattle.policy.specs.Layout.{Layout, LayoutOk, eleven, nine, cardOf, base, narrow, ahead, renewed, retired, small, aidsAt, tokensAt, providesAt, callsAt, grantsAt, needsAt, unmetAt, waitingAt, size}
 use Rattle.policy.specs.Record.{Request, Change, load, remove, addService, removeService, addCall, removeCall, addGrant, removeGrant, addNeed, removeNeed, replace, validTok, parse, proper}
 use Rattle.policy.specs.Causes.{Cause, _when_, answer}
 use Rattle.policy.specs.Machine.{Held, held, effect, altered, causes4to7, causes8to11, causes3to11, machine}
@@ -22,10 +22,10 @@ use Rattle.policy.specs.Sound.{sound}
 use Rattle.policy.specs.Judge.{Out, refusal, judgeTables, judge, loadRecord}
 use Rattle.policy.specs.Records.{loadOf, requestOf}
 use Rattle.policy.specs.History.{SameContract, AllValid, AllAllowed, StandsFor, imageAfter, machineAnswers, contractsAfter}
-use Rattle.policy.specs.Marked.{Line, lineOf, linesFrom, removalOf, loadH, loadB, cases, CaseOver, providing128, calling128, holding127, casesConverted, casesRenewed, replacing}
-use Rattle.policy.specs.Eras.{carried, Widens, SameBytes, Passes, answersOver, imageOver, machineAnswersOver, contractsOver, LeftOut, Stays, MarkedConverted, MarkedRenewed, imageThen, contractsThen, SoFar}
+use Rattle.policy.specs.Marked.{Line, lineOf, linesFrom, removalOf, loadH, loadB, cases, CaseOver, providing128, calling128, holding127, casesConverted, casesRenewed, casesNeeds, casesRetired, replacing}
+use Rattle.policy.specs.Eras.{carried, Widens, SameBytes, Passes, answersOver, imageOver, machineAnswersOver, contractsOver, LeftOut, Stays, KindsChange, MarkedConverted, MarkedRenewed, MarkedRetired, imageThen, contractsThen, SoFar}
 use Rattle.policy.specs.Claims.{MarkedCases, MarkedOver, Agreement, History, FitsLimits, AcceptedExactly, IsFirst, FirstCause, SoundStands, ShortIsFull, ReadOutAgain, standing, ReplacingPlaces}
-use Rattle.policy.proofs.Sets.{and-l, and-r, and-i, test, not-e, cond-true, cond-false, every-in, exists-in, in-map, each-one}
+use Rattle.policy.proofs.Sets.{and-l, and-r, and-i, test, not-e, cond-true, cond-false, every-in, exists-in, in-map, each-cons, each-one}
 use Rattle.policy.proofs.Answers.{ascends, answer-append-zero, first-is, ascends-front, none-of-four, four-none}
 use Rattle.policy.proofs.ContractAt.{same-contract, stands-self}
 use Rattle.policy.proofs.ParseFacts.{parsed-within}
@@ -35,8 +35,8 @@ use Rattle.policy.proofs.ReadOut.{read-out-parses, read-out-proper}
 use Rattle.policy.proofs.Tests.{packages-fit, services-fit}
 use Rattle.policy.proofs.AllKinds.{kinds}
 use Rattle.policy.proofs.Step.{stands-of, image-stands, standing-allowed, unsound-refused, step}
-use Rattle.policy.proofs.KindsRead.{renewed-others}
 use Rattle.policy.proofs.Eras.{refused-all, passage, stays, carried-is, history-from}
+use Rattle.policy.proofs.KindsRead.{same-allowed, kinds-change, but-11, but-9-and-10, unread-malformed}
 
 -- ---- 2. one record
 pub agreement : (L : Layout) → LayoutOk L → Agreement L
@@ -160,11 +160,12 @@ module _ (L : Layout) (lo : LayoutOk L) where
     below (replace p c g n) fit = early-below (causes4to7 L cs a (replace p c g n)) tt
 
   -- what the machine leaves of an accepted record
-  accepted-contracts : (img s : List ℕ) (cs : List Contract) (q : Request) → StandsFor L img cs → parse L s ≡ some q → answer (causes3to11 L cs q) ≡ 0
+  pub accepted-contracts : (img s : List ℕ) (cs : List Contract) (q : Request) → StandsFor L img cs → parse L s ≡ some q → judge L img s .answered ≡ 0
       → StandsFor L (judge L img s .bytes) (effect L cs (q .aid) (q .change))
   accepted-contracts img s cs q f e z =
       subst (λ (ds : List Contract). StandsFor L (judge L img s .bytes) ds)
-      (ap (λ (h : Held L). h .contracts) (machine-read cs s (some q) e) ∙ ap (λ (n : ℕ). held L cs (effect L cs (q .aid) (q .change)) n .contracts) z)
+      (ap (λ (h : Held L). h .contracts) (machine-read cs s (some q) e)
+      ∙ ap (λ (n : ℕ). held L cs (effect L cs (q .aid) (q .change)) n .contracts) (sym (read-answer img s cs q f e) ∙ z))
       (step L lo img s cs f .1)
 
   module _ (img s : List ℕ) (cs : List Contract) (q : Request) (f : StandsFor L img cs) (e : parse L s ≡ some q) (pr : T (proper L (q .aid) (q .change)))
@@ -180,7 +181,7 @@ module _ (L : Layout) (lo : LayoutOk L) where
         let n : answer (causes3to11 L cs q) ≡ 0 = sym (read-answer img s cs q f e) ∙ z in
         let p = answer-append-zero 1 (2 when false ∷ early) (causes8to11 L ds) (machine-ascends cs (q .aid) (not (proper L (q .aid) (q .change))) (q .change)) n in
         let v = none-of-four (callsGranted ds) (needsMet ds) (leb (length (unmetCalls ds)) (L .capacity)) (leb (length (waitingGrants ds)) (L .capacity)) (p .1) in
-        let st = accepted-contracts img s cs q f e n in
+        let st = accepted-contracts img s cs q f e z in
         let after = stands-of L (judge L img s .bytes) ds st in
         let names = sound-formed L (judge L img s .bytes) (st .is-sound) .names in (
           and-i (callsGranted ds) (needsMet ds) (v .0) (v .1),
@@ -238,8 +239,7 @@ module _ (L : Layout) (lo : LayoutOk L) where
               → (m : ℕ) × T (decode L (judge L img₂ (loadRecord L c) .bytes) .used m) × SameContract c (contractAt L (decode L (judge L img₂ (loadRecord L c) .bytes)) m)
           go (inl h) =
               let p = sound-stands L lo img₂ h in
-              let n = sym (read-answer L lo img₂ (loadRecord L c) (p .0) (requestOf c) (p .1) e) ∙ z in
-              accepted-contracts L lo img₂ (loadRecord L c) (p .0) (requestOf c) (p .1) e n .these c (here refl)
+              accepted-contracts L lo img₂ (loadRecord L c) (p .0) (requestOf c) (p .1) e z .these c (here refl)
           go (inr h) = absurd (one-not-zero (sym (ap (λ (o : Out). o .answered) (unsound-refused L img₂ (loadRecord L c) h)) ∙ z))
             where
               one-not-zero : _≡_ {A = ℕ} 1 0 → ⊥
@@ -262,6 +262,9 @@ narrow-ok = card-ok tt
 
 pub ahead-ok : LayoutOk ahead
 ahead-ok = card-ok tt
+
+pub renewed-ok : LayoutOk renewed
+renewed-ok = card-ok tt
 
 pub small-ok : LayoutOk small
 small-ok = card-ok tt
@@ -326,18 +329,21 @@ early-passes on cs = record {
   allowed = λ a c m. let v = a c m .tokens in record { tokens = record { provides = v .provides; calls = v .calls; grants = v .grants }; own = λ late. absurd (late tt) };
 }
 
--- R-1's: no byte changes, and the same contracts are allowed
-renewed-stays : Stays ahead renewed
-renewed-stays = stays ahead renewed same-bytes small-ok
+-- R-1's and R-13's: the same contracts are allowed
+kinds-pass : {q r : ℕ → Bool} → T (r 1) → (cs : List Contract) → Passes (cardOf 128 true q) (cardOf 128 true r) cs
+kinds-pass {q} {r} on cs = record { is-ok = card-ok on; widens = same-room; allowed = same-allowed (cardOf 128 true q) r cs }
 
-renewed-allowed : (cs : List Contract) → AllAllowed ahead cs → AllAllowed renewed cs
-renewed-allowed cs a c m = let v = a c m .tokens in record { tokens = record { provides = v .provides; calls = v .calls; grants = v .grants }; own = λ late. absurd (late tt) }
+renewal : KindsChange ahead renewed (11 ∷ [])
+renewal = kinds-change ahead eleven renewed-ok (11 ∷ []) but-11
+
+retirement : KindsChange renewed retired (9 ∷ 10 ∷ [])
+retirement = kinds-change renewed nine small-ok (9 ∷ 10 ∷ []) but-9-and-10
 
 pub so-far : SoFar
 so-far = record {
-  history = λ ss ts us vs v. history-from base base-ok (emptyImage base) [] (empty-stands base base-ok) ss _ (
+  history = λ ss ts us vs ws v. history-from base base-ok (emptyImage base) [] (empty-stands base base-ok) ss _ (
     record { is-ok = narrow-ok; widens = same-room; allowed = narrow-allowed (contractsThen ss) v },
-    (early-passes tt _, (record { is-ok = small-ok; widens = same-room; allowed = renewed-allowed _ }, tt)),
+    (early-passes tt _, (kinds-pass tt _, (kinds-pass tt _, tt))),
   );
   same-image = λ ss. narrow-stays .same-image (imageThen ss) (then-stands ss .is-sound);
   told = λ ss ok c m. narrow-stays .told (imageThen ss) (contractsThen ss) (then-stands ss) ok c m .tokens;
@@ -347,9 +353,9 @@ so-far = record {
   left-out = λ ss held. narrow-stays .left-out (imageThen ss) (contractsThen ss) (then-stands ss) (λ a. held (λ c m. a c m .tokens));
   converted = λ img cs f. passage narrow small img cs f (early-passes tt cs);
   refused = λ img ok. refused-all small img (λ h. sizes (sym (sound-sized narrow img ok) ∙ sound-sized small img h));
-  renewed-image = renewed-stays .same-image;
-  renewed-stands = λ img cs f. renewed-stays .goes-on img cs f (renewed-allowed cs (standing-allowed ahead img cs f));
-  renewed-others = renewed-others;
+  renewal = renewal;
+  retirement = retirement;
+  retired-kinds = λ s m. unread-malformed retired s (each-cons (λ k. T (nine k) → ⊥) 9 (10 ∷ []) (λ h. h) (each-one (λ k. T (nine k) → ⊥) 10 (λ h. h)) (getD s 3 0) m);
 }
   where
     sizes : _≡_ {A = ℕ} 1094 1110 → ⊥
@@ -424,17 +430,24 @@ marked-converted = ap (λ (f : CaseOver → List Line). map f casesConverted) (�
         sound-lines ahead ahead-ok (c .records) (carried narrow ahead img) (contractsAfter narrow [] (c .before)) (passage narrow ahead img _ f (early-passes tt _) .1)
         ∙ ap (λ (z : List ℕ). linesOn ahead (carried narrow ahead z) (c .records)) (sound-image narrow narrow-ok (c .before) (emptyImage narrow) [] (empty-stands narrow narrow-ok))
 
+-- over a change of the kinds
+over-kinds : {L M : Layout} {ks : List ℕ} → LayoutOk L → LayoutOk M → KindsChange L M ks → (c : CaseOver) → linesFrom M (imageAfter L (emptyImage L) (c .before)) (c .records)
+    ≡ linesOn M (imageOn L (emptyImage L) (c .before)) (c .records)
+over-kinds {L} {M} lo mo h c =
+    let img = imageAfter L (emptyImage L) (c .before) in
+    sound-lines M mo (c .records) img (contractsAfter L [] (c .before)) (h .goes-on img _ (history L lo (c .before) .stands-for))
+    ∙ ap (λ (z : List ℕ). linesOn M z (c .records)) (sound-image L lo (c .before) (emptyImage L) [] (empty-stands L lo))
+
 pub marked-renewed : MarkedRenewed
 unfolding linesOn imageOn emptyImage
-marked-renewed = ap (λ (f : CaseOver → List Line). map f casesRenewed) (λ i c. computed c i)
-  where
-    computed : (c : CaseOver) → linesFrom renewed (imageAfter ahead (emptyImage ahead) (c .before)) (c .records)
-        ≡ linesOn renewed (imageOn ahead (emptyImage ahead) (c .before)) (c .records)
-    computed c =
-        let img = imageAfter ahead (emptyImage ahead) (c .before) in
-        let f = history ahead ahead-ok (c .before) .stands-for in
-        sound-lines renewed small-ok (c .records) img (contractsAfter ahead [] (c .before)) (so-far .renewed-stands img _ f)
-        ∙ ap (λ (z : List ℕ). linesOn renewed z (c .records)) (sound-image ahead ahead-ok (c .before) (emptyImage ahead) [] (empty-stands ahead ahead-ok))
+marked-renewed = ap (λ (f : CaseOver → List Line). map f casesRenewed) (λ i c. over-kinds ahead-ok renewed-ok renewal c i)
+
+pub marked-retired : MarkedRetired
+unfolding linesOn imageOn emptyImage
+marked-retired = (
+  ap (λ (f : List (List ℕ) → List Line). map (λ c. f (c .records)) casesNeeds) (λ i ss. sound-lines renewed renewed-ok ss (emptyImage renewed) [] (empty-stands renewed renewed-ok) i),
+  ap (λ (f : CaseOver → List Line). map f casesRetired) (λ i c. over-kinds renewed-ok small-ok retirement c i),
+)
 
 -- R-1's placing, computed
 pub replacing-places : ReplacingPlaces

@@ -4,16 +4,19 @@ use Prim.Native.Nat.{ℕ, _≤_}
 use mathlib.Core.Path.{_≡_}
 use mathlib.Core.Bool.{Bool, _&&_, cond}
 use mathlib.Core.List.{List, [], _∷_, _++_, map}
+use mathlib.Core.List.{List·Memᴰ as In}
+use mathlib.Core.Option.{none}
 use lib.Dec.{T, eqb}
 use lib.ListN.{length, getD}
 use Rattle.policy.specs.Contract.{Contract}
-use Rattle.policy.specs.Layout.{Layout, LayoutOk, base, narrow, ahead, renewed, small, size}
+use Rattle.policy.specs.Layout.{Layout, LayoutOk, base, narrow, ahead, renewed, retired, small, size}
+use Rattle.policy.specs.Record.{parse}
 use Rattle.policy.specs.Machine.{machine}
 use Rattle.policy.specs.Tables.{decode, encode, emptyImage}
 use Rattle.policy.specs.Sound.{sound}
 use Rattle.policy.specs.Judge.{Out, refusal, judge, check, readOut}
 use Rattle.policy.specs.History.{AllValid, AllAllowed, StandsFor, answers, imageAfter, machineAnswers, contractsAfter}
-use Rattle.policy.specs.Marked.{linesFrom, casesConverted, casesRenewed}
+use Rattle.policy.specs.Marked.{linesFrom, casesConverted, casesRenewed, casesNeeds, casesRetired}
 use Rattle.policy.specs.Claims.{CallsGranted, NeedsPresent}
 
 -- ---- the passage from the rules L to the rules M
@@ -148,13 +151,31 @@ pub record JudgedAlike (L M : Layout) (s : List ℕ) : Type 0 where
 abbrev pub OtherKindsStay : Layout → (ℕ → Bool) → Type 0
 OtherKindsStay M r = (s : List ℕ) → r (getD s 3 0) ≡ M .reads (getD s 3 0) → JudgedAlike (withReads M r) M s
 
+-- the kinds ks begin or end, and nothing else changes: no byte is converted, no card is left out, and every record of another kind is
+-- judged as before
+pub record KindsChange (L M : Layout) (ks : List ℕ) : Type 0 where
+  pub same-image : (img : List ℕ) → T (sound L img) → carried L M img ≡ img
+  pub goes-on : (img : List ℕ) (cs : List Contract) → StandsFor L img cs → StandsFor M img cs
+  pub others : (s : List ℕ) → (In (getD s 3 0) ks → ⊥) → JudgedAlike M L s
+
+-- the record is malformed: 2 with 255, and nothing changes
+pub record Malformed (L : Layout) (s : List ℕ) : Type 0 where
+  pub not-read : parse L s ≡ none
+  pub engine : (img : List ℕ) → T (sound L img) → judge L img s ≡ refusal 2 255 img
+  pub answers : (cs : List Contract) → machine L cs s .answered ≡ 2
+  pub contracts : (cs : List Contract) → machine L cs s .contracts ≡ cs
+
+-- a record of a kind that is not read is malformed
+abbrev pub UnreadMalformed : Layout → Type 0
+UnreadMalformed L = (s : List ℕ) → (T (L .reads (getD s 3 0)) → ⊥) → Malformed L s
+
 -- a converter answers 0 with 0 and writes the carried image, or 1 with 255 and writes nothing
 pub record Converts (L M : Layout) (img b : List ℕ) : Type 0 where
   pub taken : T (sound L img) → length b ≡ size M → convert L M img b ≡ record { answered = 0; second = 0; bytes = carried L M img }
   pub not-sound : (T (sound L img) → ⊥) → convert L M img b ≡ refusal 1 255 b
   pub not-sized : (length b ≡ size M → ⊥) → convert L M img b ≡ refusal 1 255 b
 
--- the marked cases over R-2's conversion, and over R-1's change
+-- the marked cases over R-2's conversion, and over R-1's change and R-13's
 abbrev pub MarkedConverted : Type 0
 MarkedConverted =
     map (λ c. linesFrom ahead (carried narrow ahead (imageAfter narrow (emptyImage narrow) (c .before))) (c .records)) casesConverted
@@ -165,8 +186,14 @@ MarkedRenewed =
     map (λ c. linesFrom renewed (imageAfter ahead (emptyImage ahead) (c .before)) (c .records)) casesRenewed
     ≡ map (λ c. c .lines) casesRenewed
 
+abbrev pub MarkedRetired : Type 0
+MarkedRetired =
+    (map (λ c. linesFrom renewed (emptyImage renewed) (c .records)) casesNeeds ≡ map (λ c. c .lines) casesNeeds)
+    × (map (λ c. linesFrom retired (imageAfter renewed (emptyImage renewed) (c .before)) (c .records)) casesRetired
+    ≡ map (λ c. c .lines) casesRetired)
+
 -- ---- the card of eight packages so far: records by document 01's rules, R-7's change, records, R-2's conversion, records, R-1's change,
--- records
+-- records, R-13's change, records
 -- the image and the contracts at R-7's change
 abbrev pub imageThen : List (List ℕ) → List ℕ
 imageThen ss = imageAfter base (emptyImage base) ss
@@ -176,9 +203,13 @@ contractsThen ss = contractsAfter base [] ss
 
 pub record SoFar : Type 0 where
   -- demand 3, where the card at R-7's change holds no method token of 128 or more
-  pub history : (ss ts us vs : List (List ℕ)) → AllValid narrow (contractsThen ss)
+  pub history : (ss ts us vs ws : List (List ℕ)) → AllValid narrow (contractsThen ss)
       → HistoryOver base (emptyImage base) [] ss
-      (record { rules = narrow; records = ts } ∷ record { rules = ahead; records = us } ∷ record { rules = renewed; records = vs } ∷ [])
+      (record { rules = narrow; records = ts }
+      ∷ record { rules = ahead; records = us }
+      ∷ record { rules = renewed; records = vs }
+      ∷ record { rules = retired; records = ws }
+      ∷ [])
   -- R-7: nothing is converted, and the check tells whether it does
   pub same-image : (ss : List (List ℕ)) → carried base narrow (imageThen ss) ≡ imageThen ss
   pub told : (ss : List (List ℕ)) → T (sound narrow (imageThen ss)) → AllValid narrow (contractsThen ss)
@@ -190,7 +221,8 @@ pub record SoFar : Type 0 where
       → (decode small (carried narrow small img) ≡ decode narrow img) × StandsFor small (carried narrow small img) cs
   -- 'the engine gives 1 for them'
   pub refused : (img : List ℕ) → T (sound narrow img) → RefusedAll small img
-  -- R-1: nothing is converted and no card is left out; every record but those of kind 11 is judged as before
-  pub renewed-image : (img : List ℕ) → T (sound ahead img) → carried ahead renewed img ≡ img
-  pub renewed-stands : (img : List ℕ) (cs : List Contract) → StandsFor ahead img cs → StandsFor renewed img cs
-  pub renewed-others : (s : List ℕ) → (getD s 3 0 ≡ 11 → ⊥) → JudgedAlike renewed ahead s
+  -- R-1: kind 11 begins
+  pub renewal : KindsChange ahead renewed (11 ∷ [])
+  -- R-13: kinds 9 and 10 end, 'and get 2'; 'Needs set by them stay in force', as every contract does
+  pub retirement : KindsChange renewed retired (9 ∷ 10 ∷ [])
+  pub retired-kinds : (s : List ℕ) → In (getD s 3 0) (9 ∷ 10 ∷ []) → Malformed retired s

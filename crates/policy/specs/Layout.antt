@@ -1,9 +1,9 @@
 -- A card's sizes and rules, as a value: where the parts of its image stand, and what its records and contracts may hold.
 use Prim.Native.Nat.{ℕ, _+_, _*_, _-_, _^_, _≤_, _<_}
 use mathlib.Core.Path.{_≡_}
-use mathlib.Core.Bool.{Bool, true, false, cond}
+use mathlib.Core.Bool.{Bool, true, false, _||_, cond}
 use mathlib.Core.List.{List, [], _∷_}
-use lib.Dec.{T, leb}
+use lib.Dec.{T, eqb, leb}
 use lib.ListN.{length}
 
 pub record Layout : Type 0 where
@@ -29,12 +29,15 @@ pub record Layout : Type 0 where
   -- the kinds of record that are read
   pub reads : ℕ → Bool
 
--- document 01's 'ten kinds of record', and R-1's 'kind 11'
+-- document 01's 'ten kinds of record', R-1's 'kind 11', and R-13: 'Kinds 9 and 10 are retired'
 abbrev pub ten : ℕ → Bool
 ten k = leb k 10
 
 abbrev pub eleven : ℕ → Bool
 eleven k = leb k 11
+
+abbrev pub nine : ℕ → Bool
+nine k = leb k 8 || eqb k 11
 
 -- the card of eight packages, with method tokens below m
 abbrev pub cardOf : ℕ → Bool → (ℕ → Bool) → Layout
@@ -65,13 +68,17 @@ narrow = cardOf 128 false ten
 abbrev pub ahead : Layout
 ahead = cardOf 128 true ten
 
--- R-1's, 'an applet's new release brings its whole contract'
+-- R-1's, 'an applet's new release brings its whole contract';
 abbrev pub renewed : Layout
 renewed = cardOf 128 true eleven
 
--- and those in force
+-- R-13's, 'Needs only with the contract',
+abbrev pub retired : Layout
+retired = cardOf 128 true nine
+
+-- which are in force
 abbrev pub small : Layout
-small = renewed
+small = retired
 
 -- bytes of an AID's place and of a row of unmet calls
 abbrev pub aidSize : ℕ

@@ -19,3 +19,4 @@ pub mod Eras
 pub mod Settled
 pub mod Numbering
 pub mod Placing
+pub mod Needs

@@ -159,15 +159,14 @@ cases =
           ∷ loadOf 3 [] [] [] (rowOf 1 128 ∷ []) ∷ [];
       lines = taken 1 0 ∷ taken 1 1 ∷ refused 1 2 ∷ [];
     }
-    -- in kinds 3 to 10
+    -- in kinds 3 to 8
     ∷ record {
       records = loadOf 1 [] [] [] [] ∷ loadOf 2 [] [] [] []
           ∷ flat (λ f. f 128 ∷ f 127 ∷ [])
-          (addService 1 ∷ rowChange 7 1 2 ∷ rowChange 5 2 1 ∷ rowChange 9 2 1
-          ∷ rowChange 10 2 1 ∷ rowChange 6 2 1 ∷ rowChange 8 1 2 ∷ removeService 1 ∷ []);
+          (addService 1 ∷ rowChange 7 1 2 ∷ rowChange 5 2 1 ∷ rowChange 6 2 1 ∷ rowChange 8 1 2 ∷ removeService 1 ∷ []);
       lines = taken 1 0 ∷ taken 1 1
-          ∷ refused 3 2 ∷ taken 3 0 ∷ refused 7 2 ∷ taken 7 0 ∷ refused 5 2 ∷ taken 5 1 ∷ refused 9 2 ∷ taken 9 1
-          ∷ refused 10 2 ∷ taken 10 1 ∷ refused 6 2 ∷ taken 6 1 ∷ refused 8 2 ∷ taken 8 0 ∷ refused 4 2 ∷ taken 4 0 ∷ [];
+          ∷ refused 3 2 ∷ taken 3 0 ∷ refused 7 2 ∷ taken 7 0 ∷ refused 5 2 ∷ taken 5 1
+          ∷ refused 6 2 ∷ taken 6 1 ∷ refused 8 2 ∷ taken 8 0 ∷ refused 4 2 ∷ taken 4 0 ∷ [];
     }
     -- interface tokens are 0 to 255
     ∷ record { records = recordOf 1 (aidOf 1 ++ (1 ∷ 255 ∷ 127 ∷ 0 ∷ 0 ∷ 0 ∷ [])) ∷ []; lines = taken 1 0 ∷ [] }
@@ -292,6 +291,49 @@ casesRenewed =
       records = releaseOf 1 [] [] [] [] ∷ addService 1 0 ∷ releaseOf 1 [] [] (rowOf 2 0 ∷ []) [] ∷ addService 1 0 ∷ addService 1 0 ∷ [];
       lines = taken 11 0 ∷ refused 3 8 ∷ taken 11 0 ∷ taken 3 0 ∷ refused 3 6 ∷ [];
     }
+    ∷ []
+
+-- kinds 9 and 10 by R-1's rules, the last that read them: the causes of document 01, and R-7's tokens
+abbrev pub casesNeeds : List Case
+casesNeeds =
+    record {
+      records = loadH ∷ rowChange 9 2 1 0 ∷ loadOf 2 [] (rowOf 1 0 ∷ rowOf 9 0 ∷ []) [] [] ∷ rowChange 9 2 2 0 ∷ rowChange 9 2 1 1
+          ∷ rowChange 9 2 9 0 ∷ rowChange 9 2 1 128 ∷ rowChange 9 2 1 0 ∷ rowChange 9 2 1 0 ∷ removalOf 1 ∷ [];
+      lines = taken 1 0 ∷ refused 9 5 ∷ taken 1 1 ∷ refused 9 3 ∷ refused 9 6
+          ∷ refused 9 9 ∷ refused 9 2 ∷ taken 9 1 ∷ refused 9 6 ∷ refused 2 9 ∷ [];
+    }
+    ∷ record {
+      records = loadH ∷ loadC ∷ rowChange 10 9 1 0 ∷ rowChange 10 2 2 0 ∷ rowChange 10 2 1 1 ∷ rowChange 10 2 1 128 ∷ rowChange 10 2 1 0
+          ∷ rowChange 10 2 1 0 ∷ removalOf 1 ∷ [];
+      lines = taken 1 0 ∷ taken 1 1 ∷ refused 10 5 ∷ refused 10 3 ∷ refused 10 6 ∷ refused 10 2 ∷ taken 10 1
+          ∷ refused 10 6 ∷ taken 2 0 ∷ [];
+    }
+    ∷ []
+
+-- a need set by kind 9
+abbrev pub needing : List (List ℕ)
+needing = loadH ∷ loadOf 2 [] (rowOf 1 0 ∷ []) [] [] ∷ rowChange 9 2 1 0 ∷ []
+
+-- by R-1's rules, and by R-13's
+abbrev pub casesRetired : List CaseOver
+casesRetired =
+    -- 'Kinds 9 and 10 are retired and get 2', whatever else applies; 'Needs set by them stay in force', and 'go with their call'
+    record {
+      before = needing;
+      records = rowChange 10 2 1 0 ∷ rowChange 9 2 1 0 ∷ rowChange 9 2 2 0 ∷ rowChange 10 9 1 0 ∷ removalOf 1 ∷ removeService 1 0
+          ∷ releaseOf 1 [] [] [] [] ∷ rowChange 6 2 1 0 ∷ removalOf 1 ∷ [];
+      lines = refused 10 2 ∷ refused 9 2 ∷ refused 9 2 ∷ refused 10 2 ∷ refused 2 9 ∷ refused 4 9
+          ∷ refused 11 9 ∷ taken 6 1 ∷ taken 2 0 ∷ [];
+    }
+    -- 'or with the next whole contract', where it has not the need
+    ∷ record {
+      before = needing;
+      records = releaseOf 2 [] (rowOf 1 0 ∷ []) [] (rowOf 1 0 ∷ []) ∷ removeService 1 0 ∷ releaseOf 2 [] (rowOf 1 0 ∷ []) [] []
+          ∷ removeService 1 0 ∷ [];
+      lines = taken 11 1 ∷ refused 4 9 ∷ taken 11 1 ∷ taken 4 0 ∷ [];
+    }
+    -- a need that kind 10 took before is gone
+    ∷ record { before = needing ++ (rowChange 10 2 1 0 ∷ []); records = removalOf 1 ∷ []; lines = taken 2 0 ∷ [] }
     ∷ []
 
 -- ---- where things stand after some records: the places and the tokens of the services of package number 0, and the lists

@@ -9,7 +9,7 @@ use Rattle.policy.specs.Lists.{every, distinct, orElse}
 use Rattle.policy.specs.Contract.{Aid, eqAid, Tok, eqTok, Row, eqRow, hasTok, hasRow, validAid}
 use Rattle.policy.specs.Layout.{Layout}
 
--- what follows the first AID, by kind: 1 to 11 in order
+-- what follows the first AID, by kind: 1 to 11 in order. R-13 retires kinds 9 and 10: `addNeed` and `removeNeed` are of the rules before it
 pub data Change : Type 0 where
   load : List Tok → List Row → List Row → List Row → Change
   remove : Change

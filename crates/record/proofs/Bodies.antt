@@ -1,17 +1,17 @@
 -- What follows the first AID, by kind, in positions of the record. Assumes nothing.
 use Prim.Native.Nat.{ℕ, suc, zero, _≤_, _<_}
-use mathlib.Core.Path.{_≡_, refl, ap, sym, _∙_}
+use mathlib.Core.Path.{_≡_, refl, sym, _∙_}
 use mathlib.Core.Bool.{Bool, true, false, cond}
 use mathlib.Core.Logic.{_⊎_, inl, inr}
 use mathlib.Core.List.{List}
 use mathlib.Core.Option.{none, some}
 use native.Mathlib.Omega.{arith}
 use lib.Dec.{ltb}
-use lib.ListN.{length, drop, getD, drop-of-length-le, List·getD-eq-default}
+use lib.ListN.{length, drop, getD, drop-of-length-le}
 use lib.Seq.{drop-cons}
-use borrow.Author.Tests.{ltb-true, ltb-false, le-leb}
+use borrow.Author.Tests.{ltb-true, ltb-false, le-leb, lt-leb, ne-eqb}
 use Rattle.policy.specs.Layout.{Layout}
-use Rattle.policy.specs.Record.{Got, got, bad, Reader, Change, andThen, given, aid, tokens, validRow, tokenList, callerList, whole, change, kinds, aContract, aService}
+use Rattle.policy.specs.Record.{Got, got, bad, Change, andThen, given, aid, tokens, validRow, tokenList, callerList, whole, change, kinds, aContract, aService}
 use Rattle.geometry.specs.declared.Card.{Card}
 use Rattle.geometry.specs.declared.Card.the-variants.{Small}
 use Rattle.geometry.specs.declared.Tokens.{Tokens}
@@ -94,61 +94,65 @@ module _ (L : Layout) where
     service-is t l ht hl = service-by (t .service) (l .list) ht hl
 
 -- what reads nothing reads nothing under a test
-given-bad : (b : Bool) (p : Reader Change) (t : List ℕ) → p t ≡ bad → given b p t ≡ bad
-given-bad true p t e = e
-given-bad false p t e = refl
+given-bad : (b : Bool) (t : List ℕ) → given {A = Change} b (λ u. bad) t ≡ bad
+given-bad true t = refl
+given-bad false t = refl
 
--- every card reads the kinds up to 11
-pub reads-on : (c : Card) (k : ℕ) → k ≤ 11 → layoutOf c .reads k ≡ true
-reads-on Small k h = le-leb k 11 h
+-- every card reads the kinds up to 8, and 11, and no other
+pub reads-8 : (c : Card) (k : ℕ) → k ≤ 8 → layoutOf c .reads k ≡ true
+reads-8 Small k h = rw (le-leb k 8 h)
+
+reads-11 : (c : Card) → layoutOf c .reads 11 ≡ true
+reads-11 Small = refl
+
+reads-none : (c : Card) (k : ℕ) → 8 < k → (k ≡ 11 → ⊥) → layoutOf c .reads k ≡ false
+reads-none Small k h n = rw (lt-leb k 8 h, ne-eqb k 11 n)
 
 -- ---- by kind
 module _ (c : Card) where
   abbrev L : Layout
   L = layoutOf c
 
-  kind-read : (k : ℕ) (t : List ℕ) → k ≤ 11 → change L k t ≡ getD (kinds L) k (λ u. bad) t
+  kind-read : (k : ℕ) (t : List ℕ) → L .reads k ≡ true → change L k t ≡ getD (kinds L) k (λ u. bad) t
   unfolding change
-  kind-read k t h = rw (reads-on c k h)
+  kind-read k t on = rw on
 
-  pub kind-is : (k : ℕ) (t : List ℕ) {s : List ℕ} {r : Body} → k ≤ 11 → Bodies L (getD (kinds L) k (λ u. bad) t) s r → Bodies L (change L k t) s r
-  kind-is k t h b = rw (kind-read k t h) b
+  pub kind-is : (k : ℕ) (t : List ℕ) {s : List ℕ} {r : Body} → L .reads k ≡ true → Bodies L (getD (kinds L) k (λ u. bad) t) s r → Bodies L (change L k t) s r
+  kind-is k t on b = rw (kind-read k t on) b
 
   -- there is no such kind
-  none-read : (k : ℕ) (t : List ℕ) → (k ≡ 11 → ⊥) → (0 < k → 10 < k) → getD (kinds L) k (λ u. bad) t ≡ bad
-  none-read zero t n h = refl
-  none-read (suc k) t n h =
-      let l : 12 ≤ suc k = omega (arith, h (omega arith)) in
-      ap (λ (p : Reader Change). p t) (List·getD-eq-default (kinds L) (λ u. bad) l)
-
-  pub kind-none : (k at : ℕ) (s : List ℕ) → (k ≡ 11 → ⊥) → (0 < k → 10 < k) → Bodies L (change L k (drop at s)) s body.Malformed
+  none-read : (k : ℕ) (t : List ℕ) → (k ≡ 11 → ⊥) → (0 < k → 8 < k) → change L k t ≡ bad
   unfolding change
-  kind-none k at s n h = body-bad L (given-bad (L .reads k) (getD (kinds L) k (λ u. bad)) (drop at s) (none-read k (drop at s) n h))
+  none-read zero t n h = given-bad (L .reads 0) t
+  none-read (suc k) t n h = rw (reads-none c (suc k) (h (omega arith)) n)
+
+  pub kind-none : (k at : ℕ) (s : List ℕ) → (k ≡ 11 → ⊥) → (0 < k → 8 < k) → Bodies L (change L k (drop at s)) s body.Malformed
+  kind-none k at s n h = body-bad L (none-read k (drop at s) n h)
 
   -- a whole contract
   pub kind-contract : (k : ℕ) (t : List ℕ) {w : ContractKind} {s : List ℕ} {r : Body} → (k ≡ 1) ⊎ (k ≡ 11) → w ≡ contractKind k
       → Bodies L (aContract L (wholeOf w) t) s r → Bodies L (change L k t) s r
   unfolding contractKind
-  kind-contract k t (inl e) q b = rw e (kind-is 1 t (omega arith) (rw (q, e) at b))
-  kind-contract k t (inr e) q b = rw e (kind-is 11 t (omega arith) (rw (q, e) at b))
+  kind-contract k t (inl e) q b = rw e (kind-is 1 t (reads-8 c 1 (omega arith)) (rw (q, e) at b))
+  kind-contract k t (inr e) q b = rw e (kind-is 11 t (reads-11 c) (rw (q, e) at b))
 
   module _ (s : List ℕ) (at : ℕ) where
     -- nothing after the AID
     pub remove-left : at < length s → Bodies L (change L 2 (drop at s)) s body.Malformed
-    remove-left m = kind-is 2 (drop at s) (omega arith) (body-left L s refl m)
+    remove-left m = kind-is 2 (drop at s) (reads-8 c 2 (omega arith)) (body-left L s refl m)
 
     pub remove-good : length s ≤ at → Bodies L (change L 2 (drop at s)) s (body.Whole Remove)
-    remove-good m = kind-is 2 (drop at s) (omega arith) (body-whole L s Remove tt refl m)
+    remove-good m = kind-is 2 (drop at s) (reads-8 c 2 (omega arith)) (body-whole L s Remove tt refl m)
 
   module _ (s : List ℕ) {at : ℕ} where
     -- a service alone
     module _ {t : TokensAt} (h : Served L at s t) where
       pub alone-bad : t .service ≡ service.Malformed → Bodies L (change L 4 (drop at s)) s body.Malformed
-      alone-bad e = kind-is 4 (drop at s) (omega arith) (body-bad L (rw (← (h .same), e)))
+      alone-bad e = kind-is 4 (drop at s) (reads-8 c 4 (omega arith)) (body-bad L (rw (← (h .same), e)))
 
       module _ {x : Tokens} (e : t .service ≡ service.Found x) where
         alone-got : change L 4 (drop at s) ≡ got (kindOf s (RemoveService x)) (drop (t .next) s)
-        alone-got = kind-read 4 (drop at s) (omega arith) ∙ rw (← (h .same), e)
+        alone-got = kind-read 4 (drop at s) (reads-8 c 4 (omega arith)) ∙ rw (← (h .same), e)
 
         pub alone-left : t .next < length s → Bodies L (change L 4 (drop at s)) s body.Malformed
         alone-left m = body-left L s alone-got m
@@ -157,7 +161,7 @@ module _ (c : Card) where
         alone-good m = body-whole L s (RemoveService x) tt alone-got m
 
   -- one row
-  row-read : (k : ℕ) (t : List ℕ) → 5 ≤ k → k ≤ 10 → getD (kinds L) k (λ u. bad) t ≡ andThen (validRow L t) (λ r u. got (changeOf (rowKind k) r) u)
+  row-read : (k : ℕ) (t : List ℕ) → 5 ≤ k → k ≤ 8 → getD (kinds L) k (λ u. bad) t ≡ andThen (validRow L t) (λ r u. got (changeOf (rowKind k) r) u)
   unfolding rowKind
   row-read zero t l h = absurd (omega arith)
   row-read (suc zero) t l h = absurd (omega arith)
@@ -168,17 +172,15 @@ module _ (c : Card) where
   row-read (suc (suc (suc (suc (suc (suc zero)))))) t l h = refl
   row-read (suc (suc (suc (suc (suc (suc (suc zero))))))) t l h = refl
   row-read (suc (suc (suc (suc (suc (suc (suc (suc zero)))))))) t l h = refl
-  row-read (suc (suc (suc (suc (suc (suc (suc (suc (suc zero))))))))) t l h = refl
-  row-read (suc (suc (suc (suc (suc (suc (suc (suc (suc (suc zero)))))))))) t l h = refl
-  row-read (suc (suc (suc (suc (suc (suc (suc (suc (suc (suc (suc k))))))))))) t l h = absurd (omega arith)
+  row-read (suc (suc (suc (suc (suc (suc (suc (suc (suc k))))))))) t l h = absurd (omega arith)
 
-  module _ (s : List ℕ) (k at : ℕ) (l : 5 ≤ k) (h : k ≤ 10) where
+  module _ (s : List ℕ) (k at : ℕ) (l : 5 ≤ k) (h : k ≤ 8) where
     pub row-bad : validRow L (drop at s) ≡ bad → Bodies L (change L k (drop at s)) s body.Malformed
-    row-bad e = kind-is k (drop at s) (omega arith) (body-bad L (rw (row-read k (drop at s) l h, e)))
+    row-bad e = kind-is k (drop at s) (reads-8 c k h) (body-bad L (rw (row-read k (drop at s) l h, e)))
 
     module _ {n : ℕ} (t : Takes (validRow L) (drop at s) (Bytes n)) {x : RowAt} (w : RowStands at s x) where
       row-got : change L k (drop at s) ≡ got (changeOf (rowKind k) (rowIn s (x .row))) (drop (x .next) s)
-      row-got = kind-read k (drop at s) (omega arith) ∙ rw (row-read k (drop at s) l h, took t .1 ∙ sym (valid-only L sort.Row _ _ _ (took t .1)), w .same)
+      row-got = kind-read k (drop at s) (reads-8 c k h) ∙ rw (row-read k (drop at s) l h, took t .1 ∙ sym (valid-only L sort.Row _ _ _ (took t .1)), w .same)
 
       pub row-left : x .next < length s → Bodies L (change L k (drop at s)) s body.Malformed
       row-left m = body-left L s row-got m

@@ -15,7 +15,7 @@ use Rattle.record.specs.declared.Items.{Items}
 use Rattle.record.specs.declared.ContractKind.{ContractKind}
 use Rattle.record.specs.declared.ContractKind.the-variants.{Load, Replace}
 use Rattle.record.specs.declared.RowKind.{RowKind}
-use Rattle.record.specs.declared.RowKind.the-variants.{AddCall, RemoveCall, AddGrant, RemoveGrant, AddNeed, RemoveNeed}
+use Rattle.record.specs.declared.RowKind.the-variants.{AddCall, RemoveCall, AddGrant, RemoveGrant}
 use Rattle.record.proofs.Loops.{Todo, todo-cons, todo-next}
 use borrow.Author.Tests.{not-true, not-false}
 
@@ -110,5 +110,3 @@ row-proper a b q k AddCall t e = rw (q, ← e)
 row-proper a b q k RemoveCall t e = rw (q, ← e)
 row-proper a b q k AddGrant t e = rw (q, ← e)
 row-proper a b q k RemoveGrant t e = rw (q, ← e)
-row-proper a b q k AddNeed t e = rw (q, ← e)
-row-proper a b q k RemoveNeed t e = rw (q, ← e)

@@ -10,7 +10,7 @@ use Rattle.policy.specs.Contract.{Aid as Bytes, Tok, Row, Contract}
 use Rattle.policy.specs.Layout.{Layout}
 use Rattle.policy.specs.Record.{Got, got, bad, Reader, number, aid, tokens, aRow, validTokens, validRow, many, counted, rowList, aContract}
 use Rattle.policy.specs.Record.{Change, load, remove, addService, removeService, replace, whole, Request, parse}
-use Rattle.policy.specs.Record.{addCall, removeCall, addGrant, removeGrant, addNeed, removeNeed}
+use Rattle.policy.specs.Record.{addCall, removeCall, addGrant, removeGrant}
 use Rattle.geometry.specs.Geometry.{tokOf}
 use Rattle.record.specs.declared.Took.{Took}
 use Rattle.record.specs.declared.Took.the-variants as took
@@ -27,7 +27,7 @@ use Rattle.record.specs.declared.Lists.{Lists}
 use Rattle.record.specs.declared.ContractKind.{ContractKind}
 use Rattle.record.specs.declared.ContractKind.the-variants.{Load, Replace}
 use Rattle.record.specs.declared.RowKind.{RowKind}
-use Rattle.record.specs.declared.RowKind.the-variants.{AddCall, RemoveCall, AddGrant, RemoveGrant, AddNeed, RemoveNeed}
+use Rattle.record.specs.declared.RowKind.the-variants.{AddCall, RemoveCall, AddGrant, RemoveGrant}
 use Rattle.record.specs.declared.Kind.{Kind}
 use Rattle.record.specs.declared.Kind.the-variants as kind
 use Rattle.record.specs.declared.Body.{Body}
@@ -198,8 +198,6 @@ changeOf AddCall r = addCall r
 changeOf RemoveCall r = removeCall r
 changeOf AddGrant r = addGrant r
 changeOf RemoveGrant r = removeGrant r
-changeOf AddNeed r = addNeed r
-changeOf RemoveNeed r = removeNeed r
 
 abbrev pub kindOf : List ℕ → Kind → Change
 kindOf s (kind.Contract k l) = wholeIn k s l
@@ -299,9 +297,7 @@ unfoldable pub rowKind : ℕ → RowKind
 rowKind k =
     cond (eqb k 5) AddCall
     (cond (eqb k 6) RemoveCall
-    (cond (eqb k 7) AddGrant
-    (cond (eqb k 8) RemoveGrant
-    (cond (eqb k 9) AddNeed RemoveNeed))))
+    (cond (eqb k 7) AddGrant RemoveGrant))
 
 abbrev pub bodyOf : List ℕ → Body → Option Change
 bodyOf s (body.Whole k) = some (kindOf s k)

@@ -76,17 +76,15 @@ pub enum ContractKind {
     Replace,
 }
 
-// What a record of one row does with it: the kinds from 5 to 10.
+// What a record of one row does with it: the kinds from 5 to 8.
 pub enum RowKind {
     AddCall,
     RemoveCall,
     AddGrant,
     RemoveGrant,
-    AddNeed,
-    RemoveNeed,
 }
 
-// What follows the first AID, for the kinds from 1 to 11.
+// What follows the first AID, for the kinds from 1 to 8, and 11.
 pub enum Kind {
     Contract(ContractKind, Lists),
     Remove,
@@ -451,9 +449,7 @@ fn row_kind(kind: u8) -> RowKind
         5 => RowKind::AddCall,
         6 => RowKind::RemoveCall,
         7 => RowKind::AddGrant,
-        8 => RowKind::RemoveGrant,
-        9 => RowKind::AddNeed,
-        _ => RowKind::RemoveNeed,
+        _ => RowKind::RemoveGrant,
     }
 }
 
@@ -472,7 +468,7 @@ fn row_at(rec: &[u8], at: usize) -> RowAt
 
 // One row, from a position to the record's end.
 fn read_row(rec: &[u8], at: usize, c: Card, kind: u8) -> Body
-    requires { ⌜ (at ≤ length (now rec)) × (5 ≤ kind) × (kind ≤ 10) ⌝ }
+    requires { ⌜ (at ≤ length (now rec)) × (5 ≤ kind) × (kind ≤ 8) ⌝ }
     ensures { λ r. ⌜ Bodies (layoutOf c) (change (layoutOf c) kind (drop at (now (rec .entry)))) (now (rec .entry)) r ⌝ }
 {
     let Took::Bytes(_) = row_end(&rec[at..], c) else {
@@ -501,7 +497,7 @@ fn read_body(rec: &[u8], at: usize, c: Card, kind: u8) -> Body
         }
         3 => reader::read_add_service(rec, at, c),
         4 => read_remove_service(rec, at, c),
-        5..=10 => read_row(rec, at, c, kind),
+        5..=8 => read_row(rec, at, c, kind),
         _ => Body::Malformed,
     }
 }

@@ -158,7 +158,7 @@ pub fn contract_proper(rec: &[u8], own: &[u8], l: Lists) -> bool
     all_called(rec, l.needs, l.calls)
 }
 
-// Kinds 5 to 10: whether the other end of a row is not the own AID.
+// Kinds 5 to 8: whether the other end of a row is not the own AID.
 pub fn other_proper(own: &[u8], other: &[u8]) -> bool
     ensures { λ b. ⌜ ((c : Card) (k : RowKind) (r : RowOf) → r .aid ≡ now (other .entry)
         → b ≡ proper (layoutOf c) (now (own .entry)) (changeOf k r)) ⌝ }
