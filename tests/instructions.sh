@@ -18,7 +18,7 @@ fi
 printf '%-10s' kind
 printf '%10s' "${engines[@]}"
 echo
-for entry in 1 2 3 4 5 6 7 8 9 10 11 check read_out convert; do
+for entry in 1 2 3 4 5 6 7 8 11 check read_out convert; do
     printf '%-10s' "$entry"
     for engine in "${engines[@]}"; do
         few=$(collected "$entry" "$engine" 100)

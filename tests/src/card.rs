@@ -61,7 +61,8 @@ pub struct Bytes(pub Rules);
 /// The byte engine by the rules in force.
 pub const BYTES: Bytes = Bytes(Rules::IN_FORCE);
 /// The same by the rules before each change, the last change first.
-const BEFORE: &[Bytes; Rules::CHANGES] = &[Bytes(Rules::before(1)), Bytes(Rules::before(2)), Bytes(Rules::before(3))];
+const BEFORE: &[Bytes; Rules::CHANGES] =
+    &[Bytes(Rules::before(1)), Bytes(Rules::before(2)), Bytes(Rules::before(3)), Bytes(Rules::before(4))];
 
 impl Card for Bytes {
     fn name(&self) -> &'static str {

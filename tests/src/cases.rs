@@ -5,6 +5,7 @@ pub mod early;
 mod edges;
 mod misread;
 pub mod replace;
+pub mod retired;
 pub mod tokens;
 pub mod worked;
 
@@ -40,7 +41,7 @@ pub struct Step {
 /// Every case, in the paper's order.
 pub fn all() -> Vec<Case> {
     let paper = [edges::cases(), misread::cases(), worked::cases()];
-    let requests = [tokens::cases(), early::cases(), replace::cases()];
+    let requests = [tokens::cases(), early::cases(), replace::cases(), retired::cases()];
     paper.into_iter().chain(requests).flatten().collect()
 }
 

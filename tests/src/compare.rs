@@ -11,6 +11,7 @@ use crate::methods::{self, Held, Place};
 use crate::pairs::{possible, Kind, Pairs};
 use crate::random::Random;
 use crate::replace::Replaced;
+use crate::retired::{OldNeeds, Retired};
 use crate::rules::Rules;
 use crate::tables::{self, Tables};
 use std::collections::{BTreeMap, BTreeSet};
@@ -54,6 +55,8 @@ const FILL: [u8; LONGEST_RECORD] = [0xA5; LONGEST_RECORD];
 pub struct Tally {
     pub records: u64,
     pub pairs: Pairs,
+    /// By the rules before the last change.
+    pub pairs_before: Pairs,
     pub contracts_read: u64,
     pub damaged_sound: u64,
     pub damaged_unsound: u64,
@@ -78,6 +81,8 @@ pub struct Tally {
     pub replaced: BTreeMap<Replaced, u64>,
     /// Records of kind 11 before R-1's rules, which the rules in force would read.
     pub too_early: u64,
+    /// What R-13 has left, in records since.
+    pub retired: BTreeMap<Retired, u64>,
     /// By their places in records: method tokens of 127 that are read, and of 128 where nothing else is wrong.
     pub methods: BTreeMap<Place, [u64; 2]>,
     /// By their places in images: method tokens that damage sets to 127 on an image that stays sound, and to 128.
@@ -96,6 +101,8 @@ pub struct Compare<'a> {
     pub left_out: bool,
     /// Whether the card ever held, before a change, what the rules in force exclude.
     held_excluded: bool,
+    /// The needs on the card that kind 9 set.
+    old_needs: OldNeeds,
     pub machine: Machine,
     /// The image, the same in every engine. It has the version of the rules, but for a card left out before it was converted.
     pub image: Vec<u8>,
@@ -126,6 +133,7 @@ impl<'a> Compare<'a> {
             ahead: changes,
             left_out: false,
             held_excluded: false,
+            old_needs: OldNeeds::default(),
             machine: Machine::default(),
             image,
             seed,
@@ -184,12 +192,12 @@ impl<'a> Compare<'a> {
     /// images, and what the engines in force make of an image of an earlier version.
     pub fn step(&mut self, bytes: &[u8], tally: &mut Tally) -> Result<Verdict, Difference> {
         let (held, found) = (self.machine.clone(), self.image.clone());
-        let mut pairs_before = Pairs::default();
-        let pairs = if self.in_force() { &mut tally.pairs } else { &mut pairs_before };
+        let pairs = if self.in_force() { &mut tally.pairs } else { &mut tally.pairs_before };
         let verdict = match self.left_out {
             true => self.refused_alike(bytes, pairs)?,
             false => self.judge(bytes, pairs)?,
         };
+        self.follow_needs(&held, bytes, verdict, tally);
         let mut random = Random::of_bytes(self.seed, &[&self.image, bytes].concat());
         if !self.in_force() {
             tally.before += 1;
@@ -400,7 +408,8 @@ impl<'a> Compare<'a> {
         count_damage(damage, held, stands_for.is_some(), tally);
         match stands_for {
             Some(machine) => {
-                let mut damaged = Compare { machine, image, cards: self.cards.clone(), left_out: false, ..*self };
+                let (cards, old_needs) = (self.cards.clone(), OldNeeds::default());
+                let mut damaged = Compare { machine, image, cards, old_needs, left_out: false, ..*self };
                 let read = if held.is_some() { damaged.contracts_alike(tally) } else { Ok(()) };
                 read.and_then(|()| damaged.sound_alike(bytes, tally))
             }
@@ -453,6 +462,19 @@ impl<'a> Compare<'a> {
         let contracts = &self.machine.contracts;
         tally.eight_packages += u64::from(contracts.len() == 8);
         tally.eight_services += u64::from(contracts.values().any(|contract| contract.provides.len() == 8));
+    }
+
+    /// What becomes of the needs that kind 9 set, and since R-13 of the kind itself and of kind 10.
+    fn follow_needs(&mut self, held: &Machine, bytes: &[u8], verdict: Verdict, tally: &mut Tally) {
+        let rules = self.rules();
+        if !rules.reads(9) && !self.left_out {
+            for shown in self.old_needs.show(rules, held, bytes, verdict.answer) {
+                *tally.retired.entry(shown).or_default() += 1;
+            }
+        }
+        if verdict.answer == 0 {
+            self.old_needs.follow(rules, bytes, &self.machine);
+        }
     }
 
     /// What an accepted record of kind 11 has done to the image that it found.

@@ -2,6 +2,7 @@
 //! paper's list of what a reviewer will try, its misreadings of the report, requests misread, and a few more.
 
 mod replace;
+mod retired;
 
 use crate::bytes::layout::{aid, is_aid};
 use crate::bytes::relation::{Listed, Relation};
@@ -178,6 +179,18 @@ pub const FAULTS: &[Fault] = &[
     Fault { name: "limits-on-the-way", entry: Entry::Judge(replace::limits_on_the_way) },
     Fault { name: "replace-loads-absent", entry: Entry::Judge(replace::loads_absent) },
     Fault { name: "removes-and-loads", entry: Entry::Judge(replace::removes_and_loads) },
+    Fault { name: "rules-of-R-1", entry: Entry::Rules(Rules::R_1) },
+    Fault { name: "kind-9-read", entry: Entry::Rules(retired::READS_9) },
+    Fault { name: "kind-10-read", entry: Entry::Rules(retired::READS_10) },
+    Fault { name: retired::TOO_EARLY, entry: Entry::Before(retired::READS_NEITHER) },
+    Fault { name: "retired-gets-6", entry: Entry::Judge(retired::gets_6) },
+    Fault { name: "retired-looked-at", entry: Entry::Judge(retired::looked_at) },
+    Fault { name: "aid-of-retired", entry: Entry::Aid(retired::aid) },
+    Fault { name: "needs-dropped", entry: Entry::Judge(retired::needs_dropped) },
+    Fault { name: "needs-not-in-force", entry: Entry::Judge(retired::not_in_force) },
+    Fault { name: "need-outlives-call", entry: Entry::Judge(retired::outlives_call) },
+    Fault { name: "need-outlives-contract", entry: Entry::Judge(retired::outlives_contract) },
+    Fault { name: "needs-not-read-out", entry: Entry::ReadOut(retired::not_read_out) },
 ];
 
 /// The fault that the option `--fault` names.

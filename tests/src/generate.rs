@@ -47,7 +47,7 @@ impl Source {
 
     /// How many changes of the rules the history goes over. It begins with the tokens of the rules before them.
     pub fn changes(&mut self) -> usize {
-        let changes = if self.random.percent(30) { self.random.between(1, Rules::CHANGES) } else { 0 };
+        let changes = if self.random.percent(40) { self.random.between(1, Rules::CHANGES) } else { 0 };
         self.rules = Rules::before(changes);
         self.tokens = few_tokens(&mut self.random, self.rules, Vec::new());
         changes
@@ -102,20 +102,23 @@ impl Source {
         }
     }
 
-    /// Loads first; then every kind, more of what the history is driven to.
+    /// Loads first; then every kind, more of what the history is driven to. A kind that the rules do not read comes seldom; where
+    /// they read kind 9 it comes often, so that needs of its own are on the card when it is retired.
     fn kind(&mut self, packages: usize) -> u8 {
         let wanted = if self.drive == Drive::Packages { 7 } else { 3 };
         if packages < wanted && self.random.percent(60) {
             return 1;
         }
         let weights: [usize; 11] = match self.drive {
-            Drive::Mixed => [15, 7, 10, 8, 14, 8, 14, 8, 9, 7, 14],
-            Drive::Lists => [12, 6, 8, 8, 24, 4, 24, 4, 6, 4, 14],
-            Drive::Packages => [20, 5, 8, 6, 16, 8, 16, 8, 8, 5, 10],
-            Drive::Services => [12, 4, 34, 4, 12, 6, 12, 6, 6, 4, 12],
+            Drive::Mixed => [15, 7, 10, 8, 14, 8, 14, 8, 18, 6, 14],
+            Drive::Lists => [12, 6, 8, 8, 24, 4, 24, 4, 12, 4, 14],
+            Drive::Packages => [20, 5, 8, 6, 16, 8, 16, 8, 16, 5, 10],
+            Drive::Services => [12, 4, 34, 4, 12, 6, 12, 6, 12, 4, 12],
         };
-        let mut left = self.random.below(weights.iter().sum());
-        for (kind, weight) in (1..).zip(weights) {
+        let rules = self.rules;
+        let weighted = (1..).zip(weights).map(|(kind, weight)| (kind, if rules.reads(kind) { weight } else { 2 }));
+        let mut left = self.random.below(weighted.clone().map(|(_, weight)| weight).sum());
+        for (kind, weight) in weighted {
             if left < weight {
                 return kind;
             }

@@ -19,3 +19,8 @@ pub mod hexadecimal;
 
 // The program `cardtool`.
 pub mod tool;
+
+/// Kinds 9 and 10 are retired: no text has them, and the rules in force read no such record.
+fn retired() -> ! {
+    unreachable!("a record of a retired kind")
+}

@@ -21,6 +21,7 @@ pub mod history;
 pub mod methods;
 pub mod pairs;
 pub mod replace;
+pub mod retired;
 pub mod run;
 pub mod shrink;
 pub mod tables;

@@ -1,6 +1,7 @@
 //! Where method tokens stand in records and in images, so that they can be set, and counted by their places.
 
 use crate::card::IMAGE;
+use crate::rules::Rules;
 use std::fmt;
 
 /// A part of records that has tokens: one of the lists of kind 1 or 11, or a kind of update.
@@ -15,9 +16,10 @@ pub enum Place {
 }
 
 impl Place {
-    /// Every place, in the order of the kinds.
+    /// Every place in records that the rules in force read, in the order of the kinds.
     pub fn all() -> impl Iterator<Item = Place> {
-        Place::lists(1).into_iter().chain((3..=10).map(Place::Kind)).chain(Place::lists(11))
+        let updates = (3..=10).filter(|kind| Rules::IN_FORCE.reads(*kind)).map(Place::Kind);
+        Place::lists(1).into_iter().chain(updates).chain(Place::lists(11))
     }
 
     /// The lists of a whole contract.

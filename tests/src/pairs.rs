@@ -34,7 +34,7 @@ impl fmt::Display for Kind {
     }
 }
 
-/// Each kind with the answers that judging a record of it can give by the rules in force.
+/// Each kind with the answers that judging a record of it can give by the rules of some time.
 ///
 /// For every kind: 1 on an image that is not sound, 2 for a record that cannot be read. 12 is for
 /// reading out alone. 3 needs a second AID or a list, which kinds 2 and 4 have not. 4 is for loads
@@ -42,7 +42,7 @@ impl fmt::Display for Kind {
 /// and 3; the eight services of kind 11 at most always find theirs. The card is lawful and within
 /// its limits before the change, so for 8 to 11 the change itself must be able to bring the cause
 /// about.
-pub const POSSIBLE: [(Kind, &[u32]); 13] = [
+const ANSWERS: [(Kind, &[u32]); 13] = [
     // A load can bring any of the four about.
     (Kind::Known(1), &[0, 1, 2, 3, 4, 7, 8, 9, 10, 11]),
     // Calls of others on the package become unmet (9, 10) and grants to it wait (11). The met
@@ -62,7 +62,7 @@ pub const POSSIBLE: [(Kind, &[u32]); 13] = [
     (Kind::Known(7), &[0, 1, 2, 3, 5, 6, 11]),
     // A met call may lose its grant (8).
     (Kind::Known(8), &[0, 1, 2, 3, 5, 6, 8]),
-    // The need may be on an unmet call (9). Calls and grants stay.
+    // The need may be on an unmet call (9). Calls and grants stay. Since R-13 the kind is retired, and so is the next.
     (Kind::Known(9), &[0, 1, 2, 3, 5, 6, 9]),
     // A need goes: nothing can come about.
     (Kind::Known(10), &[0, 1, 2, 3, 5, 6]),
@@ -74,13 +74,28 @@ pub const POSSIBLE: [(Kind, &[u32]); 13] = [
 
 /// Whether judging a record of the kind by the rules can give the answer.
 pub fn possible(rules: Rules, kind: Kind, answer: u32) -> bool {
-    let listed = POSSIBLE.iter().any(|(known, answers)| *known == kind && answers.contains(&answer));
+    let listed = ANSWERS.iter().any(|(known, answers)| *known == kind && answers.contains(&answer));
     let in_time = match kind {
         Kind::Known(4) if answer == 11 => rules.early_grants,
-        Kind::Known(kind) if kind > rules.last_kind => answer <= 2 && answer > 0,
+        Kind::Known(kind) if !rules.reads(kind) => matches!(answer, 1 | 2),
         _ => true,
     };
     listed && in_time
+}
+
+/// The pairs of the rules of some time.
+fn listed() -> impl Iterator<Item = (Kind, u32)> {
+    ANSWERS.iter().flat_map(|(kind, answers)| answers.iter().map(|answer| (*kind, *answer)))
+}
+
+/// The pairs that the rules make possible.
+pub fn all(rules: Rules) -> impl Iterator<Item = (Kind, u32)> {
+    listed().filter(move |(kind, answer)| possible(rules, *kind, *answer))
+}
+
+/// The pairs that earlier rules had, and those in force have no longer.
+pub fn gone() -> impl Iterator<Item = (Kind, u32)> {
+    listed().filter(|(kind, answer)| !possible(Rules::IN_FORCE, *kind, *answer))
 }
 
 /// How often each pair was seen.
@@ -96,28 +111,27 @@ impl Pairs {
         self.0.get(&(kind, answer)).copied().unwrap_or(0)
     }
 
-    /// How many of the possible pairs were seen, and how many there are.
-    pub fn coverage(&self) -> (usize, usize) {
-        let all = POSSIBLE.iter().map(|(_, answers)| answers.len()).sum();
-        (all - self.missing().len(), all)
+    /// How many of some pairs were seen, and how many there are.
+    pub fn coverage(&self, pairs: impl Iterator<Item = (Kind, u32)>) -> (usize, usize) {
+        let (seen, missing): (Vec<_>, Vec<_>) = pairs.partition(|(kind, answer)| self.seen(*kind, *answer) > 0);
+        (seen.len(), seen.len() + missing.len())
     }
 
-    /// The possible pairs never seen.
-    pub fn missing(&self) -> Vec<(Kind, u32)> {
-        let all = POSSIBLE.iter().flat_map(|(kind, answers)| answers.iter().map(|answer| (*kind, *answer)));
-        all.filter(|(kind, answer)| self.seen(*kind, *answer) == 0).collect()
+    /// Those of some pairs that were never seen.
+    pub fn missing(&self, pairs: impl Iterator<Item = (Kind, u32)>) -> Vec<(Kind, u32)> {
+        pairs.filter(|(kind, answer)| self.seen(*kind, *answer) == 0).collect()
     }
 }
 
 impl fmt::Display for Pairs {
-    /// A row for each kind and a column for each answer; `-` where the paper has no such pair.
+    /// A row for each kind and a column for each answer; `-` where the rules in force have no such pair.
     fn fmt(&self, f: &mut fmt::Formatter) -> fmt::Result {
         write!(f, "{:>8}", "kind")?;
         (0..=11).try_for_each(|answer| write!(f, "{answer:>7}"))?;
-        for (kind, answers) in POSSIBLE {
+        for (kind, _) in ANSWERS {
             write!(f, "\n{:>8}", kind.to_string())?;
             for answer in 0..=11 {
-                match answers.contains(&answer) {
+                match possible(Rules::IN_FORCE, kind, answer) {
                     true => write!(f, "{:>7}", self.seen(kind, answer))?,
                     false => write!(f, "{:>7}", "-")?,
                 }
@@ -141,11 +155,13 @@ mod tests {
 
     #[test]
     fn what_was_counted_is_not_missing() {
-        let mut pairs = Pairs::default();
-        assert_eq!(pairs.coverage(), (0, 88));
+        let (mut pairs, all) = (Pairs::default(), || all(Rules::IN_FORCE));
+        assert_eq!(pairs.coverage(all()), (0, 79));
         pairs.count(Kind::Known(2), 11);
-        assert_eq!(pairs.coverage(), (1, 88));
-        assert!(!pairs.missing().contains(&(Kind::Known(2), 11)));
+        pairs.count(Kind::Known(10), 6);
+        assert_eq!((pairs.coverage(all()), pairs.coverage(gone())), ((1, 79), (1, 9)));
+        assert!(!pairs.missing(all()).contains(&(Kind::Known(2), 11)));
+        assert!(!pairs.missing(gone()).contains(&(Kind::Known(10), 6)));
     }
 
     #[test]
@@ -153,8 +169,11 @@ mod tests {
         let possible = |rules, kind, answer| possible(rules, Kind::Known(kind), answer);
         assert!(possible(Rules::IN_FORCE, 2, 11) && possible(Rules::R_2, 4, 11) && !possible(Rules::R_2, 5, 11));
         assert!(possible(Rules::R_7, 2, 11) && !possible(Rules::R_7, 4, 11));
-        let answers = |rules| (0..=12).filter(|answer| possible(rules, 11, *answer)).collect::<Vec<_>>();
-        assert_eq!(answers(Rules::R_1), [0, 1, 2, 3, 5, 8, 9, 10, 11]);
-        assert_eq!(answers(Rules::R_2), [1, 2]);
+        let answers = |rules, kind| (0..=12).filter(|answer| possible(rules, kind, *answer)).collect::<Vec<_>>();
+        assert_eq!(answers(Rules::R_1, 11), [0, 1, 2, 3, 5, 8, 9, 10, 11]);
+        assert_eq!(answers(Rules::R_2, 11), [1, 2]);
+        assert_eq!([9, 10].map(|kind| answers(Rules::R_1, kind).len()), [7, 6]);
+        assert_eq!([9, 10].map(|kind| answers(Rules::R_13, kind)), [[1, 2]; 2]);
+        assert_eq!(Rules::ALL.map(|rules| all(rules).count()), [80, 80, 81, 88, 79]);
     }
 }

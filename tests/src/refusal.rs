@@ -8,7 +8,7 @@ use std::fmt;
 pub enum Refusal {
     /// 1: the image is not sound, as one of version 01 or with a method token of 128 or more, or has not a card's size.
     Unsound = 1,
-    /// 2: the record is malformed: its form is wrong, or a method token is 128 or more.
+    /// 2: the record is malformed: its form is wrong, its kind is none of 1 to 8 and 11, or a method token is 128 or more.
     Malformed = 2,
     /// 3: the record contradicts itself.
     Contradictory = 3,

@@ -8,22 +8,25 @@ pub struct Rules {
     pub most_method: u8,
     /// Whether a grant may name a service that its package does not yet provide. Images have version 02 then, else 01.
     pub early_grants: bool,
-    /// A kind is from 1 to this.
-    pub last_kind: u8,
+    /// The kinds that are read; any other gets 2.
+    pub kinds: &'static [u8],
 }
 
 impl Rules {
     /// "Each token may be 0 to 255." "Granted services are among those provided." Ten kinds.
-    pub const DOCUMENT_01: Rules = Rules { most_method: 255, early_grants: false, last_kind: 10 };
+    pub const DOCUMENT_01: Rules =
+        Rules { most_method: 255, early_grants: false, kinds: &[1, 2, 3, 4, 5, 6, 7, 8, 9, 10] };
     /// "Method tokens stop at 127." Interface tokens stay 0 to 255.
     pub const R_7: Rules = Rules { most_method: 127, ..Rules::DOCUMENT_01 };
     /// "Grants given before the service exists." A converter takes images over.
     pub const R_2: Rules = Rules { early_grants: true, ..Rules::R_7 };
     /// "An applet's new release brings its whole contract." Kind 11; images are what they were.
-    pub const R_1: Rules = Rules { last_kind: 11, ..Rules::R_2 };
+    pub const R_1: Rules = Rules { kinds: &[1, 2, 3, 4, 5, 6, 7, 8, 9, 10, 11], ..Rules::R_2 };
+    /// "Kinds 9 and 10 are retired and get 2." Images, and the needs in them, are what they were.
+    pub const R_13: Rules = Rules { kinds: &[1, 2, 3, 4, 5, 6, 7, 8, 11], ..Rules::R_1 };
 
     /// The rules of every time, in order.
-    pub const ALL: [Rules; 4] = [Rules::DOCUMENT_01, Rules::R_7, Rules::R_2, Rules::R_1];
+    pub const ALL: [Rules; 5] = [Rules::DOCUMENT_01, Rules::R_7, Rules::R_2, Rules::R_1, Rules::R_13];
     /// The rules in force: the last.
     pub const IN_FORCE: Rules = Rules::before(0);
     /// How often the rules have changed.
@@ -32,6 +35,11 @@ impl Rules {
     /// The rules before the last so many changes.
     pub const fn before(changes: usize) -> Rules {
         Rules::ALL[Rules::CHANGES - changes]
+    }
+
+    /// Whether records of the kind are read.
+    pub fn reads(self, kind: u8) -> bool {
+        self.kinds.contains(&kind)
     }
 
     /// How often the rules have changed since these.

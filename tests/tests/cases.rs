@@ -1,11 +1,12 @@
 //! The table of cases holds on the machine and on every engine.
 
 use second::card::{linked, Card, Verdict, BYTES, IMAGE};
-use second::cases::{all, early, named, replace, tokens, worked};
+use second::cases::{all, early, named, replace, retired, tokens, worked};
 use second::damage::Damage;
 use second::early::Early;
 use second::methods::Place;
 use second::replace::Replaced;
+use second::retired::Retired;
 use second::run::replay;
 use std::collections::BTreeSet;
 
@@ -37,7 +38,7 @@ fn the_table_has_the_papers_cases() {
 #[test]
 fn every_place_of_tokens_has_its_case() {
     let cards = linked();
-    let mut seen = [(); 16].map(|()| [0; 2]);
+    let mut seen = [(); 14].map(|()| [0; 2]);
     let (mut left_out, mut gone_on, mut cleared) = (0, 0, 0);
     for case in tokens::cases() {
         let tally = replay(&cards, 0, &case.history(), &Damage::default())
@@ -49,7 +50,7 @@ fn every_place_of_tokens_has_its_case() {
         (left_out, gone_on, cleared) = (left_out + tally.left_out, gone_on + tally.gone_on, cleared + tally.cleared);
     }
     assert!(seen.iter().flatten().all(|count| *count > 0), "{seen:?}");
-    assert_eq!((left_out, gone_on, cleared), (3, 4, 2));
+    assert_eq!((left_out, gone_on, cleared), (3, 6, 2));
 }
 
 /// Each thing that R-2 brings about has its case, and cards go over the conversion.
@@ -81,6 +82,21 @@ fn every_whole_contract_has_its_case() {
     }
     assert_eq!(seen, BTreeSet::from(Replaced::ALL));
     assert_eq!((left_out, gone_on, too_early), (1, 2, 7));
+}
+
+/// Each thing that R-13 leaves has its case, and cards go over its change.
+#[test]
+fn every_need_of_before_has_its_case() {
+    let cards = linked();
+    let (mut seen, mut gone_on) = (BTreeSet::new(), 0);
+    for case in retired::cases() {
+        let tally = replay(&cards, 0, &case.history(), &Damage::default())
+            .unwrap_or_else(|difference| panic!("{}: {difference}", case.name));
+        seen.extend(tally.retired.keys().copied());
+        gone_on += tally.gone_on;
+    }
+    assert_eq!(seen, BTreeSet::from(Retired::ALL));
+    assert_eq!(gone_on, 7);
 }
 
 /// The report's Examples 5 to 8: the mapping, the tables of jTicket's needs and ePurse's grants.

@@ -101,13 +101,49 @@ fn kind_11_is_read_from_r_1_on() {
         replace(H, &[S, S], &[], &[], &[]),
     ];
     for (record, since) in records.iter().zip([5, 5, 3]) {
-        for rules in Rules::ALL {
-            let read = rules == Rules::R_1;
+        for (rules, read) in Rules::ALL.into_iter().zip([false, false, false, true, true]) {
             assert_eq!(answers_by(rules, record), [if read { since } else { 2 }; 2], "{rules:?}");
             assert_eq!(Bytes(rules).aid(record), if read { H } else { &[] });
         }
         assert_eq!(answers_by(Rules::R_1, &record[..record.len() - 1]), [2; 2]);
     }
+}
+
+/// Kinds 9 and 10 by the rules of every time, each cause of theirs; since R-13 they get 2, whatever follows the kind.
+#[test]
+fn kinds_9_and_10_are_read_up_to_r_13() {
+    let card = [load(H, &[S], &[], &[row(C, S)], &[]), load(C, &[], &[row(H, S), row(X, S)], &[], &[])];
+    let records = [
+        (update(9, C, C, S), 3),
+        (update(10, C, C, S), 3),
+        (update(9, B, H, S), 5),
+        (update(10, B, H, S), 5),
+        // A service not called, and one not needed.
+        (update(9, C, X, T), 6),
+        (update(9, C, B, S), 6),
+        (update(10, C, H, S), 6),
+        (update(10, C, X, S), 6),
+        (update(9, C, X, S), 9),
+        (update(9, C, H, S), 0),
+        (update(9, C, H, S), 6),
+        (update(10, C, H, T), 6),
+        (update(10, C, H, S), 0),
+        (update(10, C, H, S), 6),
+    ];
+    for (rules, read) in Rules::ALL.into_iter().zip([true, true, true, true, false]) {
+        let (mut machine, mut image) = (Machine::default(), vec![0; Version::of(rules).size]);
+        Bytes(rules).empty(&mut image);
+        let mut judge = |record: &[u8]| [machine.judge(rules, record), Bytes(rules).judge(&mut image, record).answer];
+        assert!(card.iter().all(|record| judge(record) == [0; 2]));
+        for (n, (record, answer)) in records.iter().enumerate() {
+            assert_eq!(judge(record), [if read { *answer } else { 2 }; 2], "{n}, {rules:?}");
+            assert_eq!(Bytes(rules).aid(record).is_empty(), !read);
+        }
+    }
+    let bodies: [&[u8]; 3] = [&[], &[5, 0xF0, 0, 0, 0, 1], &replace(H, &[], &[], &[], &[])[4..]];
+    let retired = [9, 10].into_iter().flat_map(|kind| bodies.map(|body| record(kind, &[body])));
+    let retired: Vec<Vec<u8>> = records.into_iter().map(|(record, _)| record).chain(retired).collect();
+    assert_eq!(answers(&[&card[..], &retired].concat()), [vec![0; 2], vec![2; 20]].concat());
 }
 
 /// A load's record as one of kind 11.
@@ -145,9 +181,9 @@ fn cause_2_a_method_token() {
     };
     for (interface, method) in [0, 127, 128, 255].into_iter().flat_map(|one| methods.map(|other| (one, other))) {
         for (n, record) in at((interface, method)).into_iter().enumerate() {
-            for (rules, most) in Rules::ALL.into_iter().zip([255, 127, 127, 127]) {
+            for (rules, most) in Rules::ALL.into_iter().zip([255, 127, 127, 127, 127]) {
                 let answers = answers_by(rules, &record);
-                let read = method <= most && record[3] <= rules.last_kind;
+                let read = method <= most && rules.reads(record[3]);
                 assert!(answers.iter().all(|answer| (*answer == 2) != read), "{n}, {interface}.{method}: {answers:?}");
                 assert_eq!(Bytes(rules).aid(&record), if read { H } else { &[] });
             }
@@ -195,8 +231,8 @@ fn cause_3_a_record_against_itself() {
     // 3 comes before 5.
     let replaced: Vec<Vec<u8>> = records[..8].iter().map(|record| as_kind_11(record)).collect();
     assert_eq!(answers(&replaced), [3; 8]);
-    let updates: Vec<Vec<u8>> = (5..=10).map(|kind| update(kind, H, H, S)).collect();
-    assert_eq!(answers(&updates), [3; 6]);
+    let updates: Vec<Vec<u8>> = (5..=8).map(|kind| update(kind, H, H, S)).collect();
+    assert_eq!(answers(&updates), [3; 4]);
 }
 
 /// A load's grant of a service that it does not provide was 3, and is accepted since R-2. What else is wrong stays so.
@@ -205,7 +241,7 @@ fn early_grants_were_cause_3() {
     let early = [row(X, T), row(C, T)];
     for (provides, grants) in [(vec![], &early[..1]), (vec![S], &early[..]), (vec![(1, 0)], &early[1..])] {
         let record = load(H, &provides, &[], grants, &[]);
-        for (rules, answer) in Rules::ALL.into_iter().zip([3, 3, 0, 0]) {
+        for (rules, answer) in Rules::ALL.into_iter().zip([3, 3, 0, 0, 0]) {
             assert_eq!(answers_by(rules, &record), [answer; 2], "{rules:?}");
         }
         assert_eq!(answers(&[load(H, &[], &[], &[], &[]), as_kind_11(&record)]), [0, 0]);
@@ -221,9 +257,9 @@ fn early_grants_were_cause_3() {
 fn causes_4_and_5_installed_or_not() {
     let mut records = vec![load(H, &[], &[], &[], &[]), load(H, &[S], &unmet(17), &[], &[])];
     records.extend([remove(C), add_service(C, S, &[]), remove_service(C, S)]);
-    records.extend((5..=10).map(|kind| update(kind, C, H, S)));
+    records.extend((5..=8).map(|kind| update(kind, C, H, S)));
     records.push(replace(C, &[S], &unmet(17), &[], &[]));
-    let expected = [vec![0, 4], vec![5; 10]].concat();
+    let expected = [vec![0, 4], vec![5; 8]].concat();
     assert_eq!(answers(&records), expected);
     // An AID is another with a zero byte more.
     let longer = [H, &[0]].concat();
@@ -241,20 +277,14 @@ fn cause_6_nothing_to_change() {
         update(5, C, X, S),
         update(7, H, C, S),
         update(7, H, X, S),
-        update(9, C, H, S),
         // What it lacks.
         remove_service(H, T),
         update(6, C, H, T),
         update(6, C, X, T),
         update(8, H, C, T),
         update(8, H, B, S),
-        update(10, C, X, S),
-        update(10, C, H, T),
-        // A service not called.
-        update(9, C, X, T),
-        update(9, C, B, S),
     ];
-    assert_eq!(answers(&records), [vec![0, 0], vec![6; 15]].concat());
+    assert_eq!(answers(&records), [vec![0, 0], vec![6; 10]].concat());
 }
 
 /// Kind 7 for a service not provided was 6, and is so since R-2 only where the contract has the grant.
@@ -314,7 +344,7 @@ fn cause_11_of_kind_4() {
         // 10 and 11 apply; then 9 too; then 11 alone; then neither.
         update(5, B, X, (8, 0)),
         remove_service(H, S),
-        update(9, C, H, S),
+        replace(C, &[], &[row(H, S)], &[], &[row(H, S)]),
         remove_service(H, S),
         update(6, C, H, S),
         remove_service(H, S),

@@ -76,7 +76,7 @@ fn run_as_printed(text: &str, directory: &Path) -> usize {
 #[test]
 fn the_readmes_commands_print_what_stands_there() {
     let text = section(&document("README.md"), "## Records and images as text");
-    assert_eq!(run_as_printed(&text, &place("readme")), 16);
+    assert_eq!(run_as_printed(&text, &place("readme")), 18);
 }
 
 #[test]

@@ -8,7 +8,7 @@ use second::faults::FAULTS;
 use second::history::{changes, Event};
 use second::run::{replay, run};
 
-const SEED: u64 = 3;
+const SEED: u64 = 5;
 
 #[test]
 fn every_fault_is_found() {
@@ -27,7 +27,7 @@ fn every_fault_is_found() {
     }
 }
 
-/// The table of cases finds all but six, which need 15 unmet calls, a damaged byte, and another size.
+/// The table of cases finds all but five, which need 15 unmet calls, a damaged byte, and another size.
 #[test]
 fn the_cases_find_most_faults() {
     std::panic::set_hook(Box::new(|_| {}));
@@ -37,9 +37,9 @@ fn the_cases_find_most_faults() {
     });
     let missed: Vec<&str> = missed.map(|fault| fault.name()).collect();
     let counted = "ten-uncounted";
-    let damaged = ["last-byte-unchecked", "settled-row-sound", "own-aid-row-sound"];
+    let damaged = ["settled-row-sound", "own-aid-row-sound"];
     let sized = ["empty-any-length", "converts-into-more"];
-    let expected = [counted, damaged[0], sized[0], damaged[1], damaged[2], sized[1]];
+    let expected = [counted, sized[0], damaged[0], damaged[1], sized[1]];
     assert_eq!(missed, expected);
 }
 
@@ -48,7 +48,7 @@ fn the_cases_find_most_faults() {
 #[test]
 fn a_history_over_the_changes_is_replayed() {
     std::panic::set_hook(Box::new(|_| {}));
-    for name in ["converts-128", "converts-backwards", "kind-11-too-early"] {
+    for name in ["converts-128", "converts-backwards", "kind-11-too-early", "retired-too-early"] {
         let fault = FAULTS.iter().find(|fault| fault.name() == name).expect("the fault");
         let cards: [&dyn Card; 2] = [&BYTES, fault];
         let failure = run(&cards, SEED, 20_000).err().expect("a difference");
@@ -60,8 +60,8 @@ fn a_history_over_the_changes_is_replayed() {
         assert!(replay(&[&BYTES], SEED, &read, &failure.difference.damage).is_ok(), "{lines:?}");
     }
     // No more changes can be told than there were.
-    let words = replay(&[&BYTES], SEED, &vec![Event::Change; 4], &Damage::default()).err().expect("a difference").words;
-    assert_eq!(words, "a history has at most 3 changes of the rules, here are 4");
+    let words = replay(&[&BYTES], SEED, &vec![Event::Change; 5], &Damage::default()).err().expect("a difference").words;
+    assert_eq!(words, "a history has at most 4 changes of the rules, here are 5");
 }
 
 #[test]
@@ -83,5 +83,5 @@ fn a_short_run_finds_nothing_in_the_byte_engine() {
     assert!(tally.left_out > 0 && tally.cleared > 0 && tally.before > 0);
     assert!(tally.contracts_read > 1_000 && tally.damaged_sound > 100 && tally.damaged_unsound > 1_000);
     assert!(tally.converted > 20 && tally.not_converted > 100 && tally.early.len() > 5);
-    assert!(tally.replaced.len() > 9 && tally.too_early > 9);
+    assert!(tally.replaced.len() > 9 && tally.too_early > 9 && tally.retired.len() > 6);
 }

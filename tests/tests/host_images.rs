@@ -146,7 +146,7 @@ fn record_dumps_are_read_back() {
             assert_eq!(hexadecimal::dump(&dump::record(&record)), Ok(bytes));
         }
     }
-    assert_eq!(kinds.len(), 11);
+    assert_eq!(kinds.len(), 9);
 }
 
 #[test]

@@ -1,4 +1,4 @@
-//! Records as text: the eleven kinds, both ways, and every message with its place.
+//! Records as text: the nine kinds, both ways, and every message with its place.
 
 use second::card::{Card, BYTES, IMAGE};
 use second::generate::Source;
@@ -75,7 +75,7 @@ fn every_kind_is_text_and_back() {
         let read = record_text::read(&named).expect("a text");
         assert_eq!(read.names.text() + &record_text::write(&read.records[0].record, &read.names), named);
     }
-    assert_eq!(kinds, (1..=11).collect());
+    assert_eq!(kinds, BTreeSet::from([1, 2, 3, 4, 5, 6, 7, 8, 11]));
 }
 
 #[test]
@@ -123,7 +123,7 @@ fn a_loose_layout_reads_alike() {
 
 /// Each kind as it is written, and its bytes.
 #[test]
-fn the_eleven_kinds_and_their_bytes() {
+fn the_nine_kinds_and_their_bytes() {
     let load = "\
 load F000000001
     provides 3.4
@@ -147,8 +147,6 @@ load F000000001
         ("remove F000000001 calls F000000002 255.127\n", update("06")),
         ("add F000000001 grants 255.127 to F000000002\n", update("07")),
         ("remove F000000001 grants 255.127 to F000000002\n", update("08")),
-        ("add F000000001 needs F000000002 255.127\n", update("09")),
-        ("remove F000000001 needs F000000002 255.127\n", update("0A")),
         (&load.replace("load", "replace"), load_bytes.replacen("01 01", "01 0B", 1)),
     ];
     for (text, bytes) in cases {
@@ -181,8 +179,11 @@ fn bad_texts_have_messages_with_places() {
         ("load F000000001\nto F000000002", "line 2, column 1: 'to' follows 'add AID provides SERVICE', and none stands above it"),
         ("replace F000000001\nto F000000002", "line 2, column 1: 'to' follows 'add AID provides SERVICE', and none stands above it"),
         ("replace F000000001\ncalls F000000002 0.128", "line 2, column 20: the method token is 128, not 0 to 127"),
-        ("add F000000001", "line 1, column 15: provides, calls, grants or needs is missing"),
-        ("add F000000001 has 0.0", "line 1, column 16: provides, calls, grants or needs is expected, not 'has'"),
+        ("add F000000001", "line 1, column 15: provides, calls or grants is missing"),
+        ("add F000000001 has 0.0", "line 1, column 16: provides, calls or grants is expected, not 'has'"),
+        ("remove F000000001 to", "line 1, column 19: provides, calls or grants is expected, not 'to'"),
+        ("add F000000001 needs", "line 1, column 16: 'add AID needs', kind 9, is retired since R-13, and a card answers 2: a need comes with the whole contract, as a row of 'load' or 'replace'"),
+        ("# x\n remove F000000001 needs F000000002 0.0", "line 2, column 20: 'remove AID needs', kind 10, is retired since R-13, and a card answers 2: a need goes with its call, 'remove AID calls AID SERVICE', or with a 'replace' without it"),
         ("add F000000001 provides", "line 1, column 24: a service, as 0.1, is missing"),
         ("add F000000001 provides 0", "line 1, column 25: '0' is not a service: interface to 255 and method to 127, as in 0.1"),
         ("add F000000001 provides 0.256", "line 1, column 25: '0.256' is not a service: interface to 255 and method to 127, as in 0.1"),
@@ -359,7 +360,17 @@ fn bad_records_have_messages_with_places() {
             "line 1, column 1: byte 0: the length field says 11, the record has 10 bytes",
         ),
         ("\n00 0A 02 02 05 F0 00 00 00 01", "line 2, column 7: byte 2: the version is 2, not 1"),
-        ("00 0A 01 0C 05 F0 00 00 00 01", "line 1, column 10: byte 3: the kind is 12, not 1 to 11"),
+        ("00 0A 01 0C 05 F0 00 00 00 01", "line 1, column 10: byte 3: the kind is 12, and there are 1 to 8 and 11"),
+        (
+            "00 0A 01 09 05 F0 00 00 00 01",
+            "line 1, column 10: byte 3: 'add AID needs', kind 9, is retired since R-13, and a card answers 2: \
+             a need comes with the whole contract, as a row of 'load' or 'replace'",
+        ),
+        (
+            "00 04 01 0A",
+            "line 1, column 10: byte 3: 'remove AID needs', kind 10, is retired since R-13, and a card answers 2: \
+             a need goes with its call, 'remove AID calls AID SERVICE', or with a 'replace' without it",
+        ),
         ("00 0A 01 0B 05 F0 00 00 00 01", "line 1, column 30: byte 10: the record ends here, and bytes are missing"),
         ("000A0102 04F000000001", "line 1, column 10: byte 4: the AID's length is 4, not 5 to 16"),
         ("00 0B 01 02 05 F0 00 00 00 01 00", "line 1, column 31: byte 10: 1 byte is left over"),

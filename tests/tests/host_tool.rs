@@ -1,5 +1,6 @@
 //! The program `cardtool`: its commands on good and bad input, options, messages and exit codes.
 
+use second::cases::named;
 use second::hex::from_hex;
 use second::host::tool::run;
 use second::program::{Failure, BAD_INPUT, BAD_USE};
@@ -135,7 +136,12 @@ fn bad_input_is_1_with_its_place() {
         "standard input: byte 0: record 1: the length field says 0, 3 bytes are left",
     );
     let second = b"\x00\x0A\x01\x02\x05\xF0\x00\x00\x00\x01\x00\x04\x01\x0C";
-    fails("decode --raw", second, BAD_INPUT, "standard input: byte 13: record 2: the kind is 12, not 1 to 11");
+    fails(
+        "decode --raw",
+        second,
+        BAD_INPUT,
+        "standard input: byte 13: record 2: the kind is 12, and there are 1 to 8 and 11",
+    );
     for command in ["show", "dump", "convert"] {
         let words = "standard input: byte 2: an image has 1110 bytes, or 1094 in version 01, here are 2";
         fails(command, b"04 56", BAD_INPUT, words);
@@ -291,15 +297,60 @@ fn a_whole_contract() {
     assert!(text(&format!("show {image}"), "").contains(shown));
 }
 
+/// Needs are neither added nor removed by themselves: each message says what is used instead. `--as-is` writes no such record.
+#[test]
+fn retired_kinds() {
+    let added = "'add AID needs', kind 9, is retired since R-13, and a card answers 2: \
+                 a need comes with the whole contract, as a row of 'load' or 'replace'";
+    let removed = "'remove AID needs', kind 10, is retired since R-13, and a card answers 2: \
+                   a need goes with its call, 'remove AID calls AID SERVICE', or with a 'replace' without it";
+    for (verb, kind, words) in [("add", 9, added), ("remove", 10, removed)] {
+        let text = format!("load F000000001\n{verb} F000000001 needs F000000002 0.0\n");
+        let column = verb.len() + 13;
+        for command in ["encode", "encode --as-is", "judge"] {
+            let words = format!("standard input: line 2, column {column}: {words}");
+            fails(command, text.as_bytes(), BAD_INPUT, &words);
+        }
+        let hex = format!("00 12 01 {kind:02X} 05 F0 00 00 00 01 05 F0 00 00 00 02 00 00");
+        for command in ["decode", "dump --record"] {
+            fails(command, hex.as_bytes(), BAD_INPUT, &format!("standard input: line 1, column 10: byte 3: {words}"));
+        }
+        let raw = from_hex(&hex).expect("bytes");
+        fails("decode --raw", &raw, BAD_INPUT, &format!("standard input: byte 3: record 1: {words}"));
+    }
+}
+
+/// A need that kind 9 set before is shown as any other, and goes with what the messages name.
+#[test]
+fn a_need_of_before_is_shown() {
+    let case = named("R-13: a need of before stays in force, and goes with its call");
+    let image = file("need-of-before").display().to_string();
+    std::fs::write(&image, case.image()).expect("a file");
+    let shown = text(&format!("show --raw {image}"), "");
+    assert!(shown.contains("\n    needs F000000001 0.0\n"), "{shown}");
+    let judged = "unload F000000001\nremove F000000002 calls F000000001 0.0\nunload F000000001\n";
+    assert_eq!(
+        text(&format!("judge --raw --image {image}"), judged),
+        "1 unload F000000001: refused, 9: a need would be unmet\n\
+         2 remove F000000002 calls F000000001 0.0: accepted, package 1\n\
+         3 unload F000000001: accepted, package 0\n"
+    );
+    let judged = "replace F000000002\n calls F000000001 0.0\nunload F000000001\n";
+    assert_eq!(
+        text(&format!("judge --raw --image {image}"), judged),
+        "1 replace F000000002: accepted, package 1\n2 unload F000000001: accepted, package 0\n"
+    );
+}
+
 #[test]
 fn records_that_contradict_themselves_are_written_as_they_are_on_request() {
-    let bad = "unload F000000001\nadd F000000001 needs F000000001 0.0\n";
+    let bad = "unload F000000001\nadd F000000001 calls F000000001 0.0\n";
     let words = "standard input: line 2, column 1: a package does not name its own AID here (a card answers 3)";
     fails("encode", bad.as_bytes(), BAD_INPUT, words);
     let hex = text("encode --as-is", bad);
     assert_eq!(text("decode", &hex), bad);
     assert!(text("judge", bad)
-        .contains("2 add F000000001 needs F000000001 0.0: refused, 3: the record contradicts itself\n"));
+        .contains("2 add F000000001 calls F000000001 0.0: refused, 3: the record contradicts itself\n"));
 }
 
 #[test]

@@ -109,7 +109,7 @@ fn a_bad_command_line_is_2() {
     fails("bench --bogus", 2, "bench: '--bogus' is not known; there are --rounds, --count, --calls, --of and --help\n");
     fails("bench --rounds", 2, "bench: --rounds lacks its value\n");
     fails("bench --rounds x", 2, "bench: --rounds x: not a number, or too large\n");
-    fails("bench --count 12", 2, "bench: --count 12: not 1 to 11, check, read_out or convert\n");
+    fails("bench --count 9", 2, "bench: --count 9: not 1 to 8, 11, check, read_out or convert\n");
     fails("bench --count 1 --of no", 2, "bench: --of: no such engine is linked\n");
     fails("cases --bogus", 2, "cases: '--bogus' is not known; there are --records, --fault and --help\n");
     fails("cases --fault", 2, "cases: either --records or --fault NAME can be given\n");
@@ -133,7 +133,7 @@ fn an_argument_that_is_no_text_is_told() {
 fn a_difference_is_1() {
     let runs = [
         ("differ --fault grants-lost", "differ: the comparison failed\n"),
-        ("cases --fault grants-lost", "cases: 6 cases failed\n"),
+        ("cases --fault grants-lost", "cases: 8 cases failed\n"),
     ];
     for (run, words) in runs {
         let ended = program(run).output().expect(run);

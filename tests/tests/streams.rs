@@ -2,7 +2,7 @@
 
 use second::machine;
 use second::methods::{self, Place};
-use second::pairs::{Kind, POSSIBLE};
+use second::pairs::{self, Kind};
 use second::rules::Rules;
 use second::session::streams::{all, edges, history, SEEDS};
 use second::session::{frames, transcript, Frames};
@@ -11,7 +11,7 @@ use std::collections::BTreeSet;
 /// A wrong program: what it makes of the frames and of the right lines.
 type Wrong = fn(&Frames, Vec<String>) -> Vec<String>;
 
-const WRONG: [(&str, Wrong); 20] = [
+const WRONG: [(&str, Wrong); 21] = [
     ("goes on after a bad frame", |frames, lines| [lines, behind(frames.rest)].concat()),
     ("the line of a bad frame has the ordinal 7", |frames, lines| {
         if_bad(frames, lines, |_| Some("7 - 2 -\n".to_string()))
@@ -40,7 +40,7 @@ const WRONG: [(&str, Wrong); 20] = [
     ("4 bytes are not read", |frames, lines| bad_at(frames, lines, 4)),
     ("a kind that is not known is -", |frames, mut lines| {
         for (record, line) in frames.records.iter().zip(&mut lines) {
-            if !(1..=11).contains(&record[3]) {
+            if !Rules::IN_FORCE.reads(record[3]) {
                 *line = line.replace(&format!(" {} ", record[3]), " - ");
             }
         }
@@ -49,6 +49,7 @@ const WRONG: [(&str, Wrong); 20] = [
     ("a method token of 128 is read", |frames, _| frames.lines_by(Rules::DOCUMENT_01).expect("no difference")),
     ("a grant of a service not provided is refused", |frames, _| frames.lines_by(Rules::R_7).expect("no difference")),
     ("kind 11 is not read", |frames, _| frames.lines_by(Rules::R_2).expect("no difference")),
+    ("kinds 9 and 10 are read", |frames, _| frames.lines_by(Rules::R_1).expect("no difference")),
     ("a method token of 127 is not read", |frames, mut lines| {
         for (record, line) in frames.records.iter().zip(&mut lines) {
             if methods::of_record(record).iter().any(|(_, at)| record[*at] == 127) {
@@ -121,10 +122,9 @@ fn the_streams_tell_wrong_programs_from_the_right_one() {
 #[test]
 fn the_histories_have_every_pair() {
     let lines: String = SEEDS.map(|seed| transcript(&history(seed, true).input)).collect();
-    for (kind, answers) in POSSIBLE {
-        for answer in answers.iter().filter(|answer| matches!(kind, Kind::Known(_)) && **answer != 1) {
-            assert!(lines.contains(&format!(" {kind} {answer} ")), "kind {kind} never has answer {answer}");
-        }
+    for (kind, answer) in pairs::all(Rules::IN_FORCE) {
+        let seen = lines.contains(&format!(" {kind} {answer} "));
+        assert!(seen || !matches!(kind, Kind::Known(_)) || answer == 1, "kind {kind} never has answer {answer}");
     }
 }
 

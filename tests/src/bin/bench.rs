@@ -13,7 +13,7 @@ const HELP: &str = "\
 bench [--rounds N]
     times every kind, the check, the reading out and the conversion on a nearly full card, N rounds (1,000) of 64 each
 bench --count KIND [--calls N] [--of ENGINE]
-    calls one entry N times (1,000), for a profile; KIND is 1 to 11, check, read_out or convert; ENGINE is bytes,
+    calls one entry N times (1,000), for a profile; KIND is 1 to 8, 11, check, read_out or convert; ENGINE is bytes,
     or engine when it is linked (the last one linked)
 
 Exit code: 0; 2 when the command line is bad.
@@ -151,7 +151,7 @@ fn time(mut batches: Vec<Duration>) -> Time {
 
 fn repeat(card: &dyn Card, entry: &str, calls: usize) -> Result<(), Failure> {
     let named = |known: &Entry| known.name == entry || known.name.split(' ').next() == Some(entry);
-    let bad = || Failure::bad_use(format!("--count {entry}: not 1 to 11, check, read_out or convert"));
+    let bad = || Failure::bad_use(format!("--count {entry}: not 1 to 8, 11, check, read_out or convert"));
     let entry = entries().into_iter().find(named).ok_or_else(bad)?;
     let mut image = entry.image.clone();
     for _ in 0..calls {

@@ -7,8 +7,11 @@ use second::early::Early;
 use second::faults;
 use second::history::{changes, Event};
 use second::methods::{Held, Place};
+use second::pairs::{all, gone, Kind};
 use second::program::{self, number, Failure};
 use second::replace::Replaced;
+use second::retired::Retired;
+use second::rules::Rules;
 use second::run::{replay, run, DEFAULT_RECORDS, DEFAULT_SEED};
 use second::say_line;
 use std::collections::BTreeMap;
@@ -98,9 +101,10 @@ fn run_histories(cards: &[&dyn Card], arguments: &Arguments) -> Result<(), Failu
 }
 
 fn report(tally: &Tally) -> String {
-    let (seen, all) = tally.pairs.coverage();
+    let (seen, possible) = tally.pairs.coverage(all(Rules::IN_FORCE));
+    let (seen_before, gone) = tally.pairs_before.coverage(gone());
     format!(
-        "{}\n{} records, all alike; {seen} of {all} pairs (kind, answer) seen\n\
+        "{}\n{} records, all alike; {seen} of {possible} pairs (kind, answer) seen, and {seen_before} of {gone} before that are gone\n\
          {} contracts read out; damaged images: {} sound, {} not\n\
          records after which: unmet calls 15: {}, 16: {}; waiting grants 15: {}, 16: {}; \
          8 packages: {}; 8 services in one: {}\n\
@@ -108,6 +112,7 @@ fn report(tally: &Tally) -> String {
          images of version 01: {} converted, {} refused\n\
          grants before their service: {}\n\
          whole contracts: {}; before their rules {}\n\
+         needs that kind 9 set: {}\n\
          method tokens 127 and 128 in records: {}\n\
          on damaged images: {}",
         tally.pairs,
@@ -130,6 +135,7 @@ fn report(tally: &Tally) -> String {
         joined(early(tally).into_iter().map(counted)),
         joined(replaced(tally).into_iter().map(counted)),
         tally.too_early,
+        joined(retired(tally).into_iter().map(counted)),
         joined(methods(tally).into_iter().map(both)),
         joined(methods_held(tally).into_iter().map(both)),
     )
@@ -160,6 +166,10 @@ fn replaced(tally: &Tally) -> Vec<(Replaced, u64)> {
     seen(Replaced::ALL, &tally.replaced)
 }
 
+fn retired(tally: &Tally) -> Vec<(Retired, u64)> {
+    seen(Retired::ALL, &tally.retired)
+}
+
 /// Method tokens of 127, and of 128, in each place of records.
 fn methods(tally: &Tally) -> Vec<(Place, [u64; 2])> {
     seen(Place::all(), &tally.methods)
@@ -181,10 +191,14 @@ fn unseen(things: Vec<(impl Display, u64)>) -> String {
 
 /// A run as long as the default must have been everywhere.
 fn everything_seen(tally: &Tally) -> Result<(), String> {
-    let missing = tally.pairs.missing();
-    if !missing.is_empty() {
-        let missing: Vec<String> = missing.iter().map(|(kind, answer)| format!("({kind}, {answer})")).collect();
-        return Err(format!("never seen: {}", missing.join(" ")));
+    let pair = |(kind, answer): (Kind, u32)| format!("({kind}, {answer})");
+    for (when, missing) in [
+        ("", tally.pairs.missing(all(Rules::IN_FORCE))),
+        (" before they were gone", tally.pairs_before.missing(gone())),
+    ] {
+        if !missing.is_empty() {
+            return Err(format!("never seen{when}: {}", joined(missing.into_iter().map(pair))));
+        }
     }
     let states = [tally.unmet, tally.waiting, [tally.eight_packages, tally.eight_services]].concat();
     let damaged = [tally.damaged_sound, tally.damaged_unsound];
@@ -197,9 +211,11 @@ fn everything_seen(tally: &Tally) -> Result<(), String> {
     if tally.converted == 0 || tally.not_converted == 0 {
         return Err("no image of version 01 was converted, or none was refused".to_string());
     }
-    for (what, unseen) in
-        [("grants before their service", unseen(early(tally))), ("whole contracts", unseen(replaced(tally)))]
-    {
+    for (what, unseen) in [
+        ("grants before their service", unseen(early(tally))),
+        ("whole contracts", unseen(replaced(tally))),
+        ("needs that kind 9 set, and kinds that are retired,", unseen(retired(tally))),
+    ] {
         if !unseen.is_empty() {
             return Err(format!("{what} were never seen: {unseen}"));
         }

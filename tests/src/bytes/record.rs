@@ -78,7 +78,7 @@ impl<'a> Iterator for Aids<'a> {
 /// Reads a record; `None` is cause 2.
 pub fn read(rules: Rules, record: &[u8]) -> Option<Record<'_>> {
     let (&[high, low, version, kind], rest) = record.split_first_chunk()?;
-    if usize::from(u16::from_be_bytes([high, low])) != record.len() || version != 1 || kind > rules.last_kind {
+    if usize::from(u16::from_be_bytes([high, low])) != record.len() || version != 1 || !rules.reads(kind) {
         return None;
     }
     let (aid, rest) = read_aid(rest)?;

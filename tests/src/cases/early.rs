@@ -1,7 +1,7 @@
 //! R-2, "Grants given before the service exists": grants that wait for their service, and cards over the conversion.
 
 use super::*;
-use crate::write::{add_service, load, remove, remove_service, update, Tokens};
+use crate::write::{add_service, load, remove, remove_service, replace, update, Tokens};
 
 const S: Tokens = (0, 0);
 const T: Tokens = (0, 1);
@@ -21,6 +21,12 @@ fn bare(aid: &[u8]) -> Vec<u8> {
 fn caller(aid: &[u8], services: &[Tokens]) -> Vec<u8> {
     let calls: Vec<_> = services.iter().map(|tokens| row(H, *tokens)).collect();
     load(aid, &[], &calls, &[], &[])
+}
+
+/// The contract of a package that calls services of H and needs the last of them.
+fn needing(aid: &[u8], services: &[Tokens]) -> Vec<u8> {
+    let calls: Vec<_> = services.iter().map(|tokens| row(H, *tokens)).collect();
+    replace(aid, &[], &calls, &[], &calls[calls.len() - 1..])
 }
 
 /// So many AIDs that are never installed.
@@ -77,9 +83,9 @@ fn given_early() -> Vec<Case> {
                 yes(0, load(H, &[], &[], &[row(C, S)], &[])),
                 // Unmet, and it cannot be needed.
                 yes(1, caller(C, &[S])),
-                no(9, update(9, C, H, S)),
+                no(9, needing(C, &[S])),
                 yes(0, add_service(H, S, &[])),
-                yes(1, update(9, C, H, S)),
+                yes(1, needing(C, &[S])),
                 no(8, update(8, H, C, S)),
             ],
         ),
@@ -182,7 +188,7 @@ fn loads() -> Vec<Case> {
                 no(8, load(H, &[S, T], &[], &[row(C, S), row(C, NEVER)], &[])),
                 yes(1, load(H, &[S], &[], &[row(C, S), row(C, T)], &[])),
                 yes(1, add_service(H, T, &[])),
-                yes(0, update(9, C, H, T)),
+                yes(0, needing(C, &[S, T])),
                 no(9, remove_service(H, T)),
             ],
         ),

@@ -141,7 +141,7 @@ fn rows() -> Vec<Case> {
                 yes(1, load(C, &[T], &[row(H, S), row(X, S)], &[row(H, T), row(X, T)], &[row(H, S)])),
                 no(9, remove(H)),
                 yes(1, provides(C, &[T])),
-                no(6, update(10, C, H, S)),
+                no(6, update(6, C, H, S)),
                 no(6, update(6, C, X, S)),
                 no(6, update(8, C, H, T)),
                 no(6, update(8, C, X, T)),

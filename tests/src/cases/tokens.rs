@@ -102,12 +102,12 @@ fn in_updates() -> Vec<Case> {
         case("R-7: kind 6, 127 and 128", after(then(both(6, C, X), yes(1, update(6, C, X, LAST))))),
         case("R-7: kind 7, 127 and 128", after(then(both(7, H, B), yes(0, update(7, H, B, LAST))))),
         case("R-7: kind 8, 127 and 128", after(then(both(8, H, X), yes(0, update(8, H, X, LAST))))),
-        case("R-7: kind 9, 127 and 128", {
+        before_r_13("R-7: kind 9, 127 and 128", {
             let mut steps = then(both(9, C, H), yes(1, update(10, C, H, LAST)));
             steps.push(yes(1, update(9, C, H, LAST)));
             after(steps)
         }),
-        case("R-7: kind 10, 127 and 128", after(then(both(10, C, H), yes(1, update(10, C, H, LAST))))),
+        before_r_13("R-7: kind 10, 127 and 128", after(then(both(10, C, H), yes(1, update(10, C, H, LAST))))),
         case(
             "R-7: a method past 127 comes before every other cause of the record and the card",
             after(vec![
@@ -173,7 +173,7 @@ fn over_the_change() -> Vec<Case> {
             "R-7: a card that holds 127 goes on over the change",
             vec![yes(0, server(LAST)), yes(1, caller(LAST)), yes(1, update(5, C, X, LAST))],
             vec![
-                yes(1, update(9, C, H, LAST)),
+                yes(1, contract(11, C, &[], &[row(H, LAST), row(X, LAST)], &[], &[row(H, LAST)])),
                 no(9, remove(H)),
                 no(2, update(5, C, X, PAST)),
                 yes(1, remove(C)),
@@ -186,6 +186,12 @@ fn over_the_change() -> Vec<Case> {
             vec![yes(1, load(C, &[LAST], &[], &[], &[]))],
         ),
     ]
+}
+
+/// A case of kinds 9 and 10, by the last rules that have them; by those in force both get 2.
+fn before_r_13(name: &'static str, before: Vec<Step>) -> Case {
+    let retired = |kind: u8| [LAST, PAST].map(|tokens| no(2, update(kind, C, H, tokens)));
+    over(name, Rules::R_1, vec![before], [9, 10].into_iter().flat_map(retired).collect())
 }
 
 /// A case over R-7's change, and at once over those since.

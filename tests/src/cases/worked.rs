@@ -48,15 +48,18 @@ pub fn cases() -> Vec<Case> {
                 no(8, update(5, JTICKET, EPURSE, PAYMENT)),
             ]),
         ),
-        case(
+        // The need comes by kind 9, which R-13 retires, and stays in force.
+        over(
             "worked example: ePurse must grant what jTicket calls already",
-            vec![
+            Rules::R_1,
+            vec![vec![
                 yes(0, load(JTICKET, &[], &[row(EPURSE, PAYMENT)], &[], &[])),
                 no(9, update(9, JTICKET, EPURSE, PAYMENT)),
                 no(8, load(EPURSE, &[PAYMENT], &[], &[row(EMV, PAYMENT)], &[])),
                 yes(1, epurse()),
                 yes(0, update(9, JTICKET, EPURSE, PAYMENT)),
-            ],
+            ]],
+            vec![no(9, remove(EPURSE)), no(2, update(10, JTICKET, EPURSE, PAYMENT))],
         ),
     ]
 }

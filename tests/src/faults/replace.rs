@@ -11,10 +11,10 @@ use crate::write;
 
 pub const TOO_EARLY: &str = "kind-11-too-early";
 /// Before each change of the rules, the last change first, an engine that reads kind 11 already.
-pub const READS_11: &[Fault; Rules::CHANGES] = &[reads_11(1), reads_11(2), reads_11(3)];
+pub const READS_11: &[Fault; Rules::CHANGES] = &[reads_11(1), reads_11(2), reads_11(3), reads_11(4)];
 
 const fn reads_11(changes: usize) -> Fault {
-    let rules = Rules { last_kind: 11, ..Rules::before(changes) };
+    let rules = Rules { kinds: Rules::R_1.kinds, ..Rules::before(changes) };
     Fault { name: TOO_EARLY, entry: Entry::Rules(rules) }
 }
 

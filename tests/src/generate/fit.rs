@@ -78,7 +78,7 @@ impl Source {
         let others = || held.calls().filter(|(caller, _)| **caller != own);
         let unmet = others().filter(|(_, call)| unmet_after(call)).count();
         let calls = self.fit_calls(own, old, held, unmet);
-        let needs = self.some(&calls, |call| if held.met(call) { 20 } else { 1 });
+        let needs = self.some(&calls, |call| if held.met(call) { 30 } else { 2 });
 
         // What others call of its services it grants, mostly.
         let met: Vec<Row> = others()

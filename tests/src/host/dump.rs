@@ -5,7 +5,7 @@ use crate::hex::to_hex;
 use crate::machine::record::{Change, Lists, Record};
 use crate::machine::{Aid, Row, Tokens};
 
-use super::encode;
+use super::{encode, retired};
 
 /// An image part by part, of the version that its size says. Parts after the header that are zero throughout are left out.
 pub fn image(image: &Image, version: &Version) -> String {
@@ -57,12 +57,10 @@ pub fn record(record: &Record) -> String {
             parts.extend(callers.iter().map(|caller| aid("caller AID", caller)));
         }
         Change::RemoveService(service) => parts.push(tokens(service)),
-        Change::AddCall(each)
-        | Change::RemoveCall(each)
-        | Change::AddGrant(each)
-        | Change::RemoveGrant(each)
-        | Change::AddNeed(each)
-        | Change::RemoveNeed(each) => parts.extend(row(other, each)),
+        Change::AddCall(each) | Change::RemoveCall(each) | Change::AddGrant(each) | Change::RemoveGrant(each) => {
+            parts.extend(row(other, each))
+        }
+        Change::AddNeed(_) | Change::RemoveNeed(_) => retired(),
     }
     lines(&bytes, &parts, |_, _| true)
 }
@@ -92,8 +90,7 @@ fn kind(change: &Change) -> &'static str {
         Change::RemoveCall(_) => "remove a call",
         Change::AddGrant(_) => "add a grant",
         Change::RemoveGrant(_) => "remove a grant",
-        Change::AddNeed(_) => "add a need",
-        Change::RemoveNeed(_) => "remove a need",
+        Change::AddNeed(_) | Change::RemoveNeed(_) => retired(),
         Change::Replace(_) => "replace the contract",
     }
 }

@@ -23,8 +23,7 @@ pub fn bytes(record: &Record) -> Vec<u8> {
         Change::RemoveCall(row) => update(6, row),
         Change::AddGrant(row) => update(7, row),
         Change::RemoveGrant(row) => update(8, row),
-        Change::AddNeed(row) => update(9, row),
-        Change::RemoveNeed(row) => update(10, row),
+        Change::AddNeed(_) | Change::RemoveNeed(_) => super::retired(),
         Change::Replace(lists) => contract(11, lists),
     }
 }

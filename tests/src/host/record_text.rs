@@ -3,7 +3,7 @@
 use super::fault::{Fault, Place};
 use super::names::{tokens, tokens_word, Names};
 use super::words::{lines, Line, Word};
-use crate::machine::record::{contradiction, Change, Lists, Part, Record, MOST_CALLERS, MOST_PROVIDES, MOST_ROWS};
+use crate::machine::record::{contradiction, Change, Lists, Part, Record, Why, MOST_CALLERS, MOST_PROVIDES, MOST_ROWS};
 use crate::machine::{Aid, Row, Tokens};
 use crate::rules::Rules;
 use std::collections::BTreeMap;
@@ -88,13 +88,9 @@ impl Text {
                 let aid = self.own(line)?;
                 self.begin(first, aid, Change::Remove)
             }
-            "add" => {
-                let (aid, row) = (self.own(line)?, one_row(line, &self.names)?);
-                self.begin(first, aid, added(row))
-            }
-            "remove" => {
-                let (aid, row) = (self.own(line)?, one_row(line, &self.names)?);
-                self.begin(first, aid, removed(row))
+            "add" | "remove" => {
+                let (aid, change) = (self.own(line)?, one_row(first.text == "add", line, &self.names)?);
+                self.begin(first, aid, change)
             }
             "to" => self.caller(first, line),
             _ => match said(first, line, &self.names)? {
@@ -148,29 +144,23 @@ impl Text {
     }
 }
 
-/// The row of a line that adds or removes one.
-fn one_row(line: &mut Line, names: &Names) -> Result<Said, Fault> {
-    let verb = line.next("provides, calls, grants or needs")?;
-    let none = || verb.fault(format!("provides, calls, grants or needs is expected, not '{}'", verb.text));
-    said(verb, line, names)?.ok_or_else(none)
-}
-
-fn added(row: Said) -> Change {
-    match row {
-        Said::Provides(tokens) => Change::AddService(tokens, Vec::new()),
-        Said::Calls(row) => Change::AddCall(row),
-        Said::Grants(row) => Change::AddGrant(row),
-        Said::Needs(row) => Change::AddNeed(row),
+/// What a line says that adds or removes one row. Since R-13 that is no need.
+fn one_row(adds: bool, line: &mut Line, names: &Names) -> Result<Change, Fault> {
+    let verb = line.next("provides, calls or grants")?;
+    if verb.text == "needs" {
+        return Err(verb.fault(Why::Retired(if adds { 9 } else { 10 }).to_string()));
     }
-}
-
-fn removed(row: Said) -> Change {
-    match row {
-        Said::Provides(tokens) => Change::RemoveService(tokens),
-        Said::Calls(row) => Change::RemoveCall(row),
-        Said::Grants(row) => Change::RemoveGrant(row),
-        Said::Needs(row) => Change::RemoveNeed(row),
-    }
+    Ok(match (said(verb, line, names)?, adds) {
+        (Some(Said::Provides(tokens)), true) => Change::AddService(tokens, Vec::new()),
+        (Some(Said::Provides(tokens)), false) => Change::RemoveService(tokens),
+        (Some(Said::Calls(row)), true) => Change::AddCall(row),
+        (Some(Said::Calls(row)), false) => Change::RemoveCall(row),
+        (Some(Said::Grants(row)), true) => Change::AddGrant(row),
+        (Some(Said::Grants(row)), false) => Change::RemoveGrant(row),
+        (Some(Said::Needs(_)) | None, _) => {
+            return Err(verb.fault(format!("provides, calls or grants is expected, not '{}'", verb.text)));
+        }
+    })
 }
 
 /// Puts an item at the end of its list, and gives its place there.
@@ -198,8 +188,7 @@ pub fn write(record: &Record, names: &Names) -> String {
         Change::RemoveCall(row) => format!("remove {own} {}\n", calls(row, names)),
         Change::AddGrant(row) => format!("add {own} {}\n", grants(row, names)),
         Change::RemoveGrant(row) => format!("remove {own} {}\n", grants(row, names)),
-        Change::AddNeed(row) => format!("add {own} {}\n", needs(row, names)),
-        Change::RemoveNeed(row) => format!("remove {own} {}\n", needs(row, names)),
+        Change::AddNeed(_) | Change::RemoveNeed(_) => super::retired(),
         Change::Replace(lists) => format!("replace {own}\n{}", rows(lists, names)),
     }
 }

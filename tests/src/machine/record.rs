@@ -68,10 +68,9 @@ pub enum Why {
         bytes: usize,
     },
     Version(u8),
-    Kind {
-        written: u8,
-        last: u8,
-    },
+    Kind(u8),
+    /// Kind 9 or 10, since R-13.
+    Retired(u8),
     Count {
         written: u8,
         most: u8,
@@ -99,8 +98,9 @@ pub fn read(rules: Rules, bytes: &[u8]) -> Result<Record, Malformed> {
         return Err(Malformed { at: 2, why: Why::Version(version) });
     }
     let kind = rest.byte()?;
-    if !(1..=rules.last_kind).contains(&kind) {
-        return Err(Malformed { at: 3, why: Why::Kind { written: kind, last: rules.last_kind } });
+    if !rules.reads(kind) {
+        let why = if matches!(kind, 9 | 10) { Why::Retired(kind) } else { Why::Kind(kind) };
+        return Err(Malformed { at: 3, why });
     }
     let aid = rest.aid()?;
     let change = match kind {
@@ -254,7 +254,17 @@ impl fmt::Display for Why {
                 write!(f, "the length field says {written}, the record has {bytes} bytes")
             }
             Why::Version(version) => write!(f, "the version is {version}, not {VERSION}"),
-            Why::Kind { written, last } => write!(f, "the kind is {written}, not 1 to {last}"),
+            Why::Kind(kind) => write!(f, "the kind is {kind}, and there are 1 to 8 and 11"),
+            Why::Retired(kind) => {
+                let (line, instead) = match kind {
+                    9 => ("add AID needs", "a need comes with the whole contract, as a row of 'load' or 'replace'"),
+                    _ => (
+                        "remove AID needs",
+                        "a need goes with its call, 'remove AID calls AID SERVICE', or with a 'replace' without it",
+                    ),
+                };
+                write!(f, "'{line}', kind {kind}, is retired since R-13, and a card answers 2: {instead}")
+            }
             Why::Count { written, most } => write!(f, "the count is {written}, at most {most} may stand here"),
             Why::AidLength(length) => write!(f, "the AID's length is {length}, not 5 to 16"),
             Why::Method { written, most } => write!(f, "the method token is {written}, not 0 to {most}"),

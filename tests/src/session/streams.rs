@@ -96,14 +96,20 @@ fn kinds() -> Vec<Stream> {
         let input = [paper()[0].clone(), record(kind, &[&aid]), paper()[1].clone()].concat();
         streams.push(Stream::new(format!("kind {kind} between records"), input));
     }
+    // Retired, as they were written. The paper's third record sets the need.
+    for kind in [9, 10] {
+        let [server, _, caller, removal] = &paper()[..] else { panic!("the paper has four records") };
+        let input = [server, caller, &update(kind, C, H, (0, 0)), removal].map(Vec::as_slice).concat();
+        streams.push(Stream::new(format!("kind {kind} between records"), input));
+    }
     streams
 }
 
-/// Method tokens of 127 and 128 in every place, grants before their service, and whole contracts, a case on each card; and every
-/// method, in one record each.
+/// Method tokens of 127 and 128 in every place, grants before their service, whole contracts, and retired kinds, a case on each
+/// card; and every method, in one record each.
 fn requests() -> Vec<Stream> {
-    let cases = [cases::tokens::cases(), cases::early::cases(), cases::replace::cases()].into_iter().flatten();
-    let cases = cases.filter(|case| case.before.is_empty());
+    let requests = [cases::tokens::cases(), cases::early::cases(), cases::replace::cases(), cases::retired::cases()];
+    let cases = requests.into_iter().flatten().filter(|case| case.before.is_empty());
     let records = |case: &Case| case.steps.iter().flat_map(|step| step.record.clone()).collect();
     let mut streams: Vec<_> = cases.map(|case| Stream::new(case.name, records(&case))).collect();
     let called = (0..=255).flat_map(|method| [update(5, C, H, (method, method)), update(6, C, H, (method, method))]);
