@@ -49,6 +49,10 @@ extern "C" {
  * The version of what this file promises. The major number goes up when a host that kept to it may have to change: parameters,
  * results, the meaning of an answer, the bytes of images and records. The minor number goes up when something is added.
  *
+ * 4.0: kinds 9 and 10, which added and removed a need, are retired: a record of such a kind gets 2, and card_aid finds no AID in it. A
+ * need comes with a whole contract (kinds 1 and 11), and goes with its call (kind 6), its package, or the next whole contract; one that
+ * kind 9 set before is in force and is read out as any other. Images are what they were.
+ *
  * 3.1: a record of kind 11 has a load's layout, and puts a whole contract in place of an installed package's. 3.0 gave 2 for it. Images
  * are what they were. CARD_STACK_JUDGE goes from 1152 to 1536.
  *
@@ -60,8 +64,8 @@ extern "C" {
  * 2.0: a method token is 0 to 127, where 1.0 had 0 to 255. A record with a higher one gets 2. An image made with 1.0 that holds a higher
  * one is not sound: card_check, card_judge and card_read_out give 1. Interface tokens stay 0 to 255.
  */
-#define CARD_VERSION_MAJOR 3
-#define CARD_VERSION_MINOR 1
+#define CARD_VERSION_MAJOR 4
+#define CARD_VERSION_MINOR 0
 #define CARD_VERSION (CARD_VERSION_MAJOR * 1000 + CARD_VERSION_MINOR)
 
 /* Bytes of an image. */
@@ -92,13 +96,13 @@ enum card_answer {
     CARD_ACCEPTED = 0,
     CARD_UNSOUND_IMAGE = 1,        /* the image is not sound, as one of version 01 or with a method token of 128 or more, or not
                                       CARD_IMAGE_SIZE bytes */
-    CARD_MALFORMED_RECORD = 2,     /* length, version, kind, count or AID length wrong, a method token of 128 or more, or bytes missing
-                                      or left over */
+    CARD_MALFORMED_RECORD = 2,     /* length, version, kind (not 1 to 8 or 11), count or AID length wrong, a method token of 128 or
+                                      more, or bytes missing or left over */
     CARD_CONTRADICTORY_RECORD = 3, /* a row or AID is repeated; the own AID as the other end; in a whole contract (kinds 1 and 11), a
                                       need that is not called */
     CARD_INSTALLED = 4,            /* load of an AID that is installed */
     CARD_NOT_INSTALLED = 5,        /* the package, or the package number to read out, is not installed */
-    CARD_POINTLESS_CHANGE = 6,     /* adds what the contract has, or removes what it lacks; a need not called */
+    CARD_POINTLESS_CHANGE = 6,     /* adds what the contract has, or removes what it lacks */
     CARD_NO_NUMBER = 7,            /* no package number left, or no service number of the package */
     CARD_UNGRANTED_CALL = 8,       /* a met call would stand without its grant */
     CARD_UNMET_NEED = 9,           /* a need would be unmet */
