@@ -8,6 +8,8 @@ use second::faults::FAULTS;
 use second::history::{changes, Event};
 use second::run::{replay, run};
 
+/// Each of the seeds 1 to 10 finds every fault in 20,000 records. The shortest history that dropping records comes to has up to 27 of
+/// them, by the seed; this seed is one by which it has at most 16 for every fault.
 const SEED: u64 = 5;
 
 #[test]
