@@ -44,11 +44,11 @@ use Rattle.changes.specs.Joins.{roomAfter, serviceNumber}
 use Rattle.changes.specs.Left.{inColumn}
 use Rattle.changes.specs.Own.{served}
 use Rattle.changes.proofs.Tests.{found-below, served-is}
-use Rattle.packages.specs.Decides.{comesDue, bothThere, waitsAt, grantedAt, callGranted, CallsCome, grantFits, grantedTo, othersGranted, rowGranted, keptGranted}
-use Rattle.packages.specs.Decides.{unmetFit, waitingFit, limitCause, bringCause}
+use Rattle.packages.specs.Conditions.{waitsAt, grantedAt, callGranted, ownGranted, CallsCome, needsServed, grantFits, grantedTo, othersGranted, rowGranted, keptGranted}
+use Rattle.packages.specs.Decides.{comesDue, bothThere, unmetFit, waitingFit, limitCause, bringCause}
 use Rattle.packages.specs.declared.decide.Bring.{Bring}
-use Rattle.packages.specs.declared.decide.Called.{Called}
-use Rattle.packages.specs.declared.decide.Called.the-variants.{Granted, Refused}
+use Rattle.packages.specs.declared.conditions.Called.{Called}
+use Rattle.packages.specs.declared.conditions.Called.the-variants.{Granted, Refused}
 
 -- ---- an unmet call u on a service of the contract k, its callee compared first
 module _ (L : Layout) (t : Tables) (k : Contract) (u : Unmet) (b : Bool) (e : b ≡ eqAid (u .callee) (k .aid)) where
@@ -174,10 +174,6 @@ waits-by b x y r e h q = ap not (alike b r x y e h q)
 pub drop-has : (b y r : Bool) (s u : Tok) (l : List Tok) → b ≡ y → not b ≡ false → s ≡ u → r ≡ hasTok s l → not r ≡ y && not (hasTok u l)
 drop-has b y r s u l e h x q = named-so b y (not (hasTok u l)) (not r) e h (ap not (q ∙ ap (λ (z : Tok). hasTok z l) x))
 
--- ---- none of m, where the test y passes
-pub none-of : (b y : Bool) (k m : ℕ) → b ≡ y → not b ≡ false → k ≡ m → eqb k 0 ≡ y && eqb m 0
-none-of b y k m e h q = named-so b y (eqb m 0) (eqb k 0) e h (ap (λ (z : ℕ). eqb z 0) q)
-
 -- ---- no service is dropped: a column has none of them
 no-ones : (g : ℕ → ℕ → Bool) (l m : List ℕ) → ((i k : ℕ) → g i k ≡ false) → sum (λ i. count (g i) l) m ≡ 0
 no-ones g l [] e = refl
@@ -279,18 +275,21 @@ calls-few L t w n s l r u come e =
     omega (arith, length-keep (λ x. not (served L t x)) (itemsIn aRow s l), rows-few (l .count) (drop (l .at) s), length-drop (l .at) s)
 
 -- ---- the first cause that applies
-abbrev causeOf : Bool → Bool → Bool → Bool → Bool → ℕ
-causeOf g h n u w = cond (not (g && h)) 8 (cond (not n) 9 (cond (not u) 10 (cond (not w) 11 0)))
+abbrev causeOf : Bool → Bool → Bool → Bool → Bool → Bool → ℕ
+causeOf g o d e u w = cond (not (g && o)) 8 (cond (not (d && e)) 9 (cond (not u) 10 (cond (not w) 11 0)))
 
 module _ (L : Layout) (t : Tables) (k : Contract) (b : Bring) where
   abbrev mine : Bool
-  mine = every (callGranted L t (b .due) (b .at)) (k .calls)
+  mine = ownGranted L t (b .due) (b .at) (k .calls)
 
   abbrev others : Bool
-  others = othersGranted L t (k .grants) (b .met) && keptGranted L t (k .grants) (b .at) (b .dropped)
+  others = othersGranted L t (k .grants) (b .met)
 
-  abbrev needed : Bool
-  needed = every (served L t) (k .needs) && eqb (inColumn L Needs t (b .at) (bit (b .dropped))) 0
+  abbrev here : Bool
+  here = needsServed L t (k .needs)
+
+  abbrev freed : Bool
+  freed = eqb (inColumn L Needs t (b .at) (bit (b .dropped))) 0
 
   abbrev more : ℕ
   more = count (λ x. not (served L t x)) (k .calls) + inColumn L Calls t (b .at) (bit (b .dropped))
@@ -304,7 +303,7 @@ module _ (L : Layout) (t : Tables) (k : Contract) (b : Bring) where
   -- by what its calls come to
   module _ (r : Called) (come : CallsCome L t (b .due) (b .at) (k .calls) r) where
     pub cause-1 : r ≡ Refused → 8 ≡ bringCause L t k b
-    cause-1 q = λ i. causeOf (sym (T-false mine (subst (CallsCome L t (b .due) (b .at) (k .calls)) q come)) i) others needed room wait-room
+    cause-1 q = λ i. causeOf (sym (T-false mine (subst (CallsCome L t (b .due) (b .at) (k .calls)) q come)) i) others here freed room wait-room
 
     module _ (n : ℕ) (q1 : r ≡ Granted n) where
       all-come : CallsCome L t (b .due) (b .at) (k .calls) (Granted n)
@@ -313,27 +312,31 @@ module _ (L : Layout) (t : Tables) (k : Contract) (b : Bring) where
       on-1 : true ≡ mine
       on-1 = sym (T-true mine (all-come .0))
 
-      pub cause-2 : (x : Bool) → x ≡ others → not x ≡ true → 8 ≡ bringCause L t k b
-      cause-2 x e q = λ i. causeOf (on-1 i) ((sym (not-true x q) ∙ e) i) needed room wait-room
+      -- the third, before the second tells
+      pub cause-3 : (x : Bool) → x ≡ others → not x ≡ true → 8 ≡ bringCause L t k b
+      cause-3 x e q = λ i. causeOf (on-1 i) ((sym (not-true x q) ∙ e) i) here freed room wait-room
 
-      module _ (x : Bool) (e2 : x ≡ others) (q2 : not x ≡ false) where
-        on-2 : true ≡ others
-        on-2 = sym (not-false x q2) ∙ e2
+      module _ (x : Bool) (e3 : x ≡ others) (q3 : not x ≡ false) where
+        on-3 : true ≡ others
+        on-3 = sym (not-false x q3) ∙ e3
 
-        pub cause-3 : (d : Bool) → d ≡ needed → not d ≡ true → 9 ≡ bringCause L t k b
-        cause-3 d e q = λ i. causeOf (on-1 i) (on-2 i) ((sym (not-true d q) ∙ e) i) room wait-room
+        pub cause-2 : (d : Bool) → d ≡ here → not d ≡ true → 9 ≡ bringCause L t k b
+        cause-2 d e q = λ i. causeOf (on-1 i) (on-3 i) ((sym (not-true d q) ∙ e) i) freed room wait-room
 
-        module _ (d : Bool) (e3 : d ≡ needed) (q3 : not d ≡ false) where
-          on-3 : true ≡ needed
-          on-3 = sym (not-false d q3) ∙ e3
+        module _ (d : Bool) (e2 : d ≡ here) (q2 : not d ≡ false) (z : ℕ) (ez : z ≡ inColumn L Needs t (b .at) (bit (b .dropped))) where
+          on-2 : true ≡ here
+          on-2 = sym (not-false d q2) ∙ e2
 
-          pub cause-rest : (m x : ℕ) → m ≡ inColumn L Calls t (b .at) (bit (b .dropped)) → x ≡ limitCause L t (b .calls) (b .grants) (n + m) (k .provides) (k .grants) → x ≡ bringCause L t k b
-          cause-rest m x e z = z ∙ (λ i. causeOf (on-1 i) (on-2 i) (on-3 i) (unmetFit L t (b .calls) (all-come .1 i + e i)) wait-room)
+          pub cause-freed : (z ≡ 0 → ⊥) → 9 ≡ bringCause L t k b
+          cause-freed q = λ i. causeOf (on-1 i) (on-3 i) (on-2 i) ((sym (ne-eqb z 0 q) ∙ ap (λ (v : ℕ). eqb v 0) ez) i) room wait-room
 
-pub ruleset checks = (present-is, served-is, waits-untold, waits-by, met-other, met-has, due-other, due-offered, grant-other, grant-seen, not-asking, asking-to, asking-of, may-wait, may-bit, drop-has, none-of, unnamed, named-so, needs)
+          pub cause-rest : z ≡ 0 → (m x : ℕ) → m ≡ inColumn L Calls t (b .at) (bit (b .dropped)) → x ≡ limitCause L t (b .calls) (b .grants) (n + m) (k .provides) (k .grants) → x ≡ bringCause L t k b
+          cause-rest q m x e l = l ∙ (λ i. causeOf (on-1 i) (on-3 i) (on-2 i) ((sym (eq-eqb z 0 q) ∙ ap (λ (v : ℕ). eqb v 0) ez) i) (unmetFit L t (b .calls) (all-come .1 i + e i)) wait-room)
+
+pub ruleset checks = (present-is, served-is, waits-untold, waits-by, met-other, met-has, due-other, due-offered, grant-other, grant-seen, not-asking, asking-to, asking-of, may-wait, may-bit, drop-has, unnamed, named-so, needs)
 
 pub ruleset tallies = (served-off, served-on, granted-off, granted-no, granted-on, place-in, tally-stop, tally-off, tally-on, tally-end, needs)
 
-pub ruleset causes = (cause-1, cause-2, cause-3, cause-rest, sound-laid, needs)
+pub ruleset causes = (cause-1, cause-2, cause-3, cause-freed, cause-rest, sound-laid, needs)
 
 pub ruleset limited = (limit-unmet, limit-none, limit-waiting, needs)

@@ -1,33 +1,31 @@
 -- Kinds 1 and 11, a contract that comes: what its short check asks, in the parts that the code decides.
 use Prim.Native.Nat.{ℕ, _+_, _-_}
-use mathlib.Core.Bool.{Bool, true, not, _&&_, _||_, cond}
+use mathlib.Core.Bool.{Bool, not, _&&_, _||_, cond}
 use mathlib.Core.Path.{_≡_}
 use mathlib.Core.List.{List}
 use mathlib.Core.Option.{none, some}
-use lib.Dec.{T, eqb, leb}
-use lib.Bits.{bitAnd, bitOr}
-use lib.ListN.{length}
-use Rattle.policy.specs.Lists.{implies, every, exists, isSome, orElse, upto}
-use Rattle.policy.specs.Contract.{Aid, eqAid, Tok, eqTok, Row, Contract, hasTok}
+use lib.Dec.{eqb, leb}
+use lib.Bits.{bitOr}
+use Rattle.policy.specs.Lists.{isSome}
+use Rattle.policy.specs.Contract.{Aid, eqAid, Tok, Row, Contract, hasTok}
 use Rattle.policy.specs.Layout.{Layout}
 use Rattle.policy.specs.Record.{Change, load, replace}
 use Rattle.policy.specs.Causes.{answer}
 use Rattle.policy.specs.Tables.{Tables, Waiting, bit, decode, encode}
-use Rattle.policy.specs.Lookup.{Place, places, numbers, numberOf, serviceOf, serverOf, freeNumber}
+use Rattle.policy.specs.Lookup.{numberOf, serviceOf, freeNumber}
 use Rattle.policy.specs.Draft.{Look, loadAt, replaceAt, droppedBy, installedAid}
-use Rattle.policy.specs.ShortCheck.{count, nowMet}
+use Rattle.policy.specs.ShortCheck.{count, newcomerRights, newcomerNeeds, nowMet, othersRights}
 use Rattle.policy.specs.Judge.{lookCauses, refusal}
 use Rattle.policy.specs.Settled.{settled}
 use Rattle.geometry.specs.declared.Kept.the-variants.{UnmetCalls, WaitingGrants}
 use Rattle.geometry.specs.declared.Table.the-variants.{Calls, Needs}
-use Rattle.image.specs.Read.{maskOf, unmetRow}
+use Rattle.image.specs.Read.{maskOf}
 use Rattle.changes.specs.Joins.{roomAfter}
 use Rattle.changes.specs.Left.{inColumn}
 use Rattle.changes.specs.Own.{served}
 use Rattle.packages.specs.declared.decide.Bring.{Bring}
 use Rattle.packages.specs.declared.decide.Decided.{Decided}
-use Rattle.packages.specs.declared.decide.Called.{Called}
-use Rattle.packages.specs.declared.decide.Called.the-variants.{Granted, Refused}
+use Rattle.packages.specs.Conditions.{ownGranted, needsServed, othersGranted}
 
 module _ (L : Layout) (t : Tables) where
   -- a grant that waits for the package a alone: its service is provided
@@ -37,43 +35,6 @@ module _ (L : Layout) (t : Tables) where
   -- a grant of a package with the services p is a bit: caller and service are both there
   abbrev pub bothThere : List Tok → Row → Bool
   bothThere p r = installedAid L t (r .aid) && hasTok (r .tok) p
-
-  -- ---- rights of the contract that comes to number n
-  -- one of the rows of the mask is a grant, by the package of the place, of its service with the tokens s; or a bit is
-  abbrev pub waitsAt : ℕ → Tok → Place → Bool
-  waitsAt due s p = not (eqb (bitAnd due (maskOf (λ w. eqb (w .callee) (p .callee) && eqTok (w .tok) s) (t .waiting))) 0)
-
-  abbrev pub grantedAt : ℕ → ℕ → Tok → Place → Bool
-  grantedAt due n s p = waitsAt due s p || t .grants (p .callee) n (p .service)
-
-  -- the call's server, if any, gives one of them
-  abbrev pub callGranted : ℕ → ℕ → Row → Bool
-  callGranted due n r = orElse (serverOf L t r) true (grantedAt due n (r .tok))
-
-  -- what the calls come to: one is not granted, or all are, and so many are not served
-  abbrev pub CallsCome : ℕ → ℕ → List Row → Called → Type 0
-  CallsCome due n calls (Granted unserved) =
-      (T (every (callGranted due n) calls)) × (unserved ≡ count (λ r. not (served L t r)) calls)
-  CallsCome due n calls Refused = T (every (callGranted due n) calls) → ⊥
-
-  -- ---- rights of the others
-  -- the grant g is of the tokens s, and to package i
-  abbrev pub grantFits : ℕ → Tok → Row → Bool
-  grantFits i s g = eqTok s (g .tok) && (t .used i && eqAid (t .aid i) (g .aid))
-
-  abbrev pub grantedTo : List Row → ℕ → Tok → Bool
-  grantedTo grants i s = exists (grantFits i s) grants
-
-  -- each unmet call of the mask has such a grant, and each call on a service of package n that is not dropped
-  abbrev pub othersGranted : List Row → ℕ → Bool
-  othersGranted grants met =
-      every (λ r. implies (bit met r) (grantedTo grants (unmetRow t r .caller) (unmetRow t r .tok))) (upto (length (t .unmet)))
-
-  abbrev pub rowGranted : List Row → ℕ → ℕ → (ℕ → Bool) → Bool
-  rowGranted grants n i calls = every (λ k. implies (calls k) (grantedTo grants i (t .tok n k))) (places L)
-
-  abbrev pub keptGranted : List Row → ℕ → ℕ → Bool
-  keptGranted grants n dropped = every (λ i. rowGranted grants n i (λ k. t .calls i n k && not (bit dropped k))) (numbers L)
 
   -- ---- the lists with room for the rows that go on them after those of the mask go: so many unmet calls, and the grants that wait
   abbrev pub unmetFit : ℕ → ℕ → Bool
@@ -86,13 +47,12 @@ module _ (L : Layout) (t : Tables) where
   abbrev pub limitCause : ℕ → ℕ → ℕ → List Tok → List Row → ℕ
   limitCause calls grants more p gs = cond (not (unmetFit calls more)) 10 (cond (not (waitingFit grants p gs)) 11 0)
 
-  -- causes 8 to 11 of the contract k, by what was found of it
+  -- causes 8 to 11 of the contract k, by what was found of it; kind 11 asks before whether what stays is granted (`keptGranted`)
   module _ (k : Contract) (b : Bring) where
     abbrev pub bringLook : Look
     bringLook = record {
-      granted = every (callGranted (b .due) (b .at)) (k .calls)
-          && (othersGranted (k .grants) (b .met) && keptGranted (k .grants) (b .at) (b .dropped));
-      needed = every (served L t) (k .needs) && eqb (inColumn L Needs t (b .at) (bit (b .dropped))) 0;
+      granted = ownGranted L t (b .due) (b .at) (k .calls) && othersGranted L t (k .grants) (b .met);
+      needed = needsServed L t (k .needs) && eqb (inColumn L Needs t (b .at) (bit (b .dropped))) 0;
       unmetFits = unmetFit (b .calls)
           (count (λ r. not (served L t r)) (k .calls) + inColumn L Calls t (b .at) (bit (b .dropped)));
       waitingFits = waitingFit (b .grants) (k .provides) (k .grants);
@@ -100,6 +60,12 @@ module _ (L : Layout) (t : Tables) where
 
     abbrev pub bringCause : ℕ
     bringCause = answer (lookCauses bringLook)
+
+    -- where k is a newcomer's, what the code works is the report's three conditions, as policy's short check has them
+    pub record WorksConditions : Type 0 where
+      pub first : ownGranted L t (b .due) (b .at) (k .calls) ≡ newcomerRights L t k
+      pub second : needsServed L t (k .needs) ≡ newcomerNeeds L t k
+      pub third : othersGranted L t (k .grants) (b .met) ≡ othersRights L t k
 
 -- ---- what is found of a contract k that comes to number n
 module _ (L : Layout) (t : Tables) (k : Contract) (n : ℕ) where

@@ -1,3 +1,4 @@
+pub mod Conditions
 pub mod Decides
 pub mod Writes
 pub mod Removal

@@ -1,33 +1,27 @@
 // Kinds 1 and 11: whether a contract may come, to a free number or in place of the one that its package has.
 ghost use mathlib.Core.Path.{_≡_};
 ghost use mathlib.Core.Bool.{not, _&&_};
-ghost use Prim.Native.Nat.{ℕ, _+_, _≤_, _<_};
-ghost use lib.Dec.{T, eqb, leb};
+ghost use Prim.Native.Nat.{ℕ, _≤_, _<_};
+ghost use lib.Dec.{T, leb};
 ghost use lib.ListN.{length};
-ghost use Rattle.policy.specs.Lists.{implies, every};
 ghost use Rattle.policy.specs.Contract.{Aid as Bytes, hasTok};
 ghost use Rattle.policy.specs.Record.{tokens, aRow};
 ghost use Rattle.policy.specs.Sound.{sound};
 ghost use Rattle.policy.specs.Tables.{bit};
 ghost use Rattle.policy.specs.Draft.{installedAid};
 ghost use Rattle.policy.specs.ShortCheck.{count, nowMet};
-ghost use Rattle.geometry.specs.Geometry.{layoutOf, tokOf, tablesOf};
-ghost use Rattle.geometry.specs.declared.Table.the-variants.{Needs};
+ghost use Rattle.geometry.specs.Geometry.{layoutOf, tablesOf};
 ghost use Rattle.image.specs.Laid.{Laid};
 ghost use Rattle.image.specs.Read.{maskOf, unmetRow, waitingRow};
 ghost use Rattle.record.specs.Meaning.{AidFits, Stands, ListsStand, aidIn, rowIn, itemsIn, loadIn, replaceIn, contractIn};
 ghost use Rattle.changes.specs.Asked.{Asked};
 ghost use Rattle.changes.specs.Joins.{GivenIn};
 ghost use Rattle.changes.specs.Left.{inColumn};
-ghost use Rattle.changes.specs.Own.{served};
-ghost use Rattle.packages.specs.Decides.{comesDue, bothThere, grantedAt, CallsCome, grantFits, grantedTo, othersGranted, rowGranted};
-ghost use Rattle.packages.specs.Decides.{keptGranted, limitCause, bringCause, Newcomes, Replaces};
-ghost use Rattle.packages.specs.Decides.{Loads, Renews, Decides};
+ghost use Rattle.packages.specs.Decides.{comesDue, bothThere, limitCause, bringCause, Newcomes, Replaces, Loads, Renews, Decides};
+use crate::conditions::Called;
 use geometry::Card;
 use geometry::Kept;
 use geometry::Table;
-use geometry::Tokens;
-use image::read::Place;
 use record::Aid;
 use record::Items;
 use record::Lists;
@@ -50,23 +44,6 @@ pub struct Decided {
     pub bring: Bring,
 }
 
-// What the calls of a contract come to: one is not granted, or so many are on services that are not on the card.
-pub enum Called {
-    Granted { unserved: usize },
-    Refused,
-}
-
-// The service of a row of the record is on the card.
-fn is_served(img: &[u8], c: Card, rec: &[u8], r: Row) -> bool
-    requires laid { ⌜ Laid (layoutOf c) (now img) ⌝ }
-    requires fits { ⌜ AidFits (now rec) (r .other) ⌝ }
-    ensures { λ b. ⌜ b ≡ served (layoutOf c) (tablesOf c (now (img .entry))) (rowIn (now (rec .entry)) r) ⌝ }
-{
-    let n = geometry::packages(c);
-    let p = changes::find::server(img, c, rec, r);
-    p.callee < n
-}
-
 // A package with an AID of the record is on the card.
 fn is_present(img: &[u8], c: Card, rec: &[u8], a: Aid) -> bool
     requires laid { ⌜ Laid (layoutOf c) (now img) ⌝ }
@@ -76,64 +53,6 @@ fn is_present(img: &[u8], c: Card, rec: &[u8], a: Aid) -> bool
     let n = geometry::packages(c);
     let i = changes::find::find_caller(img, c, rec, a);
     i < n
-}
-
-// Package n may call the service with these tokens, whose place this is: a grant of it is due, or a bit.
-fn may_call(img: &[u8], c: Card, n: usize, due: u32, p: Place, t: Tokens) -> bool
-    requires laid { ⌜ Laid (layoutOf c) (now img) ⌝ }
-    requires inside { ⌜ (n < layoutOf c .packages) × (p .callee < layoutOf c .packages) × (p .service < layoutOf c .services) ⌝ }
-    ensures { λ b. ⌜ b ≡ grantedAt (layoutOf c) (tablesOf c (now (img .entry))) due n (tokOf t)
-        (record { callee = p .callee; service = p .service }) ⌝ }
-{
-    let m = image::lists::with_service(img, c, Kept::WaitingGrants, p.callee, t);
-    if due & m != 0 {
-        return true;
-    }
-    let row = image::read::entry(img, c, Table::Grants, p.callee, n);
-    bits::has_bit(row, p.service)
-}
-
-// Whether each call of the record is granted to package n by its server, if there is one; and how many have none.
-fn calls_granted(img: &[u8], c: Card, n: usize, due: u32, rec: &[u8], calls: Items) -> Called
-    requires laid { ⌜ Laid (layoutOf c) (now img) ⌝ }
-    requires inside { ⌜ n < layoutOf c .packages ⌝ }
-    requires stands { ⌜ Stands aRow (now rec) calls ⌝ }
-    ensures { λ r. ⌜ CallsCome (layoutOf c) (tablesOf c (now (img .entry))) due n (itemsIn aRow (now (rec .entry)) calls) r ⌝ }
-{
-    let size = geometry::packages(c);
-    let mut todo = calls;
-    let mut unserved: usize = 0;
-    while 0 < todo.count {
-        let r = record::steps::take_row(rec, todo);
-        todo = r.rest;
-        let p = changes::find::server(img, c, rec, r.row);
-        if p.callee >= size {
-            unserved += 1;
-            continue;
-        }
-        if !may_call(img, c, n, due, p, r.row.tokens) {
-            return Called::Refused;
-        }
-    }
-    Called::Granted { unserved }
-}
-
-// Each need of the record is on the card.
-fn needs_served(img: &[u8], c: Card, rec: &[u8], needs: Items) -> bool
-    requires laid { ⌜ Laid (layoutOf c) (now img) ⌝ }
-    requires stands { ⌜ Stands aRow (now rec) needs ⌝ }
-    ensures { λ b. ⌜ b ≡ every (served (layoutOf c) (tablesOf c (now (img .entry)))) (itemsIn aRow (now (rec .entry)) needs) ⌝ }
-{
-    let mut todo = needs;
-    while 0 < todo.count {
-        let r = record::steps::take_row(rec, todo);
-        if is_served(img, c, rec, r.row) {
-            todo = r.rest;
-        } else {
-            return false;
-        }
-    }
-    true
 }
 
 // A grant of the record waits: its caller is not on the card, or its service is none of the record's.
@@ -237,168 +156,6 @@ fn due_rows(img: &[u8], c: Card, aid: &[u8]) -> u32
     mask
 }
 
-// A grant of the record is of these tokens, and to package i.
-fn grant_fits(img: &[u8], c: Card, i: usize, t: Tokens, rec: &[u8], g: Row) -> bool
-    requires laid { ⌜ Laid (layoutOf c) (now img) ⌝ }
-    requires inside { ⌜ i < layoutOf c .packages ⌝ }
-    requires fits { ⌜ AidFits (now rec) (g .other) ⌝ }
-    ensures { λ b. ⌜ b ≡ grantFits (layoutOf c) (tablesOf c (now (img .entry))) i (tokOf t) (rowIn (now (rec .entry)) g) ⌝ }
-{
-    if !record::same::same_tokens(t, g.tokens) {
-        return false;
-    }
-    let other = record::aid_bytes(rec, g.other);
-    image::read::is_package(img, c, i, other)
-}
-
-// The record grants the service with these tokens to package i.
-fn granted_to(img: &[u8], c: Card, i: usize, t: Tokens, rec: &[u8], grants: Items) -> bool
-    requires laid { ⌜ Laid (layoutOf c) (now img) ⌝ }
-    requires inside { ⌜ i < layoutOf c .packages ⌝ }
-    requires stands { ⌜ Stands aRow (now rec) grants ⌝ }
-    ensures { λ b. ⌜ b ≡ grantedTo (layoutOf c) (tablesOf c (now (img .entry))) (itemsIn aRow (now (rec .entry)) grants) i (tokOf t) ⌝ }
-{
-    let mut todo = grants;
-    while 0 < todo.count {
-        let s = record::steps::take_row(rec, todo);
-        if grant_fits(img, c, i, t, rec, s.row) {
-            return true;
-        }
-        todo = s.rest;
-    }
-    false
-}
-
-// Unmet call r is granted by the record, where the mask names it.
-fn named_granted(img: &[u8], c: Card, r: usize, rec: &[u8], grants: Items, met: u32) -> bool
-    requires laid { ⌜ Laid (layoutOf c) (now img) ⌝ }
-    requires inside { ⌜ r < length (tablesOf c (now img) .unmet) ⌝ }
-    requires caller { ⌜ unmetRow (tablesOf c (now img)) r .caller < layoutOf c .packages ⌝ }
-    requires stands { ⌜ Stands aRow (now rec) grants ⌝ }
-    ensures { λ b. ⌜ b ≡ implies (bit met r) (grantedTo (layoutOf c) (tablesOf c (now (img .entry)))
-        (itemsIn aRow (now (rec .entry)) grants)
-        (unmetRow (tablesOf c (now (img .entry))) r .caller) (unmetRow (tablesOf c (now (img .entry))) r .tok)) ⌝ }
-{
-    if !changes::find::has_row(met, r) {
-        return true;
-    }
-    let i = image::lists::number(img, c, Kept::UnmetCalls, r);
-    let t = image::lists::tokens(img, c, Kept::UnmetCalls, r);
-    granted_to(img, c, i, t, rec, grants)
-}
-
-// Each unmet call of the mask is granted by the record.
-fn others_granted(img: &[u8], c: Card, rec: &[u8], grants: Items, met: u32) -> bool
-    requires sound { ⌜ T (sound (layoutOf c) (now img)) ⌝ }
-    requires stands { ⌜ Stands aRow (now rec) grants ⌝ }
-    ensures { λ b. ⌜ b ≡ othersGranted (layoutOf c) (tablesOf c (now (img .entry))) (itemsIn aRow (now (rec .entry)) grants) met ⌝ }
-{
-    let n = image::lists::count(img, c, Kept::UnmetCalls);
-    for r in 0..n {
-        if !named_granted(img, c, r, rec, grants, met) {
-            return false;
-        }
-    }
-    true
-}
-
-// Service k of package n is granted by the record to package i, where the row has it.
-fn service_granted(
-    img: &[u8],
-    c: Card,
-    n: usize,
-    i: usize,
-    k: usize,
-    row: u16,
-    rec: &[u8],
-    grants: Items,
-) -> bool
-    requires laid { ⌜ Laid (layoutOf c) (now img) ⌝ }
-    requires inside { ⌜ (n < layoutOf c .packages) × (i < layoutOf c .packages) × (k < layoutOf c .services) ⌝ }
-    requires stands { ⌜ Stands aRow (now rec) grants ⌝ }
-    ensures { λ b. ⌜ b ≡ implies (bit row k) (grantedTo (layoutOf c) (tablesOf c (now (img .entry)))
-        (itemsIn aRow (now (rec .entry)) grants) i (tablesOf c (now (img .entry)) .tok n k)) ⌝ }
-{
-    if !bits::has_bit(row, k) {
-        return true;
-    }
-    let t = image::read::tokens_at(img, c, n, k);
-    granted_to(img, c, i, t, rec, grants)
-}
-
-// Each service of package n that the row has is granted by the record to package i.
-fn row_granted(img: &[u8], c: Card, n: usize, i: usize, row: u16, rec: &[u8], grants: Items) -> bool
-    requires laid { ⌜ Laid (layoutOf c) (now img) ⌝ }
-    requires inside { ⌜ (n < layoutOf c .packages) × (i < layoutOf c .packages) ⌝ }
-    requires stands { ⌜ Stands aRow (now rec) grants ⌝ }
-    ensures { λ b. ⌜ b ≡ rowGranted (layoutOf c) (tablesOf c (now (img .entry))) (itemsIn aRow (now (rec .entry)) grants) n i (bit row) ⌝ }
-{
-    let size = geometry::services(c);
-    for k in 0..size {
-        if !service_granted(img, c, n, i, k, row, rec, grants) {
-            return false;
-        }
-    }
-    true
-}
-
-// The services of package n that package i calls and that stay are granted to it by the record.
-fn caller_granted(
-    img: &[u8],
-    c: Card,
-    n: usize,
-    i: usize,
-    dropped: u16,
-    rec: &[u8],
-    grants: Items,
-) -> bool
-    requires laid { ⌜ Laid (layoutOf c) (now img) ⌝ }
-    requires inside { ⌜ (n < layoutOf c .packages) × (i < layoutOf c .packages) ⌝ }
-    requires stands { ⌜ Stands aRow (now rec) grants ⌝ }
-    ensures { λ b. ⌜ b ≡ rowGranted (layoutOf c) (tablesOf c (now (img .entry))) (itemsIn aRow (now (rec .entry)) grants) n i
-        (λ k. tablesOf c (now (img .entry)) .calls i n k && not (bit dropped k)) ⌝ }
-{
-    let row = image::read::entry(img, c, Table::Calls, i, n);
-    let kept = bits::others(row, dropped);
-    if kept == 0 {
-        return true;
-    }
-    row_granted(img, c, n, i, kept, rec, grants)
-}
-
-// Each call on a service of package n that stays is granted by the record.
-fn kept_granted(img: &[u8], c: Card, n: usize, dropped: u16, rec: &[u8], grants: Items) -> bool
-    requires sound { ⌜ T (sound (layoutOf c) (now img)) ⌝ }
-    requires inside { ⌜ n < layoutOf c .packages ⌝ }
-    requires stands { ⌜ Stands aRow (now rec) grants ⌝ }
-    ensures { λ b. ⌜ b ≡ keptGranted (layoutOf c) (tablesOf c (now (img .entry))) (itemsIn aRow (now (rec .entry)) grants) n dropped ⌝ }
-{
-    if image::read::provided_row(img, c, n) == 0 {
-        return true;
-    }
-    let size = geometry::packages(c);
-    for i in 0..size {
-        if !caller_granted(img, c, n, i, dropped, rec, grants) {
-            return false;
-        }
-    }
-    true
-}
-
-// The calls of the others on services of package n that it keeps or brings are granted by the record.
-fn callers_granted(img: &[u8], c: Card, rec: &[u8], grants: Items, b: Bring) -> bool
-    requires sound { ⌜ T (sound (layoutOf c) (now img)) ⌝ }
-    requires inside { ⌜ b .at < layoutOf c .packages ⌝ }
-    requires stands { ⌜ Stands aRow (now rec) grants ⌝ }
-    ensures { λ r. ⌜ r ≡ othersGranted (layoutOf c) (tablesOf c (now (img .entry))) (itemsIn aRow (now (rec .entry)) grants) (b .met)
-        && keptGranted (layoutOf c) (tablesOf c (now (img .entry))) (itemsIn aRow (now (rec .entry)) grants) (b .at) (b .dropped) ⌝ }
-{
-    if !others_granted(img, c, rec, grants, b.met) {
-        return false;
-    }
-    kept_granted(img, c, b.at, b.dropped, rec, grants)
-}
-
 // How many bits of the services d column n of a table has, where d may name none.
 fn bits_on(img: &[u8], c: Card, tb: Table, n: usize, d: u16) -> usize
     requires laid { ⌜ Laid (layoutOf c) (now img) ⌝ }
@@ -409,20 +166,6 @@ fn bits_on(img: &[u8], c: Card, tb: Table, n: usize, d: u16) -> usize
         return 0;
     }
     changes::left::column(img, c, tb, n, d)
-}
-
-// The needs of the record are on the card, and no need is on a service that is dropped.
-fn needs_met(img: &[u8], c: Card, rec: &[u8], needs: Items, b: Bring) -> bool
-    requires laid { ⌜ Laid (layoutOf c) (now img) ⌝ }
-    requires inside { ⌜ b .at < layoutOf c .packages ⌝ }
-    requires stands { ⌜ Stands aRow (now rec) needs ⌝ }
-    ensures { λ r. ⌜ r ≡ every (served (layoutOf c) (tablesOf c (now (img .entry)))) (itemsIn aRow (now (rec .entry)) needs)
-        && eqb (inColumn (layoutOf c) Needs (tablesOf c (now (img .entry))) (b .at) (bit (b .dropped))) 0 ⌝ }
-{
-    if !needs_served(img, c, rec, needs) {
-        return false;
-    }
-    bits_on(img, c, Table::Needs, b.at, b.dropped) == 0
 }
 
 // Cause 10 or 11, for so many more unmet calls; 0 where both lists have room.
@@ -442,20 +185,26 @@ fn limits(img: &[u8], c: Card, rec: &[u8], l: Lists, more: usize, b: Bring) -> u
     11
 }
 
-// The cause from 8 to 11 against the lists of the record; 0 where there is none.
+// The cause from 8 to 11 against the lists of the record; 0 where there is none. The report's three conditions come in its order, then the
+// needs of others on services that kind 11 drops, then the limits. 8 stands before 9: the third is worked where the second has failed, too.
 fn cause(img: &[u8], c: Card, rec: &[u8], l: Lists, b: Bring) -> u8
     requires sound { ⌜ T (sound (layoutOf c) (now img)) ⌝ }
     requires inside { ⌜ b .at < layoutOf c .packages ⌝ }
     requires stands { ⌜ ListsStand (now rec) l ⌝ }
     ensures { λ r. ⌜ ((a : Bytes) → r ≡ bringCause (layoutOf c) (tablesOf c (now (img .entry))) (contractIn (now (rec .entry)) a l) b) ⌝ }
 {
-    let Called::Granted { unserved } = calls_granted(img, c, b.at, b.due, rec, l.calls) else {
+    let rights = crate::conditions::newcomer_rights(img, c, b.at, b.due, rec, l.calls);
+    let Called::Granted { unserved } = rights else {
         return 8;
     };
-    if !callers_granted(img, c, rec, l.grants, b) {
+    let needs = crate::conditions::newcomer_needs(img, c, rec, l.needs);
+    if !crate::conditions::others_rights(img, c, rec, l.grants, b.met) {
         return 8;
     }
-    if !needs_met(img, c, rec, l.needs, b) {
+    if !needs {
+        return 9;
+    }
+    if bits_on(img, c, Table::Needs, b.at, b.dropped) != 0 {
         return 9;
     }
     let left = bits_on(img, c, Table::Calls, b.at, b.dropped);
@@ -543,7 +292,7 @@ fn renewal(img: &[u8], c: Card, aid: &[u8], rec: &[u8], l: Lists, n: usize) -> B
     }
 }
 
-// A refusal for a cause before 8.
+// A refusal before what was found of the contract matters.
 fn refused(number: u8) -> Decided
     ensures { λ r. ⌜ r .number ≡ number ⌝ }
 {
@@ -594,6 +343,9 @@ pub fn replace(img: &[u8], c: Card, aid: &[u8], rec: &[u8], l: Lists) -> Decided
         return refused(5);
     }
     let bring = renewal(img, c, aid, rec, l, n);
+    if !crate::conditions::kept_rights(img, c, n, bring.dropped, rec, l.grants) {
+        return refused(8);
+    }
     let number = cause(img, c, rec, l, bring);
     Decided { number, bring }
 }

@@ -8,6 +8,7 @@ use geometry::Card;
 use record::ContractKind;
 use record::Lists;
 
+pub mod conditions;
 pub mod decide;
 pub mod removal;
 pub mod write;

@@ -3,7 +3,7 @@ use Prim.Native.Nat.{ℕ, suc, _+_, _-_, _≤_, _<_, suc-le-suc}
 use native.Mathlib.Omega.{arith}
 use native.Mathlib.Nat.{add-zero, add-suc, suc-add, zero-add}
 use mathlib.Core.Path.{_≡_, refl, sym, ap, ap₂, _∙_, subst}
-use mathlib.Core.Bool.{Bool, true, false, not, _&&_, _||_, and-comm, and-true, or-comm}
+use mathlib.Core.Bool.{Bool, true, false, not, _&&_, _||_, and-comm, and-true, and-false, or-comm}
 use mathlib.Core.List.{List, [], _∷_}
 use mathlib.Core.List.{List·Memᴰ as In}
 use mathlib.Core.Option.{Option, none, some}
@@ -14,18 +14,20 @@ use borrow.Author.Tests.{eq-eqb, ne-eqb, leb-true, leb-false, le-leb, lt-leb}
 use Rattle.policy.specs.Lists.{implies, every, exists, keep, from, upto, isSome, orElse}
 use Rattle.policy.specs.Contract.{eqAid, eqTok, Row, Contract, hasRow}
 use Rattle.policy.specs.Layout.{Layout}
+use Rattle.policy.specs.Causes.{answer}
 use Rattle.policy.specs.Tables.{Tables, Unmet, Waiting, noTok, bit}
 use Rattle.policy.specs.Lookup.{Place, places, numbers, serviceOf, serverOf}
 use Rattle.policy.specs.Sound.{eqWaiting}
 use Rattle.policy.specs.Draft.{hasWaiting, droppedBy}
-use Rattle.policy.specs.ShortCheck.{count, sum, newcomerRights, newcomerNeeds, othersRights, shortLoad, keptRights, othersNeeds, shortReplace, nowMet}
+use Rattle.policy.specs.Judge.{lookCauses}
+use Rattle.policy.specs.ShortCheck.{count, sum, newcomerNeeds, othersRights, shortLoad, ownRights, keptRights, othersNeeds, shortReplace, nowMet}
 use Rattle.policy.proofs.Sets.{T-eq, T-true, T-false, true-T, false-T, and-l, and-r, and-i, not-i, in-every, in-row, keep-in, keep-ext, no-members}
 use Rattle.policy.proofs.Equal.{eqAid→, eqAid-of, eqTok→, eqTok-of, eqb-of}
 use Rattle.policy.proofs.Formed.{Formed, Fitting}
 use Rattle.policy.proofs.Found.{ServerIs, provided-found, server-is}
 use Rattle.policy.proofs.Short.{none-pairs}
 use Rattle.policy.proofs.KindReplace.{or-never, none-waited}
-use Rattle.policy.proofs.ShortBrought.{newcomer-rights, nothing-kept, own-rights}
+use Rattle.policy.proofs.ShortBrought.{newcomer-rights, own-rights}
 use Rattle.geometry.specs.declared.Kept.the-variants.{UnmetCalls}
 use Rattle.geometry.specs.declared.Table.{Table}
 use Rattle.geometry.specs.declared.Table.the-variants.{Calls, Needs}
@@ -35,7 +37,8 @@ use Rattle.image.proofs.Masks.{mask-bit, mask-zero, zero-mask, mask-and, mask-c
 use Rattle.changes.specs.Left.{inColumn}
 use Rattle.changes.specs.Own.{served}
 use Rattle.bits.proofs.Gathered.{count-others}
-use Rattle.packages.specs.Decides.{bothThere, comesDue, waitsAt, grantedAt, callGranted, grantedTo, othersGranted, keptGranted, bringLook, Comes}
+use Rattle.packages.specs.Conditions.{waitsAt, grantedAt, ownGranted, grantedTo, othersGranted, keptGranted}
+use Rattle.packages.specs.Decides.{bothThere, comesDue, bringLook, WorksConditions, Comes}
 use Rattle.packages.specs.declared.decide.Bring.{Bring}
 
 -- ---- a list by the numbers of its elements
@@ -128,9 +131,9 @@ module _ (L : Layout) (t : Tables) (f : Formed L t) (fit : Fitting L t) (low : L
   abbrev right : Row → Place → Bool
   right r p = t .grants (p .callee) n (p .service) || hasWaiting (toIt p r) (t .waiting)
 
-  rights-same : every (callGranted L t (b .due) (b .at)) (c .calls) ≡ every (λ r. orElse (serverOf L t r) true (right r)) (c .calls)
+  rights-same : ownGranted L t (b .due) (b .at) (c .calls) ≡ every (λ r. orElse (serverOf L t r) true (right r)) (c .calls)
   rights-same =
-      ap₂ (λ (d m : ℕ). every (callGranted L t d m) (c .calls)) (is .due-is) (is .at-is)
+      ap₂ (λ (d m : ℕ). ownGranted L t d m (c .calls)) (is .due-is) (is .at-is)
       ∙ ap (λ (g : Row → Bool). every g (c .calls)) (λ i r. one r (serverOf L t r) (server-is L t (f .names) r) i)
     where
       one : (r : Row) (o : Option Place) → ServerIs t r o → orElse o true (grantedAt L t due n (r .tok)) ≡ orElse o true (right r)
@@ -164,10 +167,8 @@ module _ (L : Layout) (t : Tables) (f : Formed L t) (fit : Fitting L t) (low : L
   kept-test true d g e = ap not (e tt)
   kept-test false d g e = refl
 
-  kept-same : keptGranted L t (c .grants) (b .at) (b .dropped) ≡ keptRights L t n c
-  kept-same =
-      ap (λ (m : ℕ). keptGranted L t (c .grants) m (b .dropped)) (is .at-is)
-      ∙ (λ i. every (λ x. every (λ z. one x z i) (places L)) (numbers L))
+  kept-same : keptGranted L t (c .grants) n (b .dropped) ≡ keptRights L t n c
+  kept-same = λ i. every (λ x. every (λ z. one x z i) (places L)) (numbers L)
     where
       one : (x z : ℕ) → implies (t .calls x n z && not (bit (b .dropped) z)) (grantedTo L t (c .grants) x (t .tok n z))
           ≡ implies (t .calls x n z && not (droppedBy L t c n z)) (hasRow (record { aid = t .aid x; tok = t .tok n z }) (c .grants))
@@ -228,9 +229,13 @@ module _ (L : Layout) (t : Tables) (f : Formed L t) (fit : Fitting L t) (low : L
     none-left (x ∷ l) = ap₂ _+_ (ap length (no-members (keep (λ z. t .calls x n z && droppedBy L t c n z) (places L))
         (λ z m. no-service z (f .calls .of-prov x n z (and-l (t .calls x n z) (droppedBy L t c n z) (keep-in (λ z. t .calls x n z && droppedBy L t c n z) (places L) m .1)))))) (none-left l)
 
+    -- R-3: the three conditions
+    pub works-conditions : WorksConditions L t c b
+    works-conditions = record { first = rights-same ∙ newcomer-rights L t n c f free; second = refl; third = others-same }
+
     pub load-look : bringLook L t c b ≡ shortLoad L t c
     load-look = λ i. record {
-      granted = ((λ j. (rights-same ∙ newcomer-rights L t n c f free) j && (others-same j && (kept-same ∙ nothing-kept L t n c f free) j)) ∙ ap (λ (g : Bool). newcomerRights L t c && g) (and-true (othersRights L t c))) i;
+      granted = works-conditions .first i && works-conditions .third i;
       needed = (ap (λ (g : Bool). newcomerNeeds L t c && g) (needs-same ∙ none-needed) ∙ and-true (newcomerNeeds L t c)) i;
       unmetFits = (unmet-room (unserved + inColumn L Calls t (b .at) (bit (b .dropped)))
           ∙ ap₂ (λ (l : List Unmet) (m : ℕ). leb (length l + m) (L .capacity))
@@ -242,9 +247,19 @@ module _ (L : Layout) (t : Tables) (f : Formed L t) (fit : Fitting L t) (low : L
 
   -- ---- kind 11: the number is the package's
   module _ (un : T (t .used n)) (an : t .aid n ≡ c .aid) where
-    pub replace-look : bringLook L t c b ≡ shortReplace L t n c
-    replace-look = λ i. record {
-      granted = (rights-same ∙ own-rights L t n c f un an) i && (others-same i && kept-same i);
+    -- what stays is not granted
+    pub replace-stays : keptGranted L t (c .grants) n (b .dropped) ≡ false → 8 ≡ answer (lookCauses (shortReplace L t n c))
+    replace-stays e = λ i. answer (lookCauses (record {
+      granted = sym (ap (λ (g : Bool). ownRights L t n c && (othersRights L t c && g)) (sym kept-same ∙ e) ∙ ap (λ (g : Bool). ownRights L t n c && g) (and-false (othersRights L t c)) ∙ and-false (ownRights L t n c)) i;
+      needed = shortReplace L t n c .needed;
+      unmetFits = shortReplace L t n c .unmetFits;
+      waitingFits = shortReplace L t n c .waitingFits;
+    }))
+
+    -- and where it is, what the three conditions, the needs of others and the limits say
+    pub replace-look : keptGranted L t (c .grants) n (b .dropped) ≡ true → bringLook L t c b ≡ shortReplace L t n c
+    replace-look e = λ i. record {
+      granted = ((λ j. (rights-same ∙ own-rights L t n c f un an) j && others-same j) ∙ ap (λ (g : Bool). ownRights L t n c && g) (sym (and-true (othersRights L t c)) ∙ ap (λ (g : Bool). othersRights L t c && g) (sym e ∙ kept-same))) i;
       needed = newcomerNeeds L t c && needs-same i;
       unmetFits = (unmet-room (unserved + inColumn L Calls t (b .at) (bit (b .dropped)))
           ∙ ap (λ (m : ℕ). leb (count (λ u. not (eqb (u .caller) n || nowMet L t c u)) (t .unmet) + (unserved + m)) (L .capacity)) calls-left) i;

@@ -4,7 +4,7 @@ use mathlib.Core.Path.{refl}
 use borrow.Author.Needs.{needs}
 use Rattle.geometry.proofs.Bounds.{limits}
 use Rattle.image.proofs.Laid.{sound-laid}
-use Rattle.packages.proofs.Replaced.Decided.{decides-5, decides-late}
+use Rattle.packages.proofs.Replaced.Decided.{decides-5, decides-8, decides-late}
 use Rattle.packages.proofs.decide.replace.Statement.{statement}
 use Rattle.packages.proofs.decide.replace.Tie as tie
 
@@ -20,19 +20,36 @@ renewal-requires c κs =
     let s = f .before .before .before .before .before in
     (sound-laid _ (s .pre .0 .is-sound), (omega (arith, c .if1 .left, f .before .packages .ensures), s .pre .1))
 
-cause-requires : tie.Need-cause-requires
-cause-requires c κs =
+kept-rights-requires : tie.Need-kept-rights-requires
+kept-rights-requires c κs =
     let f = c .before .before in
     let s = f .before .before .before .before .before in
-    (s .pre .0 .is-sound, (omega (arith, c .renewal .ensures .at-is, c .before .if1 .left, f .before .packages .ensures), s .pre .1))
+    (s .pre .0 .is-sound, (omega (arith, c .before .if1 .left, f .before .packages .ensures), s .pre .1 .2))
 
 returns-2 : tie.Need-returns-2
 returns-2 c =
-    let new = c .before in
+    let k = c .before .before in
+    let new = k .before in
     let f = new .before .before in
     let s = f .before .before .before .before .before in
-    decides-late _ _ _ (s .pre .0) _ _ (f .before .packages .ensures) (f .find-package .ensures) _ (limits (s .args .c) .capacity-low) (new .before .if1 .left)
-    _ (new .renewal .ensures) refl (c .cause .ensures (s .args .aid .now))
+    decides-8 _ _ _ (s .pre .0) _ _ (f .before .packages .ensures) (f .find-package .ensures) _ (new .before .if1 .left) _ (new .renewal .ensures) _ (k .kept-rights .ensures) (limits (s .args .c) .capacity-low)
+    (c .before .if2 .taken) (c .refused2 .ensures)
+
+cause-requires : tie.Need-cause-requires
+cause-requires c κs =
+    let new = c .before .before in
+    let f = new .before .before in
+    let s = f .before .before .before .before .before in
+    (s .pre .0 .is-sound, (omega (arith, new .renewal .ensures .at-is, new .before .if1 .left, f .before .packages .ensures), s .pre .1))
+
+returns-3 : tie.Need-returns-3
+returns-3 c =
+    let k = c .before .before in
+    let new = k .before in
+    let f = new .before .before in
+    let s = f .before .before .before .before .before in
+    decides-late _ _ _ (s .pre .0) _ _ (f .before .packages .ensures) (f .find-package .ensures) _ (new .before .if1 .left) _ (new .renewal .ensures) _ (k .kept-rights .ensures) (limits (s .args .c) .capacity-low)
+    (c .before .if2 .left) refl (c .cause .ensures (s .args .aid .now))
 
 pub replace-spec : {M : Type 1} → statement M
 replace-spec =
@@ -43,5 +60,8 @@ replace-spec =
     (λ c κs. search needs)
     returns
     renewal-requires
+    kept-rights-requires
+    (λ c κs. search needs)
+    returns-2
     cause-requires
-    returns-2)
+    returns-3)

@@ -1,9 +1,9 @@
--- `packages::decide::may_call` meets its contract. Assumes nothing.
+-- `packages::conditions::may_call` meets its contract. Assumes nothing.
 use native.Mathlib.Omega.{arith}
 use Rattle.geometry.proofs.Bounds.{limits}
 use Rattle.packages.proofs.Checks.{checks}
-use Rattle.packages.proofs.decide.may_call.Statement.{statement}
-use Rattle.packages.proofs.decide.may_call.Tie as tie
+use Rattle.packages.proofs.conditions.may_call.Statement.{statement}
+use Rattle.packages.proofs.conditions.may_call.Tie as tie
 
 has-bit-requires : tie.Need-has-bit-requires
 has-bit-requires c κs = let s = c .before .before .before .before in omega (arith, limits (s .args .c) .services-low, s .pre .1 .2)

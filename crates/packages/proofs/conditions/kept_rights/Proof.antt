@@ -1,4 +1,4 @@
--- `packages::decide::kept_granted` meets its contract. Assumes nothing.
+-- `packages::conditions::kept_rights` meets its contract. Assumes nothing.
 use Prim.Native.Nat.{_-_, _≤_}
 use native.Mathlib.Omega.{arith}
 use mathlib.Core.Path.{_≡_}
@@ -11,10 +11,10 @@ use Rattle.geometry.specs.Geometry.{layoutOf}
 use Rattle.bits.proofs.Loops.{early}
 use Rattle.image.proofs.Laid.{sound-laid}
 use Rattle.record.specs.Meaning.{itemsIn}
-use Rattle.packages.specs.Decides.{rowGranted}
+use Rattle.packages.specs.Conditions.{rowGranted}
 use Rattle.packages.proofs.Checks.{none-called}
-use Rattle.packages.proofs.decide.kept_granted.Statement.{statement}
-use Rattle.packages.proofs.decide.kept_granted.Tie as tie
+use Rattle.packages.proofs.conditions.kept_rights.Statement.{statement}
+use Rattle.packages.proofs.conditions.kept_rights.Tie as tie
 
 abbrev Inv-loop : tie.InvT-loop
 Inv-loop img c n dropped rec grants size i₀ i =
@@ -39,8 +39,8 @@ caller-granted-requires c κs =
     let s = v .before .before .before .before .before in
     (sound-laid _ (s .pre .0), ((s .pre .1 .0, omega (arith, c .loop-test .taken, v .packages .ensures)), s .pre .1 .1))
 
-pub kept-granted-spec : {M : Type 1} → statement M
-kept-granted-spec =
+pub kept-rights-spec : {M : Type 1} → statement M
+kept-rights-spec =
     tie.close
     (tie.spec
     Inv-loop

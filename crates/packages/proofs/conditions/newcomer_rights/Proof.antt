@@ -1,4 +1,4 @@
--- `packages::decide::calls_granted` meets its contract. Assumes nothing.
+-- `packages::conditions::newcomer_rights` meets its contract. Assumes nothing.
 use native.Mathlib.Omega.{arith}
 use mir.Syntax.{w64}
 use mir.Val.{Fits}
@@ -6,8 +6,8 @@ use denote.Ref.{now}
 use Rattle.policy.specs.Tables.{decode}
 use Rattle.geometry.specs.Geometry.{layoutOf}
 use Rattle.packages.proofs.Checks.{Tally, tally-start, place-in, tallies}
-use Rattle.packages.proofs.decide.calls_granted.Statement.{statement}
-use Rattle.packages.proofs.decide.calls_granted.Tie as tie
+use Rattle.packages.proofs.conditions.newcomer_rights.Statement.{statement}
+use Rattle.packages.proofs.conditions.newcomer_rights.Tie as tie
 
 abbrev Inv-loop : tie.InvT-loop
 Inv-loop img c n due rec size todo₀ unserved₀ todo unserved = Tally (layoutOf c) (decode (layoutOf c) img) due n rec todo₀ todo unserved
@@ -42,8 +42,8 @@ loop-less c = omega (arith, c .before .before .before .before .take-row .ensures
 loop-less-2 : tie.Need-loop-less-2 Inv-loop μ-loop
 loop-less-2 c = omega (arith, c .before .before .before .before .before .before .take-row .ensures .split .fewer)
 
-pub calls-granted-spec : {M : Type 1} → statement M
-calls-granted-spec =
+pub newcomer-rights-spec : {M : Type 1} → statement M
+newcomer-rights-spec =
     tie.close
     (tie.spec
     Inv-loop

@@ -1,4 +1,4 @@
--- `packages::decide::others_granted` meets its contract. Assumes nothing.
+-- `packages::conditions::others_rights` meets its contract. Assumes nothing.
 use native.Mathlib.Omega.{arith}
 use Prim.Native.Nat.{_-_, _≤_, _<_}
 use mathlib.Core.Path.{_≡_}
@@ -13,10 +13,10 @@ use Rattle.bits.proofs.Loops.{early}
 use Rattle.image.specs.Read.{unmetRow}
 use Rattle.image.proofs.Laid.{sound-laid}
 use Rattle.record.specs.Meaning.{itemsIn}
-use Rattle.packages.specs.Decides.{grantedTo}
+use Rattle.packages.specs.Conditions.{grantedTo}
 use Rattle.changes.proofs.SoundRows.{caller-in}
-use Rattle.packages.proofs.decide.others_granted.Statement.{statement}
-use Rattle.packages.proofs.decide.others_granted.Tie as tie
+use Rattle.packages.proofs.conditions.others_rights.Statement.{statement}
+use Rattle.packages.proofs.conditions.others_rights.Tie as tie
 
 abbrev Inv-loop : tie.InvT-loop
 Inv-loop img c rec grants met n r₀ r =
@@ -54,8 +54,8 @@ loop-again c = search early
 returns-2 : tie.Need-returns-2 Inv-loop μ-loop
 returns-2 c = search early
 
-pub others-granted-spec : {M : Type 1} → statement M
-others-granted-spec =
+pub others-rights-spec : {M : Type 1} → statement M
+others-rights-spec =
     tie.close
     (tie.spec
     Inv-loop

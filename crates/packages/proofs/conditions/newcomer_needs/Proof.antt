@@ -1,4 +1,4 @@
--- `packages::decide::needs_served` meets its contract. Assumes nothing.
+-- `packages::conditions::newcomer_needs` meets its contract. Assumes nothing.
 use native.Mathlib.Omega.{arith}
 use borrow.Author.Needs.{needs}
 use Rattle.policy.specs.Lists.{every}
@@ -7,8 +7,8 @@ use Rattle.policy.specs.Tables.{decode}
 use Rattle.geometry.specs.Geometry.{layoutOf}
 use Rattle.record.proofs.Loops.{Left, todo-start, todo-end, every-stop, every-next}
 use Rattle.changes.specs.Own.{served}
-use Rattle.packages.proofs.decide.needs_served.Statement.{statement}
-use Rattle.packages.proofs.decide.needs_served.Tie as tie
+use Rattle.packages.proofs.conditions.newcomer_needs.Statement.{statement}
+use Rattle.packages.proofs.conditions.newcomer_needs.Tie as tie
 
 abbrev Inv-loop : tie.InvT-loop
 Inv-loop img c rec todo₀ todo = Left aRow rec (every (served (layoutOf c) (decode (layoutOf c) img))) todo₀ todo
@@ -40,8 +40,8 @@ returns c = let r = c .before .before in every-stop _ (r .take-row .ensures .spl
 returns-2 : tie.Need-returns-2 Inv-loop μ-loop
 returns-2 c = todo-end (c .before .before .loop .inv) (c .if1 .left)
 
-pub needs-served-spec : {M : Type 1} → statement M
-needs-served-spec =
+pub newcomer-needs-spec : {M : Type 1} → statement M
+newcomer-needs-spec =
     tie.close
     (tie.spec
     Inv-loop

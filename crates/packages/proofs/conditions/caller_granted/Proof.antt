@@ -1,4 +1,4 @@
--- `packages::decide::caller_granted` meets its contract. Assumes nothing.
+-- `packages::conditions::caller_granted` meets its contract. Assumes nothing.
 use borrow.Author.Needs.{needs}
 use denote.Ref.{now}
 use Rattle.policy.specs.Record.{aRow}
@@ -7,8 +7,8 @@ use Rattle.geometry.specs.Geometry.{layoutOf}
 use Rattle.geometry.proofs.Bounds.{limits}
 use Rattle.record.specs.Meaning.{itemsIn}
 use Rattle.packages.proofs.Checks.{kept-none, kept-by}
-use Rattle.packages.proofs.decide.caller_granted.Statement.{statement}
-use Rattle.packages.proofs.decide.caller_granted.Tie as tie
+use Rattle.packages.proofs.conditions.caller_granted.Statement.{statement}
+use Rattle.packages.proofs.conditions.caller_granted.Tie as tie
 
 returns : tie.Need-returns
 returns c =

@@ -1,4 +1,4 @@
--- `packages::decide::granted_to` meets its contract. Assumes nothing.
+-- `packages::conditions::granted_to` meets its contract. Assumes nothing.
 use native.Mathlib.Omega.{arith}
 use borrow.Author.Needs.{needs}
 use Rattle.policy.specs.Lists.{exists}
@@ -6,9 +6,9 @@ use Rattle.policy.specs.Record.{aRow}
 use Rattle.policy.specs.Tables.{decode}
 use Rattle.geometry.specs.Geometry.{layoutOf, tokOf}
 use Rattle.record.proofs.Loops.{Left, todo-start, todo-end, exists-stop, exists-next}
-use Rattle.packages.specs.Decides.{grantFits}
-use Rattle.packages.proofs.decide.granted_to.Statement.{statement}
-use Rattle.packages.proofs.decide.granted_to.Tie as tie
+use Rattle.packages.specs.Conditions.{grantFits}
+use Rattle.packages.proofs.conditions.granted_to.Statement.{statement}
+use Rattle.packages.proofs.conditions.granted_to.Tie as tie
 
 abbrev Inv-loop : tie.InvT-loop
 Inv-loop img c i t rec todo₀ todo = Left aRow rec (exists (grantFits (layoutOf c) (decode (layoutOf c) img) i (tokOf t))) todo₀ todo

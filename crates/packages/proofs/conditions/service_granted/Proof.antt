@@ -1,9 +1,9 @@
--- `packages::decide::service_granted` meets its contract. Assumes nothing.
+-- `packages::conditions::service_granted` meets its contract. Assumes nothing.
 use native.Mathlib.Omega.{arith}
 use Rattle.geometry.proofs.Bounds.{limits}
 use Rattle.packages.proofs.Checks.{checks}
-use Rattle.packages.proofs.decide.service_granted.Statement.{statement}
-use Rattle.packages.proofs.decide.service_granted.Tie as tie
+use Rattle.packages.proofs.conditions.service_granted.Statement.{statement}
+use Rattle.packages.proofs.conditions.service_granted.Tie as tie
 
 has-bit-requires : tie.Need-has-bit-requires
 has-bit-requires c κs = let s = c .before .before in omega (arith, limits (s .args .c) .services-low, s .pre .1 .0 .2)

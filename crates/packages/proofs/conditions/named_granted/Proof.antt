@@ -1,11 +1,11 @@
--- `packages::decide::named_granted` meets its contract. Assumes nothing.
+-- `packages::conditions::named_granted` meets its contract. Assumes nothing.
 use native.Mathlib.Omega.{arith}
 use denote.Ref.{now}
 use Rattle.geometry.specs.declared.Kept.the-variants.{UnmetCalls}
 use Rattle.image.proofs.Listed.{list-low}
 use Rattle.packages.proofs.Checks.{checks}
-use Rattle.packages.proofs.decide.named_granted.Statement.{statement}
-use Rattle.packages.proofs.decide.named_granted.Tie as tie
+use Rattle.packages.proofs.conditions.named_granted.Statement.{statement}
+use Rattle.packages.proofs.conditions.named_granted.Tie as tie
 
 has-row-requires : tie.Need-has-row-requires
 has-row-requires c κs = let s = c .before .before in omega (arith, list-low (s .args .c) (now (s .args .img)) (s .pre .0) UnmetCalls, s .pre .1 .0)

@@ -1,4 +1,4 @@
--- `packages::decide::row_granted` meets its contract. Assumes nothing.
+-- `packages::conditions::row_granted` meets its contract. Assumes nothing.
 use Prim.Native.Nat.{_-_, _≤_}
 use native.Mathlib.Omega.{arith}
 use mathlib.Core.Path.{_≡_}
@@ -9,9 +9,9 @@ use Rattle.policy.specs.Tables.{bit, decode}
 use Rattle.geometry.specs.Geometry.{layoutOf}
 use Rattle.bits.proofs.Loops.{early}
 use Rattle.record.specs.Meaning.{itemsIn}
-use Rattle.packages.specs.Decides.{grantedTo}
-use Rattle.packages.proofs.decide.row_granted.Statement.{statement}
-use Rattle.packages.proofs.decide.row_granted.Tie as tie
+use Rattle.packages.specs.Conditions.{grantedTo}
+use Rattle.packages.proofs.conditions.row_granted.Statement.{statement}
+use Rattle.packages.proofs.conditions.row_granted.Tie as tie
 
 abbrev Inv-loop : tie.InvT-loop
 Inv-loop img c n i row rec grants size k₀ k =
