@@ -32,9 +32,11 @@ use Rattle.policy.proofs.SoundFacts.{sound-sized}
 use Rattle.policy.proofs.Step.{unsound-refused}
 use Rattle.policy.proofs.Eras.{converts, history-from}
 use Rattle.policy.proofs.Theorems.{empty-stands, so-far, first-cause, accepted-exactly, sound-stands, read-out-again, narrow-ok, small-ok}
+use Rattle.conditions.specs.Claims.{ThreeConditions}
+use Rattle.conditions.proofs.Theorems.{load-conditions}
 use Rattle.card.specs.Packed.{answerOf, secondOf, aidPlace}
 use Rattle.card.specs.Calls.{Returned, Converted, Calls}
-use Rattle.card.specs.Demands.{Refused, CallsAnswer, CallsCause, CallsVerdict, Restores, CallsReadOut, CallsNumber, HistoryOfCalls, imageOld, contractsOld, CallsHistory, CallsConvert, CallsNeeds, CallsAid}
+use Rattle.card.specs.Demands.{Refused, CallsAnswer, CallsCause, CallsVerdict, Restores, CallsReadOut, CallsNumber, HistoryOfCalls, imageOld, contractsOld, CallsHistory, CallsConvert, CallsNeeds, CallsAid, CallsConditions}
 use Rattle.card.proofs.Packs.{placed, aid-short}
 use Rattle.card.proofs.Tells.{Tells, checked-tells, emptied-tells, converted, converted-tells, judged-tells, wrote, read-tells}
 
@@ -293,3 +295,7 @@ calls-needs =
           rw (c .left-is) (needs-after small small-ok image rec q (accepted-sound image rec n) e n a x);
       stay = λ image ss rs left h ok a x off. rw (as-history ss rs image h .1) (needs-stay small small-ok (λ h. h) (λ h. h) image ss a x ok off);
     }
+
+-- ---- R-3
+pub calls-conditions : CallsConditions
+calls-conditions image rec r left cs b c h = subst (ThreeConditions small cs b) (sym (judged-tells image rec c .answer)) (load-conditions small small-ok image rec cs b h .0)

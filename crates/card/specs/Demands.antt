@@ -25,6 +25,7 @@ use Rattle.policy.specs.Placing.{Placed}
 use Rattle.policy.specs.Needs.{NeededBy, NeedsOn, MovesNeed}
 use Rattle.policy.specs.Eras.{imageThen, contractsThen}
 use Rattle.policy.specs.Claims.{CallsGranted, NeedsPresent, FitsLimits, IsFirst, allCauses}
+use Rattle.conditions.specs.Claims.{FreeLoad, ThreeConditions}
 use Rattle.card.specs.Packed.{answerOf, secondOf}
 use Rattle.card.specs.Calls.{Checked, Emptied, Converted, Judged, ReadInto, AidFound, Calls}
 
@@ -183,3 +184,8 @@ pub record CallsNeeds : Type 0 where
   -- over records among which no whole contract of a stands (kinds 1, 2 and 11), and none that removes its call on x (kind 6)
   pub stay : (image : List ℕ) (ss : List (List ℕ)) (rs left : List ℕ) → Calls image ss rs left → T (sound small image)
       → (a : Aid) (x : Row) → ((s : List ℕ) → In s ss → MovesNeed small a x s → ⊥) → NeedsOn small left a x ↔ NeedsOn small image a x
+
+-- ---- R-3: 'For every load on a sound image free of causes 2 to 7', what its answer says of the report's three conditions
+abbrev pub CallsConditions : Type 0
+CallsConditions = (image rec : List ℕ) (r : ℕ) (left : List ℕ) (cs : List Contract) (b : Contract) → Judged image rec r left
+    → FreeLoad small image rec cs b → ThreeConditions small cs b (answerOf r)

@@ -117,7 +117,7 @@ module _ (L : Layout) (lo : LayoutOk L) (t : Tables) (cs : List Contract) (g : F
 
   pub answers-agree : answer (judgeCauses L t q) ≡ answer (causes3to11 L cs q)
   answers-agree =
-      answer-append early (lookCauses (look L d)) (causes8to11 L ds) (λ e. let h = turns e in ap answer (looks-agree L d ds (h .formed) (h .lost-off) (h .stands)))
+      answer-append early (lookCauses (look L d)) (causes8to11 L ds) (λ e. let h = turns e in ap (λ (k : Look). answer (lookCauses k)) (looks-agree L d ds (h .formed) (h .lost-off) (h .stands)))
       ∙ ap (λ (l : List Cause). answer (3 when not (proper L a c) ∷ l ++ causes8to11 L ds)) (tests-agree L t cs g st a c)
 
   pub accepted-stands : answer (judgeCauses L t q) ≡ 0 → StandsFor L (encode L (d .tables)) ds

@@ -68,7 +68,7 @@ module _ (L : Layout) (lo : LayoutOk L) where
   unfolding machine
   machine-read cs s o e = ap (λ (o : Option Request). elim o [ none ↦ held L cs cs 2 | some q ↦ held L cs (effect L cs (q .aid) (q .change)) (answer (causes3to11 L cs q)) ]) e
 
-  read-answer : (img s : List ℕ) (cs : List Contract) (q : Request) → StandsFor L img cs → parse L s ≡ some q → judge L img s .answered ≡ answer (causes3to11 L cs q)
+  pub read-answer : (img s : List ℕ) (cs : List Contract) (q : Request) → StandsFor L img cs → parse L s ≡ some q → judge L img s .answered ≡ answer (causes3to11 L cs q)
   read-answer img s cs q f e = step L lo img s cs f .0 ∙ ap (λ (h : Held L). h .answered) (machine-read cs s (some q) e) ∙ machine-answer cs (effect L cs (q .aid) (q .change)) (answer (causes3to11 L cs q))
 
   -- causes go up

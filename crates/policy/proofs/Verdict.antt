@@ -9,12 +9,9 @@ use lib.ListN.{length, length-map}
 use Rattle.policy.specs.Lists.{implies, every, keep, flat, isNil, NoRepeat}
 use Rattle.policy.specs.Contract.{Row, Contract, Link, hasTok, hasRow, installed, met, waits, grantedTo, callsGranted, needsMet, unmetCalls, waitingGrants}
 use Rattle.policy.specs.Layout.{Layout}
-use Rattle.policy.specs.Causes.{_when_}
-use Rattle.policy.specs.Machine.{causes8to11}
 use Rattle.policy.specs.Tables.{Tables, Unmet, Waiting}
 use Rattle.policy.specs.Lookup.{serviceAt, wanted, grantAt}
-use Rattle.policy.specs.Draft.{Draft, callRow, grantRow, look}
-use Rattle.policy.specs.Judge.{lookCauses}
+use Rattle.policy.specs.Draft.{Look, Draft, callRow, grantRow, look}
 use Rattle.policy.proofs.Sets.{T-eq, and-l, and-r, and-i, implies-i, implies-e, not-i, not-e, nil-is, same-length, every-in, in-every, keep-in, in-keep, once-keep, in-map, map-in, once-map, map-inj, once-of-map}
 use Rattle.policy.proofs.Sets.{in-flat, flat-in, once-flat}
 use Rattle.policy.proofs.Equal.{has-tok, tok-has, has-row, row-has}
@@ -24,12 +21,12 @@ use Rattle.policy.proofs.Facts.{contract-of, under-i, under-e, need-bit
 
 module _ (L : Layout) (t : Tables) (lost : List Unmet) (ds : List Contract) (g : Formed L t) (st : Stands t lost ds) where
   -- a call is met where its service is on the card
-  met-i : (r : Row) (j k : ℕ) → T (t .provides j k) → r ≡ serviceAt t j k → T (met ds r)
+  pub met-i : (r : Row) (j k : ℕ) → T (t .provides j k) → r ≡ serviceAt t j k → T (met ds r)
   met-i r j k p e =
       under-i L t (g .names) st (r .aid) (λ c. hasTok (r .tok) (c .provides)) j (g .names .prov-used j k p) (λ i. sym e i .aid)
       (λ c _ h. tok-has (h .provides (r .tok) .1 (ProvidesAt.at k p (λ i. e i .tok))))
 
-  met-e : (r : Row) → T (met ds r) → (j : ℕ) × (k : ℕ) × T (t .provides j k) × (t .aid j ≡ r .aid) × (t .tok j k ≡ r .tok)
+  pub met-e : (r : Row) → T (met ds r) → (j : ℕ) × (k : ℕ) × T (t .provides j k) × (t .aid j ≡ r .aid) × (t .tok j k ≡ r .tok)
   met-e r h = let p = under-e L t (g .names) st (r .aid) (λ c. hasTok (r .tok) (c .provides)) h in go (p .0) (p .2) (p .5 .provides (r .tok) .0 (has-tok (r .tok) (p .3 .provides) (p .6)))
     where
       go : (j : ℕ) → t .aid j ≡ r .aid → ProvidesAt t j (r .tok) → (j : ℕ) × (k : ℕ) × T (t .provides j k) × (t .aid j ≡ r .aid) × (t .tok j k ≡ r .tok)
@@ -210,13 +207,22 @@ module _ (L : Layout) (t : Tables) (lost : List Unmet) (ds : List Contract) (g :
           (stands-i n c h r i k (g .grants .by-used i n k b) (sym e) (g .grants .of-prov i n k b) (sym q)))
       fro n c h r f (GrantAt.row m) = (grantRow n r, m, refl)
 
+-- the look at the contracts
+abbrev pub lookAt : Layout → List Contract → Look
+lookAt L ds = record {
+  granted = callsGranted ds;
+  needed = needsMet ds;
+  unmetFits = leb (length (unmetCalls ds)) (L .capacity);
+  waitingFits = leb (length (waitingGrants ds)) (L .capacity);
+}
+
 pub looks-agree : (L : Layout) (d : Draft) (ds : List Contract) → Formed L (d .tables)
     → Off (d .tables .used) (d .tables .aid) (d .tables .tok) (d .tables .provides) (d .lost) → Stands (d .tables) (d .lost) ds
-    → lookCauses (look L d) ≡ causes8to11 L ds
+    → look L d ≡ lookAt L ds
 unfolding look
-looks-agree L d ds g off st = λ i.
-    8 when not (granted L (d .tables) (d .lost) ds g st i)
-    ∷ 9 when not (needed L (d .tables) (d .lost) ds g st off i)
-    ∷ 10 when not (leb (unmet-count L (d .tables) (d .lost) ds g st i) (L .capacity))
-    ∷ 11 when not (leb (waiting-count L (d .tables) (d .lost) ds g st i) (L .capacity))
-    ∷ []
+looks-agree L d ds g off st = λ i. record {
+  granted = granted L (d .tables) (d .lost) ds g st i;
+  needed = needed L (d .tables) (d .lost) ds g st off i;
+  unmetFits = leb (unmet-count L (d .tables) (d .lost) ds g st i) (L .capacity);
+  waitingFits = leb (waiting-count L (d .tables) (d .lost) ds g st i) (L .capacity);
+}

@@ -1,0 +1,2 @@
+pub mod OnTables
+pub mod Theorems
