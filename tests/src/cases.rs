@@ -1,6 +1,7 @@
 //! One table: every case of the paper's "At the edges", its misreadings of the report, the report's worked example, and
 //! the edges of the requests that have landed. Each case starts on the empty image.
 
+pub mod conditions;
 pub mod early;
 mod edges;
 mod misread;
@@ -41,8 +42,12 @@ pub struct Step {
 /// Every case, in the paper's order.
 pub fn all() -> Vec<Case> {
     let paper = [edges::cases(), misread::cases(), worked::cases()];
-    let requests = [tokens::cases(), early::cases(), replace::cases(), retired::cases()];
-    paper.into_iter().chain(requests).flatten().collect()
+    paper.into_iter().flatten().chain(requests()).collect()
+}
+
+/// Those of the requests, in the order in which they landed.
+pub fn requests() -> impl Iterator<Item = Case> {
+    [tokens::cases(), early::cases(), replace::cases(), retired::cases(), conditions::cases()].into_iter().flatten()
 }
 
 /// The case of this name.

@@ -1,6 +1,7 @@
 //! What is compared after each record: the plain machine, the byte engine, and every other engine.
 
 use crate::card::{Card, Verdict, IMAGE, LONGEST_RECORD, OLD_IMAGE};
+use crate::conditions::{Conditions, Outcome};
 use crate::damage::Damage;
 use crate::early::Early;
 use crate::hex::to_hex;
@@ -83,6 +84,8 @@ pub struct Tally {
     pub too_early: u64,
     /// What R-13 has left, in records since.
     pub retired: BTreeMap<Retired, u64>,
+    /// Loads that are free of causes 2 to 7, by R-3.
+    pub loads: BTreeMap<Outcome, u64>,
     /// By their places in records: method tokens of 127 that are read, and of 128 where nothing else is wrong.
     pub methods: BTreeMap<Place, [u64; 2]>,
     /// By their places in images: method tokens that damage sets to 127 on an image that stays sound, and to 128.
@@ -212,6 +215,7 @@ impl<'a> Compare<'a> {
         }
         let before = self.image.clone();
         if !self.left_out {
+            self.load_by_conditions(&held, bytes, verdict, tally)?;
             self.check_alike()?;
             self.read_out_alike(&mut random, tally)?;
         }
@@ -300,6 +304,27 @@ impl<'a> Compare<'a> {
         let same = stands_for.as_ref() == Some(&self.machine);
         expect!(same, "the image stands for other contracts after {verdict:?}");
         Ok(verdict)
+    }
+
+    /// A load that is free of causes 2 to 7 got of every engine what R-3 says, by the contracts that it found.
+    fn load_by_conditions(
+        &self,
+        held: &Machine,
+        bytes: &[u8],
+        verdict: Verdict,
+        tally: &mut Tally,
+    ) -> Result<(), String> {
+        let Ok(record) = held.to_try(self.rules(), bytes) else { return Ok(()) };
+        let Change::Load(lists) = &record.change else { return Ok(()) };
+        let conditions = Conditions::of(held, record.aid, &lists.contract());
+        let place = || format!("of the report's conditions {conditions}");
+        let lawful = held.changed(self.rules(), &record).lawful();
+        let state = if lawful { "lawful" } else { "not lawful" };
+        expect!(conditions.all_hold() == lawful, "{}, and the card is {state} afterwards", place());
+        let answer = verdict.answer;
+        expect!(conditions.answers().contains(&answer), "{}, and judging gives {verdict:?}", place());
+        *tally.loads.entry(Outcome { conditions, answer }).or_default() += 1;
+        Ok(())
     }
 
     /// The image is sound for every engine, with as many packages as there are contracts.

@@ -1,6 +1,7 @@
 //! Engines that are wrong on purpose, each in one way, to show that the comparison finds it: the
 //! paper's list of what a reviewer will try, its misreadings of the report, requests misread, and a few more.
 
+mod conditions;
 mod replace;
 mod retired;
 
@@ -191,6 +192,13 @@ pub const FAULTS: &[Fault] = &[
     Fault { name: "need-outlives-call", entry: Entry::Judge(retired::outlives_call) },
     Fault { name: "need-outlives-contract", entry: Entry::Judge(retired::outlives_contract) },
     Fault { name: "needs-not-read-out", entry: Entry::ReadOut(retired::not_read_out) },
+    Fault { name: "stops-at-needs", entry: Entry::Judge(conditions::stops_at_needs) },
+    Fault { name: "third-left-out", entry: Entry::Judge(conditions::third_left_out) },
+    Fault { name: "eight-takes-both", entry: Entry::Judge(conditions::eight_takes_both) },
+    Fault { name: "equal-sets", entry: Entry::Judge(conditions::equal_sets) },
+    Fault { name: "any-grant-will-do", entry: Entry::Judge(conditions::any_grant_will_do) },
+    Fault { name: "waiting-grants-unseen", entry: Entry::Judge(conditions::waiting_grants_unseen) },
+    Fault { name: "calls-for-needs", entry: Entry::Judge(conditions::calls_for_needs) },
 ];
 
 /// The fault that the option `--fault` names.

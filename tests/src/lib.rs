@@ -13,6 +13,7 @@ pub mod refusal;
 
 // The comparison.
 pub mod compare;
+pub mod conditions;
 pub mod damage;
 pub mod early;
 pub mod faults;

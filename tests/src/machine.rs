@@ -25,19 +25,28 @@ impl Machine {
     /// Judges a record by the rules of its time and keeps its change if it is accepted. The answer is the
     /// first cause that applies, or 0.
     pub fn judge(&mut self, rules: Rules, bytes: &[u8]) -> u32 {
-        let Ok(record) = record::read(rules, bytes) else { return 2 };
-        if record::contradiction(rules, &record).is_some() {
-            return 3;
-        }
-        if let Some(cause) = self.cause_before(rules, &record) {
-            return cause;
-        }
+        let record = match self.to_try(rules, bytes) {
+            Ok(record) => record,
+            Err(cause) => return cause,
+        };
         let after = self.changed(rules, &record);
         if let Some(cause) = after.cause_after() {
             return cause;
         }
         *self = after;
         0
+    }
+
+    /// The record whose change is tried, or the first that applies of causes 2 to 7.
+    pub fn to_try(&self, rules: Rules, bytes: &[u8]) -> Result<Record, u32> {
+        let Ok(record) = record::read(rules, bytes) else { return Err(2) };
+        if record::contradiction(rules, &record).is_some() {
+            return Err(3);
+        }
+        match self.cause_before(rules, &record) {
+            Some(cause) => Err(cause),
+            None => Ok(record),
+        }
     }
 
     /// Causes 4 to 7: the record against the contracts held.
@@ -74,7 +83,7 @@ impl Machine {
     }
 
     /// The contracts after the record's change. No other contract than the named one changes.
-    fn changed(&self, rules: Rules, record: &Record) -> Machine {
+    pub fn changed(&self, rules: Rules, record: &Record) -> Machine {
         let mut after = self.clone();
         match &record.change {
             Change::Load(lists) | Change::Replace(lists) => {
@@ -94,9 +103,9 @@ impl Machine {
 
     /// Causes 8 to 11: the contracts as they would be.
     fn cause_after(&self) -> Option<u32> {
-        if self.calls().any(|(caller, call)| self.met(call) && !self.granted(*caller, call)) {
+        if !self.met_calls_granted() {
             Some(8)
-        } else if self.contracts.values().flat_map(|contract| &contract.needs).any(|need| !self.met(need)) {
+        } else if !self.needs_met() {
             Some(9)
         } else if self.unmet().count() > MOST_UNMET {
             Some(10)
@@ -105,6 +114,19 @@ impl Machine {
         } else {
             None
         }
+    }
+
+    /// "The card is lawful when every met call is granted by the provider to the caller, and every need is met."
+    pub fn lawful(&self) -> bool {
+        self.met_calls_granted() && self.needs_met()
+    }
+
+    fn met_calls_granted(&self) -> bool {
+        self.calls().all(|(caller, call)| !self.met(call) || self.granted(*caller, call))
+    }
+
+    fn needs_met(&self) -> bool {
+        self.contracts.values().flat_map(|contract| &contract.needs).all(|need| self.met(need))
     }
 
     /// Every call on the card, after its caller.

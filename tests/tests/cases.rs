@@ -1,7 +1,8 @@
 //! The table of cases holds on the machine and on every engine.
 
 use second::card::{linked, Card, Verdict, BYTES, IMAGE};
-use second::cases::{all, early, named, replace, retired, tokens, worked};
+use second::cases::{all, conditions, early, named, replace, retired, tokens, worked};
+use second::conditions::Outcome;
 use second::damage::Damage;
 use second::early::Early;
 use second::methods::Place;
@@ -97,6 +98,19 @@ fn every_need_of_before_has_its_case() {
     }
     assert_eq!(seen, BTreeSet::from(Retired::ALL));
     assert_eq!(gone_on, 7);
+}
+
+/// Each combination of the report's conditions has its case, and each answer.
+#[test]
+fn every_outcome_of_the_conditions_has_its_case() {
+    let cards = linked();
+    let mut seen = BTreeSet::new();
+    for case in conditions::cases() {
+        let tally = replay(&cards, 0, &case.history(), &Damage::default())
+            .unwrap_or_else(|difference| panic!("{}: {difference}", case.name));
+        seen.extend(tally.loads.keys().copied());
+    }
+    assert_eq!(seen, Outcome::all().collect());
 }
 
 /// The report's Examples 5 to 8: the mapping, the tables of jTicket's needs and ePurse's grants.

@@ -4,9 +4,11 @@ use second::bytes::layout::Version;
 use second::card::{linked, Bytes, Card, Verdict, IMAGE, OLD_IMAGE};
 use second::cases::{B, C, H, X};
 use second::compare::{Compare, Tally};
-use second::machine::Machine;
+use second::conditions::Conditions;
+use second::machine::{Change, Machine};
 use second::rules::Rules;
 use second::write::{add_service, load, record, remove, remove_service, replace, row as written, update, Row, Tokens};
+use std::collections::BTreeSet;
 
 const S: Tokens = (0, 0);
 const T: Tokens = (0, 1);
@@ -413,6 +415,49 @@ fn the_lowest_number_of_kind_11() {
         replace(H, &[S], &unmet(15), &with(strangers(16), row(B, S)), &[]),
     ];
     assert_eq!(answers(&[&card[..], &records].concat())[3..], [8, 8, 8, 9, 9, 10, 11, 0]);
+}
+
+/// R-3, by the rules of every time, for every load of B beside H, when each has to do with two services of the other at most: the
+/// report's conditions all hold exactly when the card is lawful afterwards, and decide whether 8 or 9 comes.
+#[test]
+fn the_reports_conditions_decide_8_and_9() {
+    const SUBSETS: [&[Tokens]; 4] = [&[], &[S], &[T], &[S, T]];
+    let rows =
+        |other: &[u8], services: &[Tokens]| services.iter().map(|tokens| row(other, *tokens)).collect::<Vec<_>>();
+    let contracts = |own: &[u8], other: &[u8], needs: &[&[Tokens]]| {
+        let mut records = Vec::new();
+        for (provides, calls) in SUBSETS.iter().flat_map(|one| SUBSETS.map(|two| (one, two))) {
+            for (grants, needs) in SUBSETS.iter().flat_map(|one| needs.iter().map(move |two| (one, two))) {
+                records.push(load(own, provides, &rows(other, calls), &rows(other, grants), &rows(other, needs)));
+            }
+        }
+        records
+    };
+    let (servers, newcomers) = (contracts(H, B, &SUBSETS[..1]), contracts(B, H, &SUBSETS));
+    for rules in Rules::ALL {
+        let bytes = Bytes(rules);
+        let cards: Vec<&dyn Card> = if rules == Rules::IN_FORCE { linked() } else { vec![&bytes] };
+        let mut seen = BTreeSet::new();
+        for server in &servers {
+            let (mut held, mut image) = (Machine::default(), vec![0; Version::of(rules).size]);
+            bytes.empty(&mut image);
+            if [held.judge(rules, server), bytes.judge(&mut image, server).answer] != [0; 2] {
+                continue;
+            }
+            for newcomer in &newcomers {
+                let Ok(record) = held.to_try(rules, newcomer) else { continue };
+                let Change::Load(lists) = &record.change else { panic!("a load") };
+                let conditions = Conditions::of(&held, record.aid, &lists.contract());
+                assert_eq!(conditions.all_hold(), held.changed(rules, &record).lawful(), "{newcomer:02X?}");
+                for card in &cards {
+                    let answer = card.judge(&mut image.clone(), newcomer).answer;
+                    assert!(conditions.answers().contains(&answer), "{conditions}, {answer}: {newcomer:02X?}");
+                }
+                seen.insert(conditions);
+            }
+        }
+        assert_eq!(seen, BTreeSet::from(Conditions::ALL), "{rules:?}");
+    }
 }
 
 #[test]

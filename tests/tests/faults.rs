@@ -8,9 +8,10 @@ use second::faults::FAULTS;
 use second::history::{changes, Event};
 use second::run::{replay, run};
 
-/// Each of the seeds 1 to 10 finds every fault in 20,000 records. The shortest history that dropping records comes to has up to 27 of
-/// them, by the seed; this seed is one by which it has at most 16 for every fault.
-const SEED: u64 = 5;
+/// Each of the seeds 1 to 10 finds every fault in 20,000 records. The shortest history that dropping records comes to has up to 24 of
+/// them, by the seed; this seed is one by which it has at most 16 for every fault, and by which cards of each sort go over the
+/// changes of the rules in 8,000 records.
+const SEED: u64 = 7;
 
 #[test]
 fn every_fault_is_found() {
@@ -29,7 +30,7 @@ fn every_fault_is_found() {
     }
 }
 
-/// The table of cases finds all but five, which need 15 unmet calls, a damaged byte, and another size.
+/// The table of cases finds all but four, which need 15 unmet calls, a damaged byte that is not drawn, and another size.
 #[test]
 fn the_cases_find_most_faults() {
     std::panic::set_hook(Box::new(|_| {}));
@@ -39,9 +40,9 @@ fn the_cases_find_most_faults() {
     });
     let missed: Vec<&str> = missed.map(|fault| fault.name()).collect();
     let counted = "ten-uncounted";
-    let damaged = ["settled-row-sound", "own-aid-row-sound"];
+    let damaged = "own-aid-row-sound";
     let sized = ["empty-any-length", "converts-into-more"];
-    let expected = [counted, sized[0], damaged[0], damaged[1], sized[1]];
+    let expected = [counted, sized[0], damaged, sized[1]];
     assert_eq!(missed, expected);
 }
 
@@ -85,5 +86,5 @@ fn a_short_run_finds_nothing_in_the_byte_engine() {
     assert!(tally.left_out > 0 && tally.cleared > 0 && tally.before > 0);
     assert!(tally.contracts_read > 1_000 && tally.damaged_sound > 100 && tally.damaged_unsound > 1_000);
     assert!(tally.converted > 20 && tally.not_converted > 100 && tally.early.len() > 5);
-    assert!(tally.replaced.len() > 9 && tally.too_early > 9 && tally.retired.len() > 6);
+    assert!(tally.replaced.len() > 9 && tally.too_early > 9 && tally.retired.len() > 6 && tally.loads.len() > 6);
 }

@@ -2,6 +2,7 @@
 
 use second::card::{linked, names, Card};
 use second::compare::Tally;
+use second::conditions::Outcome;
 use second::damage::Damage;
 use second::early::Early;
 use second::faults;
@@ -113,6 +114,7 @@ fn report(tally: &Tally) -> String {
          grants before their service: {}\n\
          whole contracts: {}; before their rules {}\n\
          needs that kind 9 set: {}\n\
+         loads by the report's conditions: {}\n\
          method tokens 127 and 128 in records: {}\n\
          on damaged images: {}",
         tally.pairs,
@@ -136,6 +138,7 @@ fn report(tally: &Tally) -> String {
         joined(replaced(tally).into_iter().map(counted)),
         tally.too_early,
         joined(retired(tally).into_iter().map(counted)),
+        joined(loads(tally).into_iter().map(counted)),
         joined(methods(tally).into_iter().map(both)),
         joined(methods_held(tally).into_iter().map(both)),
     )
@@ -168,6 +171,10 @@ fn replaced(tally: &Tally) -> Vec<(Replaced, u64)> {
 
 fn retired(tally: &Tally) -> Vec<(Retired, u64)> {
     seen(Retired::ALL, &tally.retired)
+}
+
+fn loads(tally: &Tally) -> Vec<(Outcome, u64)> {
+    seen(Outcome::all(), &tally.loads)
 }
 
 /// Method tokens of 127, and of 128, in each place of records.
@@ -215,6 +222,7 @@ fn everything_seen(tally: &Tally) -> Result<(), String> {
         ("grants before their service", unseen(early(tally))),
         ("whole contracts", unseen(replaced(tally))),
         ("needs that kind 9 set, and kinds that are retired,", unseen(retired(tally))),
+        ("loads by the report's conditions", unseen(loads(tally))),
     ] {
         if !unseen.is_empty() {
             return Err(format!("{what} were never seen: {unseen}"));

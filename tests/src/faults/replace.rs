@@ -128,7 +128,7 @@ fn judge_instead(image: &mut [u8], mut other: Vec<u8>, bytes: &[u8], else_given:
     }
 }
 
-fn add_grants(lists: &mut Lists, grants: impl Iterator<Item = Row>) {
+pub fn add_grants(lists: &mut Lists, grants: impl Iterator<Item = Row>) {
     let more: Vec<Row> = grants.filter(|grant| !lists.grants.contains(grant)).collect();
     lists.grants.extend(more);
 }

@@ -70,22 +70,24 @@ impl Source {
         Some(write::update(kind, own.bytes(), row.other.bytes(), pair(row.tokens)))
     }
 
-    /// A whole contract of the package, in place of the one it has; that of a package to load has nothing.
+    /// A whole contract of the package, in place of the one it has; that of a package to load has nothing. Seldom it looks
+    /// neither at grants nor at needs, so that it fails on several.
     fn fit_contract(&mut self, kind: u8, own: Aid, old: &Contract, held: &Machine) -> Vec<u8> {
+        let [ungranted, unmet_needs, grants_met] = if self.random.percent(5) { [15, 30, 50] } else { [1, 2, 97] };
         let services = self.fit_services(own, old, held);
         let on_it = |call: &Row| call.other == own && services.contains(&call.tokens);
         let unmet_after = |call: &Row| !on_it(call) && (call.other == own || !held.met(call));
         let others = || held.calls().filter(|(caller, _)| **caller != own);
         let unmet = others().filter(|(_, call)| unmet_after(call)).count();
-        let calls = self.fit_calls(own, old, held, unmet);
-        let needs = self.some(&calls, |call| if held.met(call) { 30 } else { 2 });
+        let calls = self.fit_calls(own, old, held, unmet, ungranted);
+        let needs = self.some(&calls, |call| if held.met(call) { 30 } else { unmet_needs });
 
         // What others call of its services it grants, mostly.
         let met: Vec<Row> = others()
             .filter(|(_, call)| on_it(call))
             .map(|(caller, call)| Row { other: *caller, tokens: call.tokens })
             .collect();
-        let mut grants = self.some(&met, |_| 97);
+        let mut grants = self.some(&met, |_| grants_met);
         grants.extend(self.some(&Vec::from_iter(old.grants.iter().copied()), |_| 60));
         let waits = |grant: &&Row| !(held.contracts.contains_key(&grant.other) && services.contains(&grant.tokens));
         let settles =
@@ -101,7 +103,8 @@ impl Source {
         write::contract(kind, own.bytes(), &services, &written(&calls), &written(&grants), &written(&needs))
     }
 
-    /// Most of the old services, those that others need nearly always, and some more, in any order.
+    /// Most of the old services, those that others need nearly always, and some more, half the time those that others call
+    /// already before the rest; in any order.
     fn fit_services(&mut self, own: Aid, old: &Contract, held: &Machine) -> Vec<Tokens> {
         let needed = |tokens: &Tokens| {
             let need = Row { other: own, tokens: *tokens };
@@ -113,6 +116,9 @@ impl Source {
         let mut more: Vec<Tokens> =
             self.tokens.iter().filter(|tokens| !old.provides.contains(tokens)).copied().collect();
         self.random.shuffle(&mut more);
+        if self.random.percent(50) {
+            more.sort_by_key(|tokens| !held.unmet().any(|(_, call)| *call == Row { other: own, tokens: *tokens }));
+        }
         more.truncate(self.random.between(0, most));
         services.extend(more);
         services.truncate(8);
@@ -120,10 +126,10 @@ impl Source {
         services
     }
 
-    /// Calls on what is granted to the package, seldom on what is not, and some unmet ones, of the old ones first.
-    fn fit_calls(&mut self, own: Aid, old: &Contract, held: &Machine, unmet: usize) -> Vec<Row> {
+    /// Calls on what is granted to the package, by this chance on what is not, and some unmet ones, of the old ones first.
+    fn fit_calls(&mut self, own: Aid, old: &Contract, held: &Machine, unmet: usize, ungranted: usize) -> Vec<Row> {
         let on_card = services_of(held, own);
-        let mut calls = self.some(&on_card, |call| if held.granted(own, call) { 60 } else { 1 });
+        let mut calls = self.some(&on_card, |call| if held.granted(own, call) { 60 } else { ungranted });
         let mut absent = self.absent_services(held, own);
         self.random.shuffle(&mut absent);
         absent.sort_by_key(|call| !old.calls.contains(call));

@@ -105,11 +105,10 @@ fn kinds() -> Vec<Stream> {
     streams
 }
 
-/// Method tokens of 127 and 128 in every place, grants before their service, whole contracts, and retired kinds, a case on each
-/// card; and every method, in one record each.
+/// Method tokens of 127 and 128 in every place, grants before their service, whole contracts, retired kinds, and the conditions of
+/// a load, a case on each card; and every method, in one record each.
 fn requests() -> Vec<Stream> {
-    let requests = [cases::tokens::cases(), cases::early::cases(), cases::replace::cases(), cases::retired::cases()];
-    let cases = requests.into_iter().flatten().filter(|case| case.before.is_empty());
+    let cases = cases::requests().filter(|case| case.before.is_empty());
     let records = |case: &Case| case.steps.iter().flat_map(|step| step.record.clone()).collect();
     let mut streams: Vec<_> = cases.map(|case| Stream::new(case.name, records(&case))).collect();
     let called = (0..=255).flat_map(|method| [update(5, C, H, (method, method)), update(6, C, H, (method, method))]);
