@@ -30,6 +30,7 @@ pub mod PlacedServices
 pub mod InOrder
 pub mod KindRemove
 pub mod Alter
+pub mod Effect
 pub mod KindAddService
 pub mod KindRemoveService
 pub mod Rows

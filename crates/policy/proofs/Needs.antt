@@ -23,8 +23,9 @@ use Rattle.policy.specs.History.{StandsFor, imageAfter}
 use Rattle.policy.specs.Numbering.{HasNumber, Numbered}
 use Rattle.policy.specs.Claims.{RefusesWith}
 use Rattle.policy.specs.Needs.{NeededBy, NeedsOn, NeedsAfter, MovesNeed, NeedsStay, NeedsGoOn}
-use Rattle.policy.proofs.Sets.{test, not-i, not-e, cond-true, cond-false, each-one, keep-in, in-keep, in-map, map-in}
+use Rattle.policy.proofs.Sets.{test, not-i, not-e, cond-true, each-one, keep-in, in-keep, in-map, map-in}
 use Rattle.policy.proofs.Equal.{eqAid→, eqAid-of, eqRow→, eqRow-refl}
+use Rattle.policy.proofs.Effect.{effect-others}
 use Rattle.policy.proofs.ParseFacts.{parsed-kind}
 use Rattle.policy.proofs.SoundFacts.{sound-formed}
 use Rattle.policy.proofs.Settled.{judge-malformed}
@@ -55,44 +56,23 @@ module _ (cs : List Contract) (b : Aid) (f : Contract → Contract) (same : (k :
   of-contract : {d : Contract} → In d (alter b f cs) → d .aid ≡ a → (c : Contract) × In c cs × (c .aid ≡ a) × (d ≡ turned c)
   of-contract m e = let (c, mc, ed) = map-in turned cs m in (c, mc, sym (aid-kept c) ∙ ap (λ (z : Contract). z .aid) (sym ed) ∙ e, ed)
 
-  altered-by : (g : Contract → Contract) → ((c : Contract) → c .aid ≡ a → turned c ≡ g c) → (r : Row) → Needs (alter b f cs) a r ↔ Held cs a (λ c. g c .needs) r
-  altered-by g is r = (
+  of-own : b ≡ a → (r : Row) → Needs (alter b f cs) a r ↔ Held cs a (λ c. f c .needs) r
+  of-own q r = (
     λ (d, m, e, h). let (c, mc, ec, ed) = of-contract m e in (c, mc, ec, subst (λ (z : Contract). In r (z .needs)) (ed ∙ is c ec) h),
     λ (c, m, e, h). (turned c, in-map turned m, aid-kept c ∙ e, subst (λ (z : Contract). In r (z .needs)) (sym (is c e)) h),
   )
-
-  of-own : b ≡ a → (r : Row) → Needs (alter b f cs) a r ↔ Held cs a (λ c. f c .needs) r
-  of-own e = altered-by f (λ c ec. cond-true (eqAid (c .aid) b) (f c) c (eqAid-of (ec ∙ sym e)))
-
-  of-other : (b ≡ a → ⊥) → (r : Row) → Needs (alter b f cs) a r ↔ Needs cs a r
-  of-other n = altered-by (λ c. c) (λ c ec. cond-false (eqAid (c .aid) b) (f c) c (λ t. n (sym (eqAid→ (c .aid) b t) ∙ ec)))
+    where
+      is : (c : Contract) → c .aid ≡ a → turned c ≡ f c
+      is c e = cond-true (eqAid (c .aid) b) (f c) c (eqAid-of (e ∙ sym q))
 
 -- ---- by kind
 module _ (L : Layout) (cs : List Contract) (b a : Aid) (r : Row) where
   -- the others
-  module _ (n : b ≡ a → ⊥) where
-    other-stays : (c : Change) → ((k : Contract) → altered L c k .aid ≡ k .aid) → Needs (alter b (altered L c) cs) a r ↔ Needs cs a r
-    other-stays c same = of-other cs b (altered L c) same a n r
-
-    other : (c : Change) → Needs (effect L cs b c) a r ↔ Needs cs a r
-    other (load p c g l) = (λ (d, m, e, h). go d e h (in-cons m), λ (d, m, e, h). (d, there m, e, h))
-      where
-        go : (d : Contract) → d .aid ≡ a → In r (d .needs) → (d ≡ record { aid = b; provides = p; calls = c; grants = g; needs = l }) ⊎ In d cs → Needs cs a r
-        go d e h (inl x) = absurd (n (ap (λ (z : Contract). z .aid) (sym x) ∙ e))
-        go d e h (inr m) = (d, m, e, h)
-    other remove = (
-      λ (d, m, e, h). (d, keep-in (λ k. not (eqAid (k .aid) b)) cs m .0, e, h),
-      λ (d, m, e, h). (d, in-keep (λ k. not (eqAid (k .aid) b)) m (not-i (eqAid (d .aid) b) (λ t. n (sym (eqAid→ (d .aid) b t) ∙ e))), e, h),
-    )
-    other (addService s l) = other-stays (addService s l) (λ k. refl)
-    other (removeService s) = other-stays (removeService s) (λ k. refl)
-    other (addCall x) = other-stays (addCall x) (λ k. refl)
-    other (removeCall x) = other-stays (removeCall x) (λ k. refl)
-    other (addGrant x) = other-stays (addGrant x) (λ k. refl)
-    other (removeGrant x) = other-stays (removeGrant x) (λ k. refl)
-    other (addNeed x) = other-stays (addNeed x) (λ k. refl)
-    other (removeNeed x) = other-stays (removeNeed x) (λ k. refl)
-    other (replace p c g l) = other-stays (replace p c g l) (λ k. refl)
+  other : (b ≡ a → ⊥) → (c : Change) → Needs (effect L cs b c) a r ↔ Needs cs a r
+  other n c = (
+    λ (d, m, e, h). (d, effect-others L b c cs d (λ q. n (sym q ∙ e)) .1 m, e, h),
+    λ (d, m, e, h). (d, effect-others L b c cs d (λ q. n (sym q ∙ e)) .0 m, e, h),
+  )
 
   -- the record's own package, on an image that stands for what the record leaves; B says whether it needed r
   module _ (e : b ≡ a) (t : Tables) (img : List ℕ) (m : ℕ) (B : Type 0) (was : B ↔ Needs cs a r) where

@@ -112,7 +112,7 @@ module _ (L : Layout) (lo : LayoutOk L) (t : Tables) (cs : List Contract) (g : F
   abbrev early : List Cause
   early = 3 when not (proper L a c) ∷ tableCauses L t a c
 
-  turns : answer early ≡ 0 → Turns L d ds
+  pub turns : answer early ≡ 0 → Turns L d ds
   turns e = let p = answer-zero 2 (not (proper L a c)) (tableCauses L t a c) e in kinds c .0 L t cs a g st va vc (not-false (proper L a c) (p .0)) (p .1)
 
   pub answers-agree : answer (judgeCauses L t q) ≡ answer (causes3to11 L cs q)

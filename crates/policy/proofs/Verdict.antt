@@ -147,7 +147,7 @@ module _ (L : Layout) (t : Tables) (lost : List Unmet) (ds : List Contract) (g :
           let x = fro (h .0) (c .0) (h .2) (r .0) (k .0) (k .1) in
           in-cast (r .2 ∙ (λ i. record { owner = h .2 .aid i; row = r .0 }) ∙ sym (x .2)) (in-map link (x .1))
 
-  unmet-count : length (t .unmet) ≡ length (unmetCalls ds)
+  pub unmet-count : length (t .unmet) ≡ length (unmetCalls ds)
   unfolding unmetCalls
   unmet-count = same-count (t .unmet) link (λ c. c .calls) (λ _ r. not (met ds r)) (g .unmet .unmet-once) inj (λ c m. st .four-sets c m .calls) to
       (λ n c h r m f. fro n r f (h .calls r .0 m))
@@ -173,7 +173,7 @@ module _ (L : Layout) (t : Tables) (lost : List Unmet) (ds : List Contract) (g :
   stands-i n c h r i k u e p f = and-i (installed ds (r .aid)) (hasTok (r .tok) (c .provides))
       (under-i L t (g .names) st (r .aid) (λ c. true) i u e (λ c _ h. tt)) (tok-has (h .provides (r .tok) .1 (ProvidesAt.at k p (sym f))))
 
-  waiting-count : length (t .waiting) ≡ length (waitingGrants ds)
+  pub waiting-count : length (t .waiting) ≡ length (waitingGrants ds)
   unfolding waitingGrants
   waiting-count = same-count (t .waiting) link (λ c. c .grants) (waits ds) (g .waiting .wait-once) inj (λ c m. st .four-sets c m .grants) to
       (λ n c h r m f. fro n c h r f (h .grants r .0 m))
