@@ -5,7 +5,7 @@ use mathlib.Core.Path.{_≡_, refl, sym, ap, _∙_, subst}
 use mathlib.Core.Logic.{_⊎_, inl, inr, ⊎-map}
 use mathlib.Core.Bool.{Bool, true, false, not, cond}
 use mathlib.Core.List.{List, [], _∷_, map}
-use mathlib.Core.List.{List·Memᴰ as In, List·Memᴰ·head as here, List·Memᴰ·not-nil as in-nil}
+use mathlib.Core.List.{List·Memᴰ as In, List·Memᴰ·head as here, List·Memᴰ·tail as there, List·Memᴰ·not-nil as in-nil}
 use lib.Dec.{T, eqb, eqb→eq, leb, leb→le, ltb}
 use lib.ListN.{length, take, drop}
 use lib.Seq.{take-append-seam}
@@ -34,9 +34,13 @@ use Rattle.policy.proofs.Eras.{converts, history-from}
 use Rattle.policy.proofs.Theorems.{empty-stands, so-far, first-cause, accepted-exactly, sound-stands, read-out-again, narrow-ok, small-ok}
 use Rattle.conditions.specs.Claims.{ThreeConditions}
 use Rattle.conditions.proofs.Theorems.{load-conditions}
-use Rattle.card.specs.Packed.{answerOf, secondOf, aidPlace}
+use Rattle.noninterference.specs.Alike.{Alike}
+use Rattle.noninterference.specs.Claims.{RecordOf, Told, told}
+use Rattle.noninterference.proofs.Theorems.{not-watched, stay-alike}
+use Rattle.noninterference.proofs.Unseen.{unseen}
+use Rattle.card.specs.Packed.{joined, answerOf, secondOf, aidPlace}
 use Rattle.card.specs.Calls.{Returned, Converted, Calls}
-use Rattle.card.specs.Demands.{Refused, CallsAnswer, CallsCause, CallsVerdict, Restores, CallsReadOut, CallsNumber, HistoryOfCalls, imageOld, contractsOld, CallsHistory, CallsConvert, CallsNeeds, CallsAid, CallsConditions}
+use Rattle.card.specs.Demands.{Refused, CallsAnswer, CallsCause, CallsVerdict, Restores, CallsReadOut, CallsNumber, HistoryOfCalls, imageOld, contractsOld, CallsHistory, CallsConvert, CallsNeeds, CallsAid, CallsConditions, CallsNotWatched}
 use Rattle.card.proofs.Packs.{placed, aid-short}
 use Rattle.card.proofs.Tells.{Tells, checked-tells, emptied-tells, converted, converted-tells, judged-tells, wrote, read-tells}
 
@@ -299,3 +303,28 @@ calls-needs =
 -- ---- R-3
 pub calls-conditions : CallsConditions
 calls-conditions image rec r left cs b c h = subst (ThreeConditions small cs b) (sym (judged-tells image rec c .answer)) (load-conditions small small-ok image rec cs b h .0)
+
+-- ---- R-6
+-- the same is told of two records
+same-result : {o₁ o₂ : Out} {r₁ r₂ : ℕ} {left₁ left₂ : List ℕ} → Returned o₁ r₁ left₁ → Returned o₂ r₂ left₂ → told o₁ ≡ told o₂ → r₁ ≡ r₂
+same-result c₁ c₂ e = c₁ .result ∙ ap (λ (t : Told). joined (t .answer) (t .second)) e ∙ sym (c₂ .result)
+
+calls-alike : (b : Aid) (ss : List (List ℕ)) (rs₁ rs₂ image₁ image₂ left₁ left₂ : List ℕ) → Alike small b image₁ image₂ → ((s : List ℕ) → In s ss → RecordOf small b s)
+    → Calls image₁ ss rs₁ left₁ → Calls image₂ ss rs₂ left₂ → (rs₁ ≡ rs₂) × Alike small b left₁ left₂
+calls-alike b [] [] [] image₁ image₂ left₁ left₂ al of h₁ h₂ = (refl, rw (h₁, h₂) al)
+calls-alike b [] [] (r ∷ rs) image₁ image₂ left₁ left₂ al of h₁ h₂ = absurd h₂
+calls-alike b [] (r ∷ rs) rs₂ image₁ image₂ left₁ left₂ al of h₁ h₂ = absurd h₁
+calls-alike b (s ∷ ss) [] rs₂ image₁ image₂ left₁ left₂ al of h₁ h₂ = absurd h₁
+calls-alike b (s ∷ ss) (r₁ ∷ rs₁) [] image₁ image₂ left₁ left₂ al of h₁ h₂ = absurd h₂
+calls-alike b (s ∷ ss) (r₁ ∷ rs₁) (r₂ ∷ rs₂) image₁ image₂ left₁ left₂ al of (mid₁, c₁, h₁) (mid₂, c₂, h₂) =
+    let own = of s (here refl) in
+    let k = calls-alike b ss rs₁ rs₂ mid₁ mid₂ left₁ left₂ (rw (c₁ .left-is, c₂ .left-is) (stay-alike small small-ok b image₁ image₂ s al own)) (λ z m. of z (there m)) h₁ h₂ in
+    ((λ i. same-result c₁ c₂ (not-watched small small-ok b image₁ image₂ s al own) i ∷ k .0 i), k .1)
+
+pub calls-not-watched : CallsNotWatched
+calls-not-watched b image₁ image₂ al =
+    record {
+      same = λ rec r₁ r₂ left₁ left₂ own c₁ c₂. let e = same-result c₁ c₂ (not-watched small small-ok b image₁ image₂ rec al own) in (ap answerOf e, ap secondOf e);
+      histories = λ ss rs₁ rs₂ left₁ left₂. calls-alike b ss rs₁ rs₂ image₁ image₂ left₁ left₂ al;
+      others = λ ss₁ ss₂ rs₁ rs₂ left₁ left₂ among h₁ h₂. rw (as-history ss₁ rs₁ image₁ h₁ .1, as-history ss₂ rs₂ image₂ h₂ .1) (unseen small small-ok b image₁ image₂ ss₁ ss₂ al among);
+    }

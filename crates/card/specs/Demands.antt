@@ -3,7 +3,7 @@ use Prim.Native.Nat.{ℕ, _≤_, _<_}
 use mathlib.Core.Path.{_≡_}
 use mathlib.Core.Logic.{_↔_, _⊎_}
 use mathlib.Core.Bool.{not, _&&_}
-use mathlib.Core.List.{List, [], _∷_, map}
+use mathlib.Core.List.{List, [], _∷_, _++_, map}
 use mathlib.Core.List.{List·Memᴰ as In}
 use mathlib.Core.Option.{none, some}
 use lib.Dec.{T, eqb, leb, ltb}
@@ -26,6 +26,8 @@ use Rattle.policy.specs.Needs.{NeededBy, NeedsOn, MovesNeed}
 use Rattle.policy.specs.Eras.{imageThen, contractsThen}
 use Rattle.policy.specs.Claims.{CallsGranted, NeedsPresent, FitsLimits, IsFirst, allCauses}
 use Rattle.conditions.specs.Claims.{FreeLoad, ThreeConditions}
+use Rattle.noninterference.specs.Alike.{Alike}
+use Rattle.noninterference.specs.Claims.{RecordOf, AmongOthers}
 use Rattle.card.specs.Packed.{answerOf, secondOf}
 use Rattle.card.specs.Calls.{Checked, Emptied, Converted, Judged, ReadInto, AidFound, Calls}
 
@@ -189,3 +191,22 @@ pub record CallsNeeds : Type 0 where
 abbrev pub CallsConditions : Type 0
 CallsConditions = (image rec : List ℕ) (r : ℕ) (left : List ℕ) (cs : List Contract) (b : Contract) → Judged image rec r left
     → FreeLoad small image rec cs b → ThreeConditions small cs b (answerOf r)
+
+-- ---- R-6: 'Suppliers must not watch each other', of calls on two cards that are alike for B
+pub record CallsAlike (b : Aid) (image₁ image₂ : List ℕ) : Type 0 where
+  -- 'A record whose first AID is B's gets the same answer and second number on both.'
+  pub same : (rec : List ℕ) (r₁ r₂ : ℕ) (left₁ left₂ : List ℕ) → RecordOf small b rec
+      → Judged image₁ rec r₁ left₁ → Judged image₂ rec r₂ left₂
+      → (answerOf r₁ ≡ answerOf r₂) × (secondOf r₁ ≡ secondOf r₂)
+  -- so do all that follow
+  pub histories : (ss : List (List ℕ)) (rs₁ rs₂ left₁ left₂ : List ℕ) → ((s : List ℕ) → In s ss → RecordOf small b s)
+      → Calls image₁ ss rs₁ left₁ → Calls image₂ ss rs₂ left₂ → (rs₁ ≡ rs₂) × Alike small b left₁ left₂
+  -- what others do among themselves leaves the cards alike where both lists are as long
+  pub others : (ss₁ ss₂ : List (List ℕ)) (rs₁ rs₂ left₁ left₂ : List ℕ) → ((s : List ℕ) → In s (ss₁ ++ ss₂) → AmongOthers small b s)
+      → Calls image₁ ss₁ rs₁ left₁ → Calls image₂ ss₂ rs₂ left₂
+      → length (decode small left₁ .unmet) ≡ length (decode small left₂ .unmet)
+      → length (decode small left₁ .waiting) ≡ length (decode small left₂ .waiting)
+      → Alike small b left₁ left₂
+
+abbrev pub CallsNotWatched : Type 0
+CallsNotWatched = (b : Aid) (image₁ image₂ : List ℕ) → Alike small b image₁ image₂ → CallsAlike b image₁ image₂
