@@ -8,6 +8,7 @@ mod misread;
 pub mod replace;
 pub mod retired;
 pub mod tokens;
+pub mod watched;
 pub mod worked;
 
 use crate::card::{Card, Verdict, BYTES};
@@ -34,6 +35,7 @@ pub struct Case {
 }
 
 /// A record, and what judging it gives.
+#[derive(Clone)]
 pub struct Step {
     pub record: Vec<u8>,
     pub verdict: Verdict,
@@ -47,7 +49,9 @@ pub fn all() -> Vec<Case> {
 
 /// Those of the requests, in the order in which they landed.
 pub fn requests() -> impl Iterator<Item = Case> {
-    [tokens::cases(), early::cases(), replace::cases(), retired::cases(), conditions::cases()].into_iter().flatten()
+    let landed =
+        [tokens::cases(), early::cases(), replace::cases(), retired::cases(), conditions::cases(), watched::cases()];
+    landed.into_iter().flatten()
 }
 
 /// The case of this name.

@@ -15,6 +15,7 @@ use crate::replace::Replaced;
 use crate::retired::{OldNeeds, Retired};
 use crate::rules::Rules;
 use crate::tables::{self, Tables};
+use crate::watched::{turns, Seen};
 use std::collections::{BTreeMap, BTreeSet};
 use std::fmt;
 use std::hint::black_box;
@@ -51,6 +52,9 @@ macro_rules! expect {
 /// What a buffer holds before an engine gets it.
 const FILL: [u8; LONGEST_RECORD] = [0xA5; LONGEST_RECORD];
 
+/// Of the records that are judged by the rules in force, so many in a hundred are followed by a pair of cards, by R-6.
+const WATCHED: usize = 5;
+
 /// What a run has seen.
 #[derive(Default)]
 pub struct Tally {
@@ -86,6 +90,8 @@ pub struct Tally {
     pub retired: BTreeMap<Retired, u64>,
     /// Loads that are free of causes 2 to 7, by R-3.
     pub loads: BTreeMap<Outcome, u64>,
+    /// Records of one package on pairs of cards that are alike for it, by R-6.
+    pub watched: Seen,
     /// By their places in records: method tokens of 127 that are read, and of 128 where nothing else is wrong.
     pub methods: BTreeMap<Place, [u64; 2]>,
     /// By their places in images: method tokens that damage sets to 127 on an image that stays sound, and to 128.
@@ -110,6 +116,8 @@ pub struct Compare<'a> {
     /// The image, the same in every engine. It has the version of the rules, but for a card left out before it was converted.
     pub image: Vec<u8>,
     seed: u64,
+    /// So many records in a hundred are followed by a pair of cards.
+    pub watched: usize,
 }
 
 impl<'a> Compare<'a> {
@@ -140,6 +148,7 @@ impl<'a> Compare<'a> {
             machine: Machine::default(),
             image,
             seed,
+            watched: WATCHED,
         })
     }
 
@@ -214,7 +223,11 @@ impl<'a> Compare<'a> {
             return Ok(verdict);
         }
         let before = self.image.clone();
+        let mut watching = random.apart();
         if !self.left_out {
+            if watching.percent(self.watched) {
+                turns::compare(&self.cards, &self.image, watching, &mut tally.watched)?;
+            }
             self.load_by_conditions(&held, bytes, verdict, tally)?;
             self.check_alike()?;
             self.read_out_alike(&mut random, tally)?;

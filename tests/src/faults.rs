@@ -4,6 +4,7 @@
 mod conditions;
 mod replace;
 mod retired;
+mod watched;
 
 use crate::bytes::layout::{aid, is_aid};
 use crate::bytes::relation::{Listed, Relation};
@@ -199,6 +200,16 @@ pub const FAULTS: &[Fault] = &[
     Fault { name: "any-grant-will-do", entry: Entry::Judge(conditions::any_grant_will_do) },
     Fault { name: "waiting-grants-unseen", entry: Entry::Judge(conditions::waiting_grants_unseen) },
     Fault { name: "calls-for-needs", entry: Entry::Judge(conditions::calls_for_needs) },
+    Fault { name: "one-caller", entry: Entry::Judge(watched::one_caller) },
+    Fault { name: "needed-by-another", entry: Entry::Judge(watched::needed_by_another) },
+    Fault { name: "next-callers-number", entry: Entry::Judge(watched::next_callers_number) },
+    Fault { name: "every-call-counted", entry: Entry::Judge(watched::every_call_counted) },
+    Fault { name: "every-grant-counted", entry: Entry::Judge(watched::every_grant_counted) },
+    Fault { name: "last-row-unsearched", entry: Entry::Judge(watched::last_row_unsearched) },
+    Fault { name: "seventh-ungranted", entry: Entry::Judge(watched::seventh_ungranted) },
+    Fault { name: "caller-not-compared", entry: Entry::Judge(watched::caller_not_compared) },
+    Fault { name: "callee-not-compared", entry: Entry::Judge(watched::callee_not_compared) },
+    Fault { name: "grant-goes-with-last-call", entry: Entry::Judge(watched::grant_goes_with_last_call) },
 ];
 
 /// The fault that the option `--fault` names.

@@ -6,7 +6,7 @@ mod fit;
 mod loose;
 mod spoil;
 
-use crate::machine::{Aid, Machine, Tokens};
+use crate::machine::{record, Aid, Machine, Tokens};
 use crate::random::Random;
 use crate::rules::Rules;
 use crate::write;
@@ -30,19 +30,37 @@ pub struct Source {
     /// The rules of the time.
     rules: Rules,
     drive: Drive,
-    aids: Vec<Aid>,
+    pub aids: Vec<Aid>,
     tokens: Vec<Tokens>,
+    /// The package that each record is to be of, where it is to be of one.
+    own: Option<Aid>,
 }
 
 impl Source {
     /// The history with this ordinal of the run with this seed.
     pub fn new(seed: u64, ordinal: u64) -> Source {
-        let mut random = Random::new(seed.wrapping_mul(0x1000_0000_01B3).wrapping_add(ordinal));
+        let random = Random::new(seed.wrapping_mul(0x1000_0000_01B3).wrapping_add(ordinal));
+        Source::with(Vec::new(), Vec::new(), random)
+    }
+
+    /// A source by the rules in force that has these AIDs and tokens, and more where they are few.
+    pub fn with(aids: Vec<Aid>, tokens: Vec<Tokens>, mut random: Random) -> Source {
         let drives = [Drive::Mixed, Drive::Lists, Drive::Packages, Drive::Services];
         let drive = drives[random.below(drives.len())];
         let rules = Rules::IN_FORCE;
-        let (aids, tokens) = (few_aids(&mut random), few_tokens(&mut random, rules, Vec::new()));
-        Source { random, rules, drive, aids, tokens }
+        let (aids, tokens) = (few_aids(&mut random, aids), few_tokens(&mut random, rules, tokens));
+        Source { random, rules, drive, aids, tokens, own: None }
+    }
+
+    /// A record whose first AID is this one, aimed at the contracts held, or a malformed one.
+    pub fn record_of(&mut self, own: Aid, held: &Machine) -> Vec<u8> {
+        self.own = Some(own);
+        loop {
+            let record = self.record(held);
+            if record::read(self.rules, &record).map_or(true, |record| record.aid == own) {
+                return record;
+            }
+        }
     }
 
     /// How many changes of the rules the history goes over. It begins with the tokens of the rules before them.
@@ -95,7 +113,10 @@ impl Source {
     }
 
     fn good_record(&mut self, held: &Machine) -> Vec<u8> {
-        let kind = self.kind(held.contracts.len());
+        let kind = match self.own {
+            Some(own) => self.kind_of(own, held),
+            None => self.kind(held.contracts.len()),
+        };
         match self.random.percent(85) {
             true => self.fit(kind, held).unwrap_or_else(|| self.loose(kind)),
             false => self.loose(kind),
@@ -127,6 +148,16 @@ impl Source {
         unreachable!("the weights sum to more than is left")
     }
 
+    /// Of one package: mostly a load while it is absent, else every kind, one that the rules do not read seldom.
+    fn kind_of(&mut self, own: Aid, held: &Machine) -> u8 {
+        let kinds = self.rules.kinds;
+        match self.random.below(100) {
+            0..=9 => self.random.between(1, 11) as u8,
+            10..=69 if !held.contracts.contains_key(&own) => 1,
+            _ => kinds[self.random.below(kinds.len())],
+        }
+    }
+
     fn aid(&mut self) -> Aid {
         self.aids[self.random.below(self.aids.len())]
     }
@@ -140,6 +171,19 @@ impl Source {
         self.aid().bytes().to_vec()
     }
 
+    /// The AID of the package that the record is to be of, or any, as its bytes.
+    fn own_bytes(&mut self) -> Vec<u8> {
+        match self.own {
+            Some(own) => own.bytes().to_vec(),
+            None => self.bytes(),
+        }
+    }
+
+    /// Whether a record may be of this package.
+    fn may_be_of(&self, aid: &Aid) -> bool {
+        self.own.is_none_or(|own| own == *aid)
+    }
+
     /// Any row.
     fn row(&mut self) -> write::Row {
         (self.bytes(), pair(self.tokens()))
@@ -150,10 +194,10 @@ fn pair(tokens: Tokens) -> write::Tokens {
     (tokens.interface, tokens.method)
 }
 
-/// Eleven AIDs of 5 to 16 bytes: three more than a card has packages. Some begin alike, and some
+/// Eleven AIDs of 5 to 16 bytes, those given among them: three more than a card has packages. Some begin alike, and some
 /// differ only in zeros at the end, which a table's fill must not blur.
-fn few_aids(random: &mut Random) -> Vec<Aid> {
-    let mut aids: Vec<Aid> = Vec::new();
+fn few_aids(random: &mut Random, given: Vec<Aid>) -> Vec<Aid> {
+    let mut aids = given;
     while aids.len() < 11 {
         let mut aid = match random.pick(&aids) {
             Some(like) if random.percent(50) => like.bytes().to_vec(),

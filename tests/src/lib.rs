@@ -26,6 +26,7 @@ pub mod retired;
 pub mod run;
 pub mod shrink;
 pub mod tables;
+pub mod watched;
 
 // The cases of the paper and of the report.
 pub mod cases;

@@ -111,6 +111,11 @@ impl Pairs {
         self.0.get(&(kind, answer)).copied().unwrap_or(0)
     }
 
+    /// How many records were seen.
+    pub fn total(&self) -> u64 {
+        self.0.values().sum()
+    }
+
     /// How many of some pairs were seen, and how many there are.
     pub fn coverage(&self, pairs: impl Iterator<Item = (Kind, u32)>) -> (usize, usize) {
         let (seen, missing): (Vec<_>, Vec<_>) = pairs.partition(|(kind, answer)| self.seen(*kind, *answer) > 0);

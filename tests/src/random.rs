@@ -13,6 +13,11 @@ impl Random {
         Random(mixed)
     }
 
+    /// Another one, decided by where this one is. This one gives the same numbers after it as without it.
+    pub fn apart(&self) -> Random {
+        Random(!self.0.rotate_left(32))
+    }
+
     pub fn number(&mut self) -> u64 {
         self.0 = self.0.wrapping_add(0x9E37_79B9_7F4A_7C15);
         let mixed = (self.0 ^ (self.0 >> 30)).wrapping_mul(0xBF58_476D_1CE4_E5B9);

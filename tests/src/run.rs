@@ -12,6 +12,10 @@ use std::panic::{catch_unwind, AssertUnwindSafe};
 pub const DEFAULT_SEED: u64 = 455;
 pub const DEFAULT_RECORDS: u64 = 100_000;
 
+/// In a replay so many records in a hundred are followed by a pair of cards: by those that were in the run, and by more, so that
+/// a shorter history may do.
+const WATCHED_IN_REPLAYS: usize = 25;
+
 /// A history after which something differs.
 pub struct Failure {
     pub difference: Difference,
@@ -79,6 +83,7 @@ pub fn replay(cards: &[&dyn Card], seed: u64, history: &[Event], damage: &Damage
     let mut tally = Tally::default();
     caught(|| {
         let mut compare = Compare::before(cards, seed, changes(history))?;
+        compare.watched = WATCHED_IN_REPLAYS;
         compare.damaged_alike(damage, &[], &mut tally)?;
         history.iter().try_for_each(|event| {
             compare.event(event, &mut tally)?;

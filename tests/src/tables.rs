@@ -7,7 +7,7 @@ use crate::machine::{Aid, Contract, Machine, Row, Tokens};
 use crate::rules::Rules;
 
 /// What an image's tables say, whichever version it has.
-#[derive(Debug, Default, PartialEq, Eq)]
+#[derive(Clone, Debug, Default, PartialEq, Eq)]
 pub struct Tables {
     pub packages: [Option<Package>; 8],
     /// The bits set, by callee, caller and service.
@@ -18,7 +18,7 @@ pub struct Tables {
     pub waiting: Vec<Waiting>,
 }
 
-#[derive(Debug, PartialEq, Eq)]
+#[derive(Clone, Debug, PartialEq, Eq)]
 pub struct Package {
     pub aid: Aid,
     pub services: [Option<Tokens>; 8],
@@ -155,16 +155,33 @@ impl Tables {
         image
     }
 
+    /// The number of the package with this AID.
+    pub fn number(&self, aid: Aid) -> Option<usize> {
+        self.packages.iter().position(|package| package.as_ref().is_some_and(|package| package.aid == aid))
+    }
+
     /// The number of the package's service with these tokens.
     pub fn service(&self, package: usize, tokens: Tokens) -> Option<usize> {
-        let package = self.packages.get(package)?.as_ref()?;
-        package.services.iter().position(|service| *service == Some(tokens))
+        self.at(package)?.services.iter().position(|service| *service == Some(tokens))
+    }
+
+    /// Gives the services of the package other numbers, by those that they have.
+    pub fn renumber(&mut self, package: usize, number: impl Fn(usize) -> usize) {
+        let Some(own) = &mut self.packages[package] else { return };
+        let old = std::mem::take(&mut own.services);
+        for (service, tokens) in old.into_iter().enumerate().filter(|(_, tokens)| tokens.is_some()) {
+            own.services[number(service)] = tokens;
+        }
+        for bit in [&mut self.calls, &mut self.grants, &mut self.needs].into_iter().flatten() {
+            if bit.callee == package {
+                bit.service = number(bit.service);
+            }
+        }
     }
 
     /// What a sound image has besides the right form.
     fn hold(&self, rules: Rules) -> bool {
         let installed = || self.packages.iter().flatten();
-        let number = |n: usize| self.packages.get(n).and_then(Option::as_ref);
         let aids_differ = differ(installed().map(|package| package.aid));
         let tokens_differ = installed().all(|package| differ(package.services.iter().flatten()));
         let provided = installed().flat_map(|package| package.services.iter().flatten());
@@ -172,21 +189,32 @@ impl Tables {
         let methods_stop = provided.chain(listed).all(|tokens| tokens.method <= rules.most_method);
         let lawful = self.calls.iter().all(|call| self.grants.binary_search(call).is_ok());
         let rows_differ = differ(self.unmet.iter()) && differ(self.waiting.iter());
-        let unmet_hold = self.unmet.iter().all(|row| {
-            let provided =
-                installed().any(|package| package.aid == row.callee && package.services.contains(&Some(row.tokens)));
-            number(row.caller).is_some_and(|caller| caller.aid != row.callee) && !provided
-        });
-        let waiting_hold = self.waiting.iter().all(|row| {
-            let here = installed().any(|package| package.aid == row.caller);
-            let provided = self.service(row.callee, row.tokens).is_some();
-            number(row.callee).is_some_and(|callee| callee.aid != row.caller) && !(here && provided)
-        });
+        let unmet_hold = self.unmet.iter().all(|row| self.unmet_holds(row));
+        let waiting_hold = self.waiting.iter().all(|row| self.waiting_holds(row));
         aids_differ && tokens_differ && methods_stop && lawful && rows_differ && unmet_hold && waiting_hold
     }
 
+    /// "Every unmet call has a valid AID other than its caller's, a used caller and no such service on the card."
+    pub fn unmet_holds(&self, row: &Unmet) -> bool {
+        let provides = |package: &Package| package.aid == row.callee && package.services.contains(&Some(row.tokens));
+        let another = self.at(row.caller).is_some_and(|caller| caller.aid != row.callee);
+        another && !self.packages.iter().flatten().any(provides)
+    }
+
+    /// Every waiting grant has a valid AID other than its callee's, a used callee, "and not both an installed caller and a
+    /// service that the callee provides". Before R-2 a waiting grant names a service by its number.
+    pub fn waiting_holds(&self, row: &Waiting) -> bool {
+        let another = self.at(row.callee).is_some_and(|callee| callee.aid != row.caller);
+        another && !(self.number(row.caller).is_some() && self.service(row.callee, row.tokens).is_some())
+    }
+
+    /// The package with this number.
+    pub fn at(&self, number: usize) -> Option<&Package> {
+        self.packages.get(number).and_then(Option::as_ref)
+    }
+
     /// The contracts, one for each used number under its AID.
-    fn machine(&self) -> Machine {
+    pub fn machine(&self) -> Machine {
         let mut contracts = [const { None }; 8];
         for (contract, package) in contracts.iter_mut().zip(&self.packages) {
             *contract = package.as_ref().map(|package| Contract {
@@ -233,7 +261,7 @@ fn form(rules: Rules) -> ([u8; 3], usize, usize) {
 }
 
 /// The places that a bit may have, upwards: two different used numbers and a service provided.
-fn places(packages: &[Option<Package>; 8]) -> Vec<Bit> {
+pub fn places(packages: &[Option<Package>; 8]) -> Vec<Bit> {
     let mut places = Vec::new();
     for (callee, package) in packages.iter().enumerate() {
         let Some(package) = package else { continue };

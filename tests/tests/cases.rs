@@ -1,14 +1,16 @@
 //! The table of cases holds on the machine and on every engine.
 
 use second::card::{linked, Card, Verdict, BYTES, IMAGE};
-use second::cases::{all, conditions, early, named, replace, retired, tokens, worked};
+use second::cases::{all, conditions, early, named, replace, retired, tokens, watched, worked, Step, B};
 use second::conditions::Outcome;
 use second::damage::Damage;
 use second::early::Early;
+use second::machine::Aid;
 use second::methods::Place;
 use second::replace::Replaced;
 use second::retired::Retired;
 use second::run::replay;
+use second::watched::{alike, Watched};
 use std::collections::BTreeSet;
 
 #[test]
@@ -111,6 +113,32 @@ fn every_outcome_of_the_conditions_has_its_case() {
         seen.extend(tally.loads.keys().copied());
     }
     assert_eq!(seen, Outcome::all().collect());
+}
+
+/// Each thing that two cards may differ in that are alike for B has its pair, and the cards stay alike.
+#[test]
+fn every_difference_among_others_has_its_pair_of_cases() {
+    let own = Aid::new(B);
+    let mut seen = BTreeSet::new();
+    let judge = |image: &mut Vec<u8>, step: &Step| assert_eq!(BYTES.judge(image, &step.record), step.verdict);
+    for pair in watched::pairs() {
+        let mut images = [(); 2].map(|()| vec![0; IMAGE]);
+        for (image, steps) in images.iter_mut().zip(&pair.cards) {
+            BYTES.empty(image);
+            steps.iter().for_each(|step| judge(image, step));
+        }
+        let alike =
+            |images: &[Vec<u8>; 2]| alike(own, images.each_ref().map(Vec::as_slice)).expect("cards alike for B");
+        let tables = alike(&images);
+        seen.extend(Watched::differences(own, &tables));
+        seen.insert(Watched::standing(&tables[0], own));
+        for step in &pair.own {
+            images.iter_mut().for_each(|image| judge(image, step));
+            alike(&images);
+        }
+    }
+    let unseen = Watched::ALL.into_iter().filter(|shown| !seen.contains(shown)).collect::<Vec<_>>();
+    assert_eq!(unseen, [Watched::Unnamed, Watched::OneChanges, Watched::BothChange]);
 }
 
 /// The report's Examples 5 to 8: the mapping, the tables of jTicket's needs and ePurse's grants.

@@ -87,4 +87,5 @@ fn a_short_run_finds_nothing_in_the_byte_engine() {
     assert!(tally.contracts_read > 1_000 && tally.damaged_sound > 100 && tally.damaged_unsound > 1_000);
     assert!(tally.converted > 20 && tally.not_converted > 100 && tally.early.len() > 5);
     assert!(tally.replaced.len() > 9 && tally.too_early > 9 && tally.retired.len() > 6 && tally.loads.len() > 6);
+    assert!(tally.watched.records.total() > 1_000 && tally.watched.shown.len() > 10);
 }

@@ -15,6 +15,7 @@ use second::retired::Retired;
 use second::rules::Rules;
 use second::run::{replay, run, DEFAULT_RECORDS, DEFAULT_SEED};
 use second::say_line;
+use second::watched::Watched;
 use std::collections::BTreeMap;
 use std::fmt::Display;
 use std::process::ExitCode;
@@ -104,6 +105,7 @@ fn run_histories(cards: &[&dyn Card], arguments: &Arguments) -> Result<(), Failu
 fn report(tally: &Tally) -> String {
     let (seen, possible) = tally.pairs.coverage(all(Rules::IN_FORCE));
     let (seen_before, gone) = tally.pairs_before.coverage(gone());
+    let (of_b, possible_of_b) = tally.watched.records.coverage(on_sound_cards());
     format!(
         "{}\n{} records, all alike; {seen} of {possible} pairs (kind, answer) seen, and {seen_before} of {gone} before that are gone\n\
          {} contracts read out; damaged images: {} sound, {} not\n\
@@ -115,6 +117,7 @@ fn report(tally: &Tally) -> String {
          whole contracts: {}; before their rules {}\n\
          needs that kind 9 set: {}\n\
          loads by the report's conditions: {}\n\
+         cards alike for a package B: {}; its records on both: {}, {of_b} of {possible_of_b} pairs (kind, answer) seen\n\
          method tokens 127 and 128 in records: {}\n\
          on damaged images: {}",
         tally.pairs,
@@ -139,6 +142,8 @@ fn report(tally: &Tally) -> String {
         tally.too_early,
         joined(retired(tally).into_iter().map(counted)),
         joined(loads(tally).into_iter().map(counted)),
+        joined(watched(tally).into_iter().map(counted)),
+        tally.watched.records.total(),
         joined(methods(tally).into_iter().map(both)),
         joined(methods_held(tally).into_iter().map(both)),
     )
@@ -177,6 +182,15 @@ fn loads(tally: &Tally) -> Vec<(Outcome, u64)> {
     seen(Outcome::all(), &tally.loads)
 }
 
+fn watched(tally: &Tally) -> Vec<(Watched, u64)> {
+    seen(Watched::ALL, &tally.watched.shown)
+}
+
+/// The pairs that a record of B's can show on a sound card: cause 1 is none of them.
+fn on_sound_cards() -> impl Iterator<Item = (Kind, u32)> {
+    all(Rules::IN_FORCE).filter(|(_, answer)| *answer != 1)
+}
+
 /// Method tokens of 127, and of 128, in each place of records.
 fn methods(tally: &Tally) -> Vec<(Place, [u64; 2])> {
     seen(Place::all(), &tally.methods)
@@ -202,6 +216,7 @@ fn everything_seen(tally: &Tally) -> Result<(), String> {
     for (when, missing) in [
         ("", tally.pairs.missing(all(Rules::IN_FORCE))),
         (" before they were gone", tally.pairs_before.missing(gone())),
+        (" of a package on cards alike for it", tally.watched.records.missing(on_sound_cards())),
     ] {
         if !missing.is_empty() {
             return Err(format!("never seen{when}: {}", joined(missing.into_iter().map(pair))));
@@ -223,6 +238,7 @@ fn everything_seen(tally: &Tally) -> Result<(), String> {
         ("whole contracts", unseen(replaced(tally))),
         ("needs that kind 9 set, and kinds that are retired,", unseen(retired(tally))),
         ("loads by the report's conditions", unseen(loads(tally))),
+        ("cards alike for a package", unseen(watched(tally))),
     ] {
         if !unseen.is_empty() {
             return Err(format!("{what} were never seen: {unseen}"));

@@ -36,16 +36,8 @@ fn replacing(image: &[u8], bytes: &[u8]) -> Option<(Record, Lists, Machine)> {
 
 /// Gives the package's services other numbers.
 fn renumber(tables: &mut Tables, package: usize, number: impl Fn(Tokens) -> usize) {
-    let Some(own) = &mut tables.packages[package] else { return };
-    let old = std::mem::take(&mut own.services);
-    for tokens in old.into_iter().flatten() {
-        own.services[number(tokens)] = Some(tokens);
-    }
-    for bit in [&mut tables.calls, &mut tables.grants, &mut tables.needs].into_iter().flatten() {
-        if let (true, Some(tokens)) = (bit.callee == package, old[bit.service]) {
-            bit.service = number(tokens);
-        }
-    }
+    let Some(services) = tables.at(package).map(|own| own.services) else { return };
+    tables.renumber(package, |service| services[service].map_or(service, &number));
 }
 
 /// Services take 0, 1, 2 in record order, also those in both contracts.

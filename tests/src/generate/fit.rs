@@ -8,7 +8,11 @@ use crate::write;
 impl Source {
     /// `None` when the contracts held leave nothing that fits.
     pub(super) fn fit(&mut self, kind: u8, held: &Machine) -> Option<Vec<u8>> {
+        // Of one package what it has comes again too, which random names seldom hit.
+        let again = self.own.is_some() && self.random.percent(10);
         match kind {
+            5 if again => self.fit_old_row(5, held, |contract| contract.calls.iter().collect()),
+            7 if again => self.fit_old_row(7, held, |contract| contract.grants.iter().collect()),
             1 => {
                 let absent = self.not_installed(held);
                 let own = *self.random.pick(&absent)?;
@@ -58,11 +62,12 @@ impl Source {
 
     /// A package that is installed and suits.
     fn installed<'m>(&mut self, held: &'m Machine, suits: impl Fn(&Contract) -> bool) -> Option<(Aid, &'m Contract)> {
-        let suiting: Vec<_> = held.contracts.iter().filter(|(_, contract)| suits(contract)).collect();
+        let may_be = |(aid, contract): &(&Aid, &Contract)| self.may_be_of(aid) && suits(contract);
+        let suiting: Vec<_> = held.contracts.iter().filter(may_be).collect();
         self.random.pick(&suiting).map(|(aid, contract)| (**aid, *contract))
     }
 
-    /// Kinds 6 and 8 to 10 on one of some rows that a contract has.
+    /// Kinds 5 to 10 on one of some rows that a contract has.
     fn fit_old_row(&mut self, kind: u8, held: &Machine, rows: impl Fn(&Contract) -> Vec<&Row>) -> Option<Vec<u8>> {
         let (own, contract) = self.installed(held, |contract| !rows(contract).is_empty())?;
         let rows = rows(contract);
@@ -243,7 +248,8 @@ impl Source {
     }
 
     fn not_installed(&self, held: &Machine) -> Vec<Aid> {
-        self.aids.iter().filter(|aid| !held.contracts.contains_key(*aid)).copied().collect()
+        let absent = |aid: &&Aid| self.may_be_of(aid) && !held.contracts.contains_key(*aid);
+        self.aids.iter().filter(absent).copied().collect()
     }
 
     /// Services of others that nobody on the card provides.

@@ -5,7 +5,7 @@ use crate::write;
 
 impl Source {
     pub(super) fn loose(&mut self, kind: u8) -> Vec<u8> {
-        let own = &self.bytes();
+        let own = &self.own_bytes();
         match kind {
             1 | 11 => {
                 let provides: Vec<_> = (0..self.random.between(0, 3)).map(|_| pair(self.tokens())).collect();
@@ -36,7 +36,7 @@ impl Source {
 
     /// A record with lists as long as they may be, or one row longer.
     pub(super) fn long_record(&mut self) -> Vec<u8> {
-        let own = self.bytes();
+        let own = self.own_bytes();
         let mut aid = vec![0xEE; self.random.between(5, 16)];
         let mut next = |n: usize| {
             aid[0] = n as u8;

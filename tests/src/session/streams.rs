@@ -105,8 +105,8 @@ fn kinds() -> Vec<Stream> {
     streams
 }
 
-/// Method tokens of 127 and 128 in every place, grants before their service, whole contracts, retired kinds, and the conditions of
-/// a load, a case on each card; and every method, in one record each.
+/// Method tokens of 127 and 128 in every place, grants before their service, whole contracts, retired kinds, the conditions of
+/// a load, and pairs of cards alike for B, a case on each card; and every method, in one record each.
 fn requests() -> Vec<Stream> {
     let cases = cases::requests().filter(|case| case.before.is_empty());
     let records = |case: &Case| case.steps.iter().flat_map(|step| step.record.clone()).collect();
