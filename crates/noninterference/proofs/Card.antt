@@ -1,6 +1,6 @@
 -- An image and the contracts that it stands for.
 use Prim.Native.Nat.{ℕ}
-use mathlib.Core.Path.{_≡_, sym, _∙_, subst}
+use mathlib.Core.Path.{_≡_}
 use mathlib.Core.List.{List, []}
 use mathlib.Core.List.{List·Memᴰ as In}
 use lib.Dec.{T}
@@ -12,6 +12,8 @@ use Rattle.policy.specs.Lookup.{contractAt}
 use Rattle.policy.specs.History.{SameContract, StandsFor}
 use Rattle.policy.specs.Claims.{CallsGranted, NeedsPresent}
 use Rattle.policy.proofs.Formed.{Formed, Stands}
+use Rattle.policy.proofs.Facts.{contract-of}
+use Rattle.policy.proofs.ContractAt.{same-contract}
 use Rattle.policy.proofs.LawfulCard.{calls-granted, needs-present}
 use Rattle.policy.proofs.SoundFacts.{sound-formed, sound-lawful}
 use Rattle.policy.proofs.Verdict.{unmet-count, waiting-count}
@@ -44,10 +46,5 @@ module _ (L : Layout) (img : List ℕ) (cs : List Contract) (f : StandsFor L img
   waiting-is = waiting-count L t [] cs formed stands
 
   -- the contract of a used number
-  pub contract-of : (n : ℕ) → T (t .used n) → (c : Contract) × In c cs × SameContract c (contractAt L t n)
-  unfolding contractAt
-  contract-of n u =
-      let (c, mc, ec) = f .no-others n u in
-      let (k, uk, same) = f .these c mc in
-      let at : k ≡ n = formed .names .aid-inj k n uk u (sym (same .aid) ∙ ec) in
-      (c, mc, subst (λ (z : ℕ). SameContract c (contractAt L t z)) at same)
+  pub contract-at : (n : ℕ) → T (t .used n) → (c : Contract) × In c cs × SameContract c (contractAt L t n)
+  contract-at n u = let (c, mc, h) = contract-of L t (formed .names) stands n u in (c, mc, same-contract L t formed n c h)

@@ -4,13 +4,14 @@ use native.Mathlib.Omega.{arith}
 use mathlib.Core.Path.{_≡_, refl, sym, _∙_, subst}
 use mathlib.Core.Logic.{Iff·symm}
 use mathlib.Core.Bool.{Bool, true, false, not, _||_, cond}
-use mathlib.Core.List.{List, [], _∷_, map}
-use mathlib.Core.List.{List·Memᴰ as In, Memᴰ·cast as in-cast}
+use mathlib.Core.List.{List, [], _∷_}
+use mathlib.Core.List.{List·Memᴰ as In}
 use lib.Dec.{T}
 use lib.ListN.{length}
-use Rattle.policy.specs.Lists.{NoRepeat, keep, flat}
+use Rattle.policy.specs.Lists.{NoRepeat, keep}
 use Rattle.policy.specs.Contract.{Aid, eqAid, Row, Contract, Link}
-use Rattle.policy.proofs.Sets.{not-e, same-length, keep-in, in-keep, once-keep, in-map, map-in, once-map, map-inj, once-of-map, in-flat, flat-in, once-flat}
+use Rattle.policy.proofs.Sets.{not-e, same-length, keep-in, in-keep, once-keep}
+use Rattle.policy.proofs.Links.{links, link-in, in-link, once-links}
 use Rattle.policy.proofs.Effect.{Others}
 use Rattle.noninterference.specs.Alike.{atEnd}
 use Rattle.noninterference.proofs.Agree.{Sets, seen, Agree, swap, off, Asked}
@@ -23,35 +24,6 @@ length-split p (x ∷ l) = go (p x) (length-split p l)
         → suc (length l) ≡ length (cond b (x ∷ keep p l) (keep p l)) + length (cond (not b) (x ∷ keep (λ x. not (p x)) l) (keep (λ x. not (p x)) l))
     go true e = omega arith
     go false e = omega arith
-
--- ---- the rows of contracts that pass f, with their owners
-module _ (rows : Contract → List Row) (f : Contract → Row → Bool) where
-  abbrev linksOf : Contract → List Link
-  linksOf c = map (λ r. record { owner = c .aid; row = r }) (keep (f c) (rows c))
-
-  abbrev pub links : List Contract → List Link
-  links cs = flat (λ c. map (λ r. record { owner = c .aid; row = r }) (keep (f c) (rows c))) cs
-
-  link-in : (cs : List Contract) (x : Link) → In x (links cs) → (c : Contract) × In c cs × (x .owner ≡ c .aid) × In (x .row) (rows c) × T (f c (x .row))
-  link-in cs x m =
-      let (c, mc, mx) = flat-in linksOf cs m in
-      let (r, mr, is) = map-in (λ r. record { owner = c .aid; row = r }) (keep (f c) (rows c)) mx in
-      let (in-rows, passes) = keep-in (f c) (rows c) mr in
-      let e : r ≡ x .row = λ i. sym is i .row in
-      (c, mc, (λ i. is i .owner), subst (λ (z : Row). In z (rows c)) e in-rows, subst (λ (z : Row). T (f c z)) e passes)
-
-  in-link : (cs : List Contract) (x : Link) (c : Contract) → In c cs → x .owner ≡ c .aid → In (x .row) (rows c) → T (f c (x .row)) → In x (links cs)
-  in-link cs x c m e mr h =
-      let same : x ≡ record { owner = c .aid; row = x .row } = λ i. record { owner = e i; row = x .row } in
-      in-flat linksOf m (in-cast same (in-map (λ r. record { owner = c .aid; row = r }) (in-keep (f c) mr h)))
-
-  once-links : (cs : List Contract) → NoRepeat (map (λ c. c .aid) cs) → ((c : Contract) → In c cs → NoRepeat (rows c)) → NoRepeat (links cs)
-  once-links cs one sets = once-flat linksOf cs (once-of-map (λ c. c .aid) cs one)
-      (λ c m. once-map (λ r. record { owner = c .aid; row = r }) (keep (f c) (rows c)) (λ r s _ _ e. λ i. e i .row) (once-keep (f c) (rows c) (sets c m)))
-      (λ c d z m n p q. map-inj (λ c. c .aid) cs one m n (sym (owner-is c z p) ∙ owner-is d z q))
-    where
-      owner-is : (c : Contract) (z : Link) → In z (linksOf c) → z .owner ≡ c .aid
-      owner-is c z m = let p = map-in (λ r. record { owner = c .aid; row = r }) (keep (f c) (rows c)) m in λ i. p .2 i .owner
 
 module _ (b : Aid) (rows : Contract → List Row) (f : List Contract → Contract → Row → Bool) (asked : Asked b rows f) where
   abbrev all : List Contract → List Link

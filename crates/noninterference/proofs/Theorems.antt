@@ -39,7 +39,7 @@ use Rattle.noninterference.specs.Alike.{Alike}
 use Rattle.noninterference.specs.Claims.{Told, told, NotWatched, StayAlike, Turn, observed, KeptAlike, NeverTold}
 use Rattle.noninterference.proofs.Agree.{same-sym, same-trans, Sets, Agrees, Sees, Agree, asked-calls, asked-grants, granted-same, needed-same}
 use Rattle.noninterference.proofs.Counts.{count-same}
-use Rattle.noninterference.proofs.Card.{formed, stands, sets, granted, needed, unmet-is, waiting-is, contract-of}
+use Rattle.noninterference.proofs.Card.{formed, stands, sets, granted, needed, unmet-is, waiting-is, contract-at}
 use Rattle.noninterference.proofs.Effect.{same-agrees, effect-agree, early-same}
 
 alike-sym : {L : Layout} {b : Aid} {x y : List ℕ} → Alike L b x y → Alike L b y x
@@ -57,7 +57,7 @@ module _ (L : Layout) (b : Aid) where
   alike-sees : (img₁ img₂ : List ℕ) (cs₁ cs₂ : List Contract) → StandsFor L img₁ cs₁ → StandsFor L img₂ cs₂ → Alike L b img₁ img₂ → Sees b cs₁ cs₂
   alike-sees img₁ img₂ cs₁ cs₂ f₁ f₂ al c mc =
       let (n, u, same) = f₁ .these c mc in
-      let (k, mk, at) = contract-of L img₂ cs₂ f₂ n (subst T (al .used n) u) in (
+      let (k, mk, at) = contract-at L img₂ cs₂ f₂ n (subst T (al .used n) u) in (
         k,
         mk,
         same-trans (same-agrees b c (contractAt L (decode L img₁) n) same)
@@ -211,7 +211,7 @@ module _ (L : Layout) (lo : LayoutOk L) (s : List ℕ) (q : Request) (e : parse 
       → T (left img₂ cs₂ f₂ z₂ .used n) × Agrees b (contractAt L (left img₁ cs₁ f₁ z₁) n) (contractAt L (left img₂ cs₂ f₂ z₂) n)
   unfolding contractAt
   matched img₁ img₂ cs₁ cs₂ f₁ f₂ al z₁ z₂ n u =
-      let (c, mc, at₁) = contract-of L (judge L img₁ s .bytes) (effect L cs₁ b ch) (left-stands img₁ cs₁ f₁ z₁) n u in
+      let (c, mc, at₁) = contract-at L (judge L img₁ s .bytes) (effect L cs₁ b ch) (left-stands img₁ cs₁ f₁ z₁) n u in
       let (k, mk, a) = after img₁ img₂ cs₁ cs₂ f₁ f₂ al .to c mc in
       let (m, um, at₂) = left-stands img₂ cs₂ f₂ z₂ .these k mk in
       let same : n ≡ m = go c k m mc mk um (at₁ .aid) (at₂ .aid) (a .aid) (test (eqAid (c .aid) b)) in (

@@ -28,7 +28,7 @@ use Rattle.policy.proofs.Placing.{placing}
 use Rattle.noninterference.specs.Alike.{atEnd, seenBy}
 use Rattle.noninterference.specs.Claims.{Besides, AmongOthers, Unseen}
 use Rattle.noninterference.proofs.Agree.{same-refl, same-sym, same-trans, Agrees}
-use Rattle.noninterference.proofs.Card.{contract-of}
+use Rattle.noninterference.proofs.Card.{contract-at}
 use Rattle.noninterference.proofs.Effect.{same-agrees}
 
 -- ---- a row that is not asked for comes, or goes
@@ -107,7 +107,7 @@ module _ (L : Layout) (b : Aid) where
       to : (n : ℕ) → T (t .used n) → T (left .used n) × Agrees b (contractAt L t n) (contractAt L left n)
       unfolding contractAt
       to n u =
-          let (c, mc, at) = contract-of L img cs f n u in
+          let (c, mc, at) = contract-at L img cs f n u in
           let (m, um, at′) = left-stands .these (turned c) (in-map turned mc) in
           let same = stay n m u um (sym (at .aid) ∙ turned-agrees c .aid ∙ at′ .aid) in (
             subst (λ (k : ℕ). T (left .used k)) (sym same) um,
@@ -118,7 +118,7 @@ module _ (L : Layout) (b : Aid) where
       back : (n : ℕ) → T (left .used n) → T (t .used n)
       unfolding contractAt
       back n u =
-          let (d, md, at) = contract-of L (judge L img s .bytes) (alter (q .aid) (altered L (q .change)) cs) left-stands n u in
+          let (d, md, at) = contract-at L (judge L img s .bytes) (alter (q .aid) (altered L (q .change)) cs) left-stands n u in
           let (c, mc, is) = map-in turned cs md in
           let (m, um, at′) = f .these c mc in
           subst (λ (k : ℕ). T (t .used k)) (stay m n um u (sym (at′ .aid) ∙ turned-agrees c .aid ∙ ap (λ (k : Contract). k .aid) (sym is) ∙ at .aid)) um

@@ -18,6 +18,7 @@ pub mod ParseFacts
 pub mod RecordsLength
 pub mod ReadOut
 pub mod Tests
+pub mod Links
 pub mod Verdict
 pub mod Reach
 pub mod Dropped

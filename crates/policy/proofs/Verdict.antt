@@ -6,14 +6,14 @@ use mathlib.Core.List.{List, [], _∷_, map}
 use mathlib.Core.List.{List·Memᴰ as In, List·Memᴰ·head as here, List·Memᴰ·not-nil as in-nil, Memᴰ·cast as in-cast}
 use lib.Dec.{T, leb}
 use lib.ListN.{length, length-map}
-use Rattle.policy.specs.Lists.{implies, every, keep, flat, isNil, NoRepeat}
+use Rattle.policy.specs.Lists.{implies, every, isNil, NoRepeat}
 use Rattle.policy.specs.Contract.{Row, Contract, Link, hasTok, hasRow, installed, met, waits, grantedTo, callsGranted, needsMet, unmetCalls, waitingGrants}
 use Rattle.policy.specs.Layout.{Layout}
 use Rattle.policy.specs.Tables.{Tables, Unmet, Waiting}
 use Rattle.policy.specs.Lookup.{serviceAt, wanted, grantAt}
 use Rattle.policy.specs.Draft.{Look, Draft, callRow, grantRow, look}
-use Rattle.policy.proofs.Sets.{T-eq, and-l, and-r, and-i, implies-i, implies-e, not-i, not-e, nil-is, same-length, every-in, in-every, keep-in, in-keep, once-keep, in-map, map-in, once-map, map-inj, once-of-map}
-use Rattle.policy.proofs.Sets.{in-flat, flat-in, once-flat}
+use Rattle.policy.proofs.Sets.{T-eq, and-l, and-r, and-i, implies-i, implies-e, not-i, not-e, nil-is, same-length, every-in, in-every, in-map, map-in, once-map}
+use Rattle.policy.proofs.Links.{links, link-in, in-link, once-links}
 use Rattle.policy.proofs.Equal.{has-tok, tok-has, has-row, row-has}
 use Rattle.policy.proofs.EveryBit.{among}
 use Rattle.policy.proofs.Formed.{Off, grantBit, Formed, ProvidesAt, RowAt, GrantAt, HasContract, Stands}
@@ -103,9 +103,6 @@ module _ (L : Layout) (t : Tables) (lost : List Unmet) (ds : List Contract) (g :
       fro (u ∷ l) h = absurd (h u (here refl))
 
   -- ---- causes 10 and 11
-  abbrev linkOf : Contract → Row → Link
-  linkOf c r = record { owner = c .aid; row = r }
-
   -- a row of a used package that passes f
   abbrev OwnRow : (Contract → List Row) → (Contract → Row → Bool) → Link → Type 0
   OwnRow rows f x = (n : ℕ) × T (t .used n) × (x .owner ≡ t .aid n) × ((c : Contract) → HasContract t lost n c → In (x .row) (rows c) × T (f c (x .row)))
@@ -115,37 +112,23 @@ module _ (L : Layout) (t : Tables) (lost : List Unmet) (ds : List Contract) (g :
       → NoRepeat l → ((x y : A) → In x l → In y l → link x ≡ link y → x ≡ y) → ((c : Contract) → In c ds → NoRepeat (rows c))
       → ((x : A) → In x l → OwnRow rows f (link x))
       → ((n : ℕ) (c : Contract) → HasContract t lost n c → (r : Row) → In r (rows c) → T (f c r) → (x : A) × In x l × (link x ≡ record { owner = t .aid n; row = r }))
-      → length l ≡ length (flat (λ c. map (linkOf c) (keep (f c) (rows c))) ds)
+      → length l ≡ length (links rows f ds)
   same-count {A} l link rows f once inj sets to fro =
-      sym (length-map l link) ∙ same-length (map link l) (flat links ds) (once-map link l inj once) once-links forth back
+      sym (length-map l link) ∙ same-length (map link l) (links rows f ds) (once-map link l inj once) (once-links rows f ds (st .one-each) sets) forth back
     where
-      links : Contract → List Link
-      links c = map (linkOf c) (keep (f c) (rows c))
-
-      owner-is : (c : Contract) (z : Link) → In z (links c) → z .owner ≡ c .aid
-      owner-is c z m = let p = map-in (linkOf c) (keep (f c) (rows c)) m in λ i. p .2 i .owner
-
-      once-links : NoRepeat (flat links ds)
-      once-links = once-flat links ds (once-of-map (λ c. c .aid) ds (st .one-each))
-          (λ c m. once-map (linkOf c) (keep (f c) (rows c)) (λ r s _ _ e. λ i. e i .row) (once-keep (f c) (rows c) (sets c m)))
-          (λ c d z m n p q. map-inj (λ c. c .aid) ds (st .one-each) m n (sym (owner-is c z p) ∙ owner-is d z q))
-
-      forth : (z : Link) → In z (map link l) → In z (flat links ds)
+      forth : (z : Link) → In z (map link l) → In z (links rows f ds)
       forth z m =
-          let x = map-in link l m in
-          let h = to (x .0) (x .1) in
-          let c = contract-of L t (g .names) st (h .0) (h .1) in
-          let e : z ≡ linkOf (c .0) (link (x .0) .row) = x .2 ∙ (λ i. record { owner = (h .2 ∙ sym (c .2 .aid)) i; row = link (x .0) .row }) in
-          in-flat links (c .1) (in-cast e (in-map (linkOf (c .0)) (in-keep (f (c .0)) (h .3 (c .0) (c .2) .0) (h .3 (c .0) (c .2) .1))))
+          let (x, mx, e) = map-in link l m in
+          let (n, u, own, passes) = to x mx in
+          let (c, mc, h) = contract-of L t (g .names) st n u in
+          in-cast e (in-link rows f ds (link x) c mc (own ∙ sym (h .aid)) (passes c h .0) (passes c h .1))
 
-      back : (z : Link) → In z (flat links ds) → In z (map link l)
+      back : (z : Link) → In z (links rows f ds) → In z (map link l)
       back z m =
-          let c = flat-in links ds m in
-          let h = st .these (c .0) (c .1) in
-          let r = map-in (linkOf (c .0)) (keep (f (c .0)) (rows (c .0))) (c .2) in
-          let k = keep-in (f (c .0)) (rows (c .0)) (r .1) in
-          let x = fro (h .0) (c .0) (h .2) (r .0) (k .0) (k .1) in
-          in-cast (r .2 ∙ (λ i. record { owner = h .2 .aid i; row = r .0 }) ∙ sym (x .2)) (in-map link (x .1))
+          let (c, mc, own, mr, passes) = link-in rows f ds z m in
+          let (n, _, h) = st .these c mc in
+          let (x, mx, e) = fro n c h (z .row) mr passes in
+          in-cast ((λ i. record { owner = (own ∙ h .aid) i; row = z .row }) ∙ sym e) (in-map link mx)
 
   pub unmet-count : length (t .unmet) ≡ length (unmetCalls ds)
   unfolding unmetCalls
