@@ -3,7 +3,7 @@
 # Needs valgrind and a release build. A call is the difference of two runs that differ in calls.
 set -euo pipefail
 cd "$(dirname "$0")"
-bench=target/release/bench
+bench=../target/cargo/release/bench
 
 # collected ENTRY ENGINE CALLS: the instructions of a whole run
 collected() {

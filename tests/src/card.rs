@@ -1,15 +1,25 @@
 //! The six entries of a card engine, so that engines can be compared and timed alike.
 
 use crate::bytes;
-use crate::rules::Rules;
+use crate::machine::Aid;
+use crate::rules::{Rules, Sizes};
+use crate::tables::Form;
 use std::fmt;
 
 /// The bytes of an image.
-pub const IMAGE: usize = 1110;
+pub const IMAGE: usize = Form::of(Rules::IN_FORCE).size;
 /// The bytes of an image of version 01, which a converter takes over.
-pub const OLD_IMAGE: usize = 1094;
+pub const OLD_IMAGE: usize = Form::of(Rules::R_7).size;
 /// The bytes of the longest record.
-pub const LONGEST_RECORD: usize = 4145;
+pub const LONGEST_RECORD: usize = longest_record(Rules::IN_FORCE.sizes);
+
+/// A load whose AIDs have as many bytes as they may, and its lists as many rows.
+const fn longest_record(sizes: &Sizes) -> usize {
+    let aid = 1 + *Aid::LENGTHS.end();
+    let provides = 1 + 2 * sizes.services;
+    let rows = sizes.count_bytes + sizes.rows * (aid + 2);
+    4 + aid + provides + 3 * rows
+}
 
 /// What an entry gives: the answer (0, or the cause of a refusal) and the second number.
 #[derive(Clone, Copy, PartialEq, Eq)]
@@ -102,6 +112,13 @@ fn verdict((answer, second): (u32, u32)) -> Verdict {
     Verdict { answer, second }
 }
 
+#[cfg(feature = "engine")]
+impl From<card::exact::Verdict> for Verdict {
+    fn from(verdict: card::exact::Verdict) -> Verdict {
+        Verdict::new(verdict.answer, verdict.second)
+    }
+}
+
 /// The proved engine, out of its archive.
 #[cfg(feature = "engine")]
 pub struct Engine;
@@ -113,27 +130,27 @@ impl Card for Engine {
     }
 
     fn check(&self, image: &[u8]) -> Verdict {
-        crate::engine::exact::check(image)
+        card::exact::check(image).into()
     }
 
     fn empty(&self, image: &mut [u8]) -> Verdict {
-        crate::engine::exact::empty(image)
+        card::exact::empty(image).into()
     }
 
     fn convert(&self, old: &[u8], image: &mut [u8]) -> Verdict {
-        crate::engine::exact::convert(old, image)
+        card::exact::convert(old, image).into()
     }
 
     fn judge(&self, image: &mut [u8], record: &[u8]) -> Verdict {
-        crate::engine::exact::judge(image, record)
+        card::exact::judge(image, record).into()
     }
 
     fn read_out(&self, image: &[u8], number: u32, out: &mut [u8]) -> Verdict {
-        crate::engine::exact::read_out(image, number, out)
+        card::exact::read_out(image, number, out).into()
     }
 
     fn aid<'a>(&self, record: &'a [u8]) -> &'a [u8] {
-        crate::engine::exact::aid(record)
+        card::exact::aid(record)
     }
 }
 
@@ -149,4 +166,21 @@ pub fn linked() -> Vec<&'static dyn Card> {
         #[cfg(feature = "engine")]
         &Engine,
     ]
+}
+
+#[cfg(test)]
+mod tests {
+    use super::*;
+
+    #[test]
+    fn the_sizes_are_the_papers() {
+        assert_eq!((OLD_IMAGE, IMAGE, LONGEST_RECORD), (1094, 1110, 4145));
+    }
+
+    /// "Up to 16 services, two-byte counts, up to 272, and at most 15,564 bytes."
+    #[test]
+    fn the_sizes_of_r_9_make_its_longest_record() {
+        let sizes = Sizes { services: 16, rows: 272, count_bytes: 2, ..Sizes::SMALL };
+        assert_eq!(longest_record(&sizes), 15_564);
+    }
 }

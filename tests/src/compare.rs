@@ -16,6 +16,7 @@ use crate::retired::{OldNeeds, Retired};
 use crate::rules::Rules;
 use crate::tables::{self, Tables};
 use crate::watched::{turns, Seen};
+use crate::write;
 use std::collections::{BTreeMap, BTreeSet};
 use std::fmt;
 use std::hint::black_box;
@@ -65,12 +66,12 @@ pub struct Tally {
     pub contracts_read: u64,
     pub damaged_sound: u64,
     pub damaged_unsound: u64,
-    /// Records after which the card had 15 and 16 unmet calls, and 15 and 16 waiting grants.
+    /// Records after which the card had one less than the most unmet calls, and the most; and of waiting grants the same.
     pub unmet: [u64; 2],
     pub waiting: [u64; 2],
-    /// Records after which 8 packages were installed, and after which one had 8 services.
-    pub eight_packages: u64,
-    pub eight_services: u64,
+    /// Records after which every package number was used, and after which a package had all its services.
+    pub all_packages: u64,
+    pub all_services: u64,
     /// Records before a change of the rules, which are not among `records`.
     pub before: u64,
     /// Histories over the last change: those whose card then holds what the rules in force exclude, those whose card goes
@@ -131,7 +132,7 @@ impl<'a> Compare<'a> {
         let most = Rules::CHANGES;
         expect!(changes <= most, "a history has at most {most} changes of the rules, here are {changes}");
         let cards = engines(linked, changes);
-        let image = Tables::default().write(Rules::before(changes));
+        let image = Tables::empty(Rules::before(changes)).write(Rules::before(changes));
         for card in &cards {
             let mut written = FILL[..image.len()].to_vec();
             let verdict = card.empty(&mut written);
@@ -155,6 +156,11 @@ impl<'a> Compare<'a> {
     /// The rules of the time.
     fn rules(&self) -> Rules {
         Rules::before(self.ahead)
+    }
+
+    /// How many package numbers there are.
+    fn packages(&self) -> u32 {
+        self.rules().sizes.packages as u32
     }
 
     /// Whether the last change is past.
@@ -214,7 +220,7 @@ impl<'a> Compare<'a> {
         if !self.in_force() {
             tally.before += 1;
             let replaces = |record: Record| matches!(record.change, Change::Replace(_));
-            tally.too_early += u64::from(record::read(Rules::IN_FORCE, bytes).is_ok_and(replaces));
+            tally.too_early += u64::from(record::read(Rules::IN_FORCE, bytes).is_some_and(replaces));
             self.held_excluded |= !self.machine.keeps_to(Rules::IN_FORCE);
             self.damaged_alike(&Damage::default(), bytes, tally)?;
             for draw in [Damage::one_byte, Damage::two_bytes] {
@@ -265,7 +271,7 @@ impl<'a> Compare<'a> {
         pairs.count(Kind::of(bytes), 1);
         for card in &self.cards {
             unsound(*card, &self.image, bytes)?;
-            for number in (0..9).chain([255, u32::MAX]) {
+            for number in (0..=self.packages()).chain([255, u32::MAX]) {
                 let mut buffer = FILL;
                 let read = card.read_out(&self.image, number, &mut buffer);
                 let refused = read == Verdict::new(1, 0) && buffer == FILL;
@@ -305,9 +311,10 @@ impl<'a> Compare<'a> {
         }
         let verdict = first.ok_or("no engine")?;
         if answer == 0 {
-            let named = record::read(self.rules(), bytes).ok().map(|record| record.aid);
+            let named = record::read(self.rules(), bytes).map(|record| record.aid);
             let numbered = if kind == Kind::Known(2) { &before } else { &self.image };
-            expect!(tables::aid_at(numbered, verdict.second) == named, "{verdict:?} has not the package's number");
+            let numbered = tables::aid_at(self.rules(), numbered, verdict.second);
+            expect!(numbered == named, "{verdict:?} has not the package's number");
         } else {
             expect!(verdict.second == 255, "{verdict:?} is a refusal without 255");
             expect!(self.image == before, "{verdict:?} is a refusal that changes the image");
@@ -352,8 +359,8 @@ impl<'a> Compare<'a> {
 
     /// Every number reads out as the contract that the machine holds, alike in every engine.
     fn contracts_alike(&self, tally: &mut Tally) -> Result<(), String> {
-        for number in 0..8 {
-            let used = self.image[3] >> number & 1 == 1;
+        for number in 0..self.packages() {
+            let used = tables::aid_at(self.rules(), &self.image, number).is_some();
             let first = self.read_out_one(self.cards[0], number, LONGEST_RECORD)?;
             for card in &self.cards[1..] {
                 let other = self.read_out_one(*card, number, LONGEST_RECORD)?;
@@ -368,9 +375,10 @@ impl<'a> Compare<'a> {
     /// Numbers read out alike, into buffers of every sort.
     fn read_out_alike(&self, random: &mut Random, tally: &mut Tally) -> Result<(), String> {
         self.contracts_alike(tally)?;
-        let number = random.below(8) as u32;
+        let packages = self.packages();
+        let number = random.below(packages as usize) as u32;
         let whole = self.read_out_one(self.cards[0], number, LONGEST_RECORD)?;
-        let unused = [8, 9, 255, 256 + number, 65_536 + number, u32::MAX][random.below(6)];
+        let unused = [packages, packages + 1, 255, 256 + number, 65_536 + number, u32::MAX][random.below(6)];
         let shorter = random.below(whole.len().max(1));
         for card in &self.cards {
             let exact = self.read_out_one(*card, number, whole.len())?;
@@ -394,7 +402,7 @@ impl<'a> Compare<'a> {
         let mut buffer = FILL[..size].to_vec();
         let verdict = card.read_out(&self.image, number, &mut buffer);
         let place = || format!("{}: reading {number} out gives {verdict:?}", card.name());
-        let Some(aid) = tables::aid_at(&self.image, number) else {
+        let Some(aid) = tables::aid_at(self.rules(), &self.image, number) else {
             expect!(verdict == Verdict::new(5, 0) && buffer == FILL[..size], "{}, not 5", place());
             return Ok(Vec::new());
         };
@@ -402,7 +410,7 @@ impl<'a> Compare<'a> {
         expect!(verdict.answer == 0 && length <= size, "{}", place());
         expect!(buffer[length..] == FILL[length..size], "{} and writes past the record", place());
         buffer.truncate(length);
-        let Ok(read) = record::read(self.rules(), &buffer) else {
+        let Some(read) = record::read(self.rules(), &buffer) else {
             return Err(format!("{} and a malformed record {}", place(), to_hex(&buffer)));
         };
         let Change::Load(lists) = &read.change else {
@@ -419,8 +427,8 @@ impl<'a> Compare<'a> {
         for card in &self.cards {
             let part = card.aid(bytes);
             let same = match &read {
-                Ok(read) => part == read.aid.bytes() && std::ptr::eq(part.as_ptr(), &bytes[5]),
-                Err(_) => part.is_empty(),
+                Some(read) => part == read.aid.bytes() && std::ptr::eq(part.as_ptr(), &bytes[5]),
+                None => part.is_empty(),
             };
             expect!(same, "{}: the AID's part of the record is {}", card.name(), to_hex(part));
         }
@@ -475,7 +483,7 @@ impl<'a> Compare<'a> {
     fn count(&self, held: &Machine, found: &[u8], bytes: &[u8], verdict: Verdict, tally: &mut Tally) {
         tally.records += 1;
         let read = record::read(self.rules(), bytes);
-        if let (Ok(record), 0) = (&read, verdict.answer) {
+        if let (Some(record), 0) = (&read, verdict.answer) {
             for early in Early::of(held, record) {
                 *tally.early.entry(early).or_default() += 1;
             }
@@ -484,22 +492,24 @@ impl<'a> Compare<'a> {
             }
         }
         let any_method = Rules { most_method: 255, ..self.rules() };
-        let but_for_methods = read.is_err() && record::read(any_method, bytes).is_ok();
+        let but_for_methods = read.is_none() && record::read(any_method, bytes).is_some();
         for (place, at) in methods::of_record(bytes) {
             match bytes[at] {
-                127 if read.is_ok() => tally.methods.entry(place).or_default()[0] += 1,
+                127 if read.is_some() => tally.methods.entry(place).or_default()[0] += 1,
                 128 if but_for_methods => tally.methods.entry(place).or_default()[1] += 1,
                 _ => {}
             }
         }
         let (unmet, waiting) = (self.machine.unmet().count(), self.machine.waiting().count());
-        for (n, count) in [15, 16].into_iter().enumerate() {
+        let sizes = self.rules().sizes;
+        for (n, count) in [sizes.listed - 1, sizes.listed].into_iter().enumerate() {
             tally.unmet[n] += u64::from(unmet == count);
             tally.waiting[n] += u64::from(waiting == count);
         }
         let contracts = &self.machine.contracts;
-        tally.eight_packages += u64::from(contracts.len() == 8);
-        tally.eight_services += u64::from(contracts.values().any(|contract| contract.provides.len() == 8));
+        let all_services = |contract: &Contract| contract.provides.len() == sizes.services;
+        tally.all_packages += u64::from(contracts.len() == sizes.packages);
+        tally.all_services += u64::from(contracts.values().any(all_services));
     }
 
     /// What becomes of the needs that kind 9 set, and since R-13 of the kind itself and of kind 10.
@@ -585,8 +595,8 @@ fn converts(card: &dyn Card, old: &[u8], size: usize, expected: Verdict, left: &
 
 /// Images, buffers and records of lengths that no card and no record has.
 pub fn lengths_alike(cards: &[&dyn Card]) -> Result<(), String> {
-    let removal = [0, 10, 1, 2, 5, 0xF0, 0, 0, 0, 1];
-    let [old, new] = [Rules::R_7, Rules::R_2].map(|rules| Tables::default().write(rules));
+    let removal = write::remove(&[0xF0, 0, 0, 0, 1]);
+    let [old, new] = [Rules::R_7, Rules::R_2].map(|rules| Tables::empty(rules).write(rules));
     let sized = |empty: &[u8], length: usize| {
         let mut image = empty.to_vec();
         image.resize(length, 0);

@@ -1,8 +1,9 @@
 //! Damage to images: one or two bytes, where they are likely to tell.
 
-use crate::card::{IMAGE, OLD_IMAGE};
+use crate::card::IMAGE;
 use crate::methods;
 use crate::random::Random;
+use crate::tables::{Bit, Form};
 
 /// Bytes put at places of an image.
 #[derive(Clone, Debug, Default, PartialEq, Eq)]
@@ -26,11 +27,13 @@ impl Damage {
             let places = [place(image, random), place(image, random)];
             return Damage(places.map(|at| (at, changed(image[at], random))).to_vec());
         }
-        let (caller, callee, bit) = (random.below(8), random.below(8), 1 << random.below(8));
-        let cells = [276 + 8 * caller + callee, 340 + 8 * callee + caller, 404 + 8 * caller + callee];
-        let left_out = random.below(3);
-        let kept = cells.into_iter().enumerate().filter(|(n, _)| *n != left_out);
-        Damage(kept.map(|(_, cell)| (cell, image[cell] ^ bit)).collect())
+        let form = Form::of_image(image);
+        let (caller, callee) = (random.below(form.sizes.packages), random.below(form.sizes.packages));
+        let bit = Bit { caller, callee, service: random.below(form.sizes.services) };
+        let places = [form.call_bit(&bit), form.grant_bit(&bit), form.need_bit(&bit)];
+        let left_out = random.below(places.len());
+        let kept = places.into_iter().enumerate().filter(|(n, _)| *n != left_out);
+        Damage(kept.map(|(_, at)| (at.byte, image[at.byte] ^ at.bit)).collect())
     }
 
     /// The image with the damage.
@@ -72,17 +75,25 @@ fn changed(byte: u8, random: &mut Random) -> u8 {
 
 /// A place anywhere, or in a part of the image that is otherwise seldom reached.
 fn place(image: &[u8], random: &mut Random) -> usize {
-    let waiting_row = if image.len() == OLD_IMAGE { 19 } else { 20 };
-    let count_or_length =
-        [468, 789, 4 + 17 * random.below(8), 469 + 20 * random.below(16), 790 + waiting_row * random.below(16)];
+    let form = Form::of_image(image);
+    let listed = form.sizes.listed;
+    let count_or_length = [
+        form.unmet,
+        form.waiting,
+        form.aid(random.below(form.sizes.packages)),
+        form.unmet_at(random.below(listed)),
+        form.waiting_at(random.below(listed)),
+    ];
+    // The count of a list, its rows and one place more.
+    let rows = |list: usize| (usize::from(image[list]) + 1).min(listed);
     match random.below(9) {
-        0 => random.below(4),
-        1 => random.between(4, 139),
-        2 => random.between(140, 275),
-        3 => random.between(276, 467),
-        4 => 468 + random.below(1 + 20 * (usize::from(image[468]) + 1).min(16)),
-        5 => 789 + random.below(1 + waiting_row * (usize::from(image[789]) + 1).min(16)),
-        6 => count_or_length[random.below(5)],
+        0 => random.below(form.aids),
+        1 => random.between(form.aids, form.tokens - 1),
+        2 => random.between(form.tokens, form.calls - 1),
+        3 => random.between(form.calls, form.unmet - 1),
+        4 => form.unmet + random.below(1 + form.unmet_row * rows(form.unmet)),
+        5 => form.waiting + random.below(1 + form.waiting_row * rows(form.waiting)),
+        6 => count_or_length[random.below(count_or_length.len())],
         _ => random.below(image.len()),
     }
 }
@@ -90,6 +101,7 @@ fn place(image: &[u8], random: &mut Random) -> usize {
 #[cfg(test)]
 mod tests {
     use super::*;
+    use crate::card::OLD_IMAGE;
 
     #[test]
     fn damage_changes_the_bytes_it_names() {
@@ -102,9 +114,9 @@ mod tests {
             assert!((0..size).all(|at| damaged[at] == image[at] || two.0.contains(&(at, damaged[at]))));
             assert_eq!(Damage::from_text(&two.to_text()), Some(two));
         }
-        assert_eq!(Damage::from_text("1110=00"), None);
+        assert_eq!(Damage::from_text(&format!("{IMAGE}=00")), None);
         assert_eq!(Damage::from_text("3"), None);
-        let past = Damage::from_text("1109=01").expect("a place of version 02");
-        assert_eq!((past.done_to(&[0; IMAGE])[1109], past.done_to(&[0; OLD_IMAGE])), (1, vec![0; OLD_IMAGE]));
+        let past = Damage::from_text(&format!("{}=01", IMAGE - 1)).expect("a place of version 02");
+        assert_eq!((past.done_to(&[0; IMAGE])[IMAGE - 1], past.done_to(&[0; OLD_IMAGE])), (1, vec![0; OLD_IMAGE]));
     }
 }

@@ -6,15 +6,15 @@ mod replace;
 mod retired;
 mod watched;
 
-use crate::bytes::layout::{aid, is_aid};
+use crate::bytes::layout::{is_aid, Version, Version02};
 use crate::bytes::relation::{Listed, Relation};
 use crate::card::{Bytes, Card, Verdict, BYTES, IMAGE, OLD_IMAGE};
-use crate::machine::record::{self, contradiction, Change};
+use crate::machine::record::{self, contradicts, Change};
 use crate::machine::Aid;
 use crate::methods::{self, Held};
 use crate::program::Failure;
 use crate::rules::Rules;
-use crate::tables::{Tables, Waiting};
+use crate::tables::{Form, Tables, Waiting};
 
 /// The byte engine with one of its entries replaced, or by other rules.
 pub struct Fault {
@@ -100,6 +100,9 @@ impl Card for Fault {
 }
 
 const IN_FORCE: Rules = Rules::IN_FORCE;
+/// The places of their images, and the most rows of a list.
+const FORM: Form = Form::of(IN_FORCE);
+const MOST: u8 = IN_FORCE.sizes.listed as u8;
 
 pub const FAULTS: &[Fault] = &[
     Fault { name: "never-changes", entry: Entry::Judge(never_changes) },
@@ -233,11 +236,11 @@ fn changes_once(image: &mut [u8], record: &[u8]) -> Verdict {
     }
 }
 
-/// Gives 10 for a call that would be the 16th unmet one.
+/// Gives 10 for a call that would be the last unmet one that fits.
 fn ten_uncounted(image: &mut [u8], record: &[u8]) -> Verdict {
     let before = image.to_vec();
     let verdict = BYTES.judge(image, record);
-    if verdict.answer == 0 && before[468] == 15 && image[468] == 16 {
+    if verdict.answer == 0 && before[FORM.unmet] == MOST - 1 && image[FORM.unmet] == MOST {
         image.copy_from_slice(&before);
         return Verdict::new(10, 255);
     }
@@ -255,7 +258,7 @@ fn made_up_number(image: &mut [u8], record: &[u8]) -> Verdict {
 fn refusal_writes(image: &mut [u8], record: &[u8]) -> Verdict {
     let verdict = BYTES.judge(image, record);
     if verdict.answer == 8 && record[3] == 5 {
-        image[276] |= 1;
+        image[FORM.calls] |= 1;
     }
     verdict
 }
@@ -265,13 +268,13 @@ fn grants_lost(image: &mut [u8], record: &[u8]) -> Verdict {
     let verdict = BYTES.judge(image, record);
     if verdict.answer == 0 && record[3] == 2 {
         let written = &record[4..];
-        while image[789] > 0 {
-            let last = 790 + 20 * (usize::from(image[789]) - 1);
+        while image[FORM.waiting] > 0 {
+            let last = FORM.waiting_at(usize::from(image[FORM.waiting]) - 1);
             if !image[last..].starts_with(written) {
                 break;
             }
-            image[last..last + 20].fill(0);
-            image[789] -= 1;
+            image[last..last + FORM.waiting_row].fill(0);
+            image[FORM.waiting] -= 1;
         }
     }
     verdict
@@ -280,9 +283,9 @@ fn grants_lost(image: &mut [u8], record: &[u8]) -> Verdict {
 /// Puts the last two unmet calls after a removal the other way round.
 fn rows_swapped(image: &mut [u8], record: &[u8]) -> Verdict {
     let verdict = BYTES.judge(image, record);
-    if verdict.answer == 0 && record[3] == 2 && image[468] >= 2 {
-        let end = 469 + 20 * usize::from(image[468]);
-        image[end - 40..end].rotate_left(20);
+    if verdict.answer == 0 && record[3] == 2 && image[FORM.unmet] >= 2 {
+        let end = usize::from(image[FORM.unmet]);
+        image[FORM.unmet_at(end - 2)..FORM.unmet_at(end)].rotate_left(FORM.unmet_row);
     }
     verdict
 }
@@ -299,8 +302,8 @@ fn left_over_read(image: &mut [u8], record: &[u8]) -> Verdict {
 /// Looks at the record before the image.
 fn judges_unsound(image: &mut [u8], bytes: &[u8]) -> Verdict {
     match record::read(Rules::IN_FORCE, bytes) {
-        Err(_) => Verdict::new(2, 255),
-        Ok(_) => BYTES.judge(image, bytes),
+        None => Verdict::new(2, 255),
+        Some(_) => BYTES.judge(image, bytes),
     }
 }
 
@@ -312,7 +315,7 @@ fn panics(image: &mut [u8], record: &[u8]) -> Verdict {
 
 fn last_byte_unchecked(image: &[u8]) -> Verdict {
     let mut image = image.to_vec();
-    if image.len() == IMAGE && image[789] < 16 {
+    if image.len() == IMAGE && image[FORM.waiting] < MOST {
         image[IMAGE - 1] = 0;
     }
     BYTES.check(&image)
@@ -398,8 +401,8 @@ fn reads_out_128(image: &[u8], number: u32, out: &mut [u8]) -> Verdict {
 
 /// A whole contract with a grant of a service that it does not provide contradicts itself, as before R-2.
 fn early_refused(kind: u8, image: &mut [u8], bytes: &[u8]) -> Verdict {
-    let contradicts = |record| contradiction(Rules::R_7, &record).is_some();
-    let refused = record::read(Rules::IN_FORCE, bytes).is_ok_and(contradicts) && bytes[3] == kind;
+    let read = record::read(Rules::IN_FORCE, bytes);
+    let refused = read.is_some_and(|record| contradicts(Rules::R_7, &record)) && bytes[3] == kind;
     match refused && BYTES.check(image).answer == 0 {
         true => Verdict::new(3, 255),
         false => BYTES.judge(image, bytes),
@@ -436,8 +439,8 @@ fn tables_after(
             if let Err(cause) = change(verdict.second as usize, &before, &mut after) {
                 return Verdict::new(cause, 255);
             }
-            after.unmet.truncate(16);
-            after.waiting.truncate(16);
+            after.unmet.truncate(IN_FORCE.sizes.listed);
+            after.waiting.truncate(IN_FORCE.sizes.listed);
             own = after.write(IN_FORCE);
         }
     }
@@ -476,11 +479,11 @@ fn leaves(kind: u8, image: &mut [u8], bytes: &[u8]) -> Verdict {
     })
 }
 
-/// Kind 4 gives 11 where its grants would make 16.
+/// Kind 4 gives 11 where its grants would make as many as fit.
 fn eleven_at_sixteen(image: &mut [u8], bytes: &[u8]) -> Verdict {
     let before = image.to_vec();
     let verdict = BYTES.judge(image, bytes);
-    if verdict.answer == 0 && bytes[3] == 4 && before[789] < 16 && image[789] == 16 {
+    if verdict.answer == 0 && bytes[3] == 4 && before[FORM.waiting] < MOST && image[FORM.waiting] == MOST {
         image.copy_from_slice(&before);
         return Verdict::new(11, 255);
     }
@@ -489,7 +492,7 @@ fn eleven_at_sixteen(image: &mut [u8], bytes: &[u8]) -> Verdict {
 
 /// The grants that kind 3 lists and that wait, before it and after it.
 fn doubled(bytes: &[u8], before: &[Waiting], after: &[Waiting]) -> Vec<Waiting> {
-    let Ok(record) = record::read(Rules::IN_FORCE, bytes) else { return Vec::new() };
+    let Some(record) = record::read(Rules::IN_FORCE, bytes) else { return Vec::new() };
     let Change::AddService(tokens, callers) = record.change else { return Vec::new() };
     let listed = |grant: &&Waiting| grant.tokens == tokens && callers.contains(&grant.caller) && after.contains(grant);
     before.iter().filter(listed).copied().collect()
@@ -530,21 +533,21 @@ fn load_takes_all(image: &mut [u8], bytes: &[u8]) -> Verdict {
 /// Checks the image without the waiting rows that may stand there.
 fn check_without(image: &[u8], may_stand: impl Fn(&[u8], Listed) -> bool) -> Verdict {
     let mut without = image.to_vec();
-    let whole = |row: &Listed| row.own < 8 && (5..=16).contains(&row.other[0]);
-    if image.len() == IMAGE && image[789] <= 16 {
-        Relation::Grants.close_up(&mut without, |tables, row| whole(&row) && may_stand(tables, row));
+    let whole = |row: &Listed| row.own < FORM.sizes.packages && Aid::LENGTHS.contains(&usize::from(row.other[0]));
+    if image.len() == IMAGE && image[FORM.waiting] <= MOST {
+        Relation::Grants.close_up::<Version02>(&mut without, |tables, row| whole(&row) && may_stand(tables, row));
     }
     BYTES.check(&without)
 }
 
 /// A row may stand for a grant whose caller and service are on the card.
 fn settled_row_sound(image: &[u8]) -> Verdict {
-    check_without(image, |tables, row| Relation::Grants.bit(tables, row.own, row.row()).is_some())
+    check_without(image, |tables, row| Relation::Grants.bit::<Version02>(tables, row.own, row.row()).is_some())
 }
 
 /// A row may name its callee's own AID.
 fn own_aid_row_sound(image: &[u8]) -> Verdict {
-    check_without(image, |tables, row| is_aid(aid(tables, row.own), row.row().aid))
+    check_without(image, |tables, row| is_aid(Version02::aid(tables, row.own), row.row().aid))
 }
 
 /// A row may not name an installed caller, as before R-2.
@@ -598,7 +601,10 @@ fn converts_128(old: &[u8], image: &mut [u8]) -> Verdict {
 /// Looks at a card's size and header alone.
 fn converts_unsound(old: &[u8], image: &mut [u8]) -> Verdict {
     let verdict = BYTES.convert(old, image);
-    if verdict.answer == 1 && (old.len(), image.len()) == (OLD_IMAGE, IMAGE) && old.starts_with(&[0x04, 0x46, 0x01]) {
+    if verdict.answer == 1
+        && (old.len(), image.len()) == (OLD_IMAGE, IMAGE)
+        && old.starts_with(&Form::of(Rules::R_7).header)
+    {
         BYTES.empty(image);
         return Verdict::new(0, 0);
     }

@@ -1,14 +1,16 @@
-//! A nearly full card to time records on: 8 packages, each naming services of the others, and
-//! 15 rows in each list. AIDs have 16 bytes and differ at the end.
+//! A nearly full card to time records on: all packages, each naming services of the others, and in each list all rows
+//! but one. AIDs are as long as they may be, and differ at the end.
 
-use crate::bytes::layout::Version;
 use crate::card::{Bytes, Card, BYTES};
-use crate::rules::Rules;
+use crate::machine::Aid;
+use crate::rules::{Rules, Sizes};
+use crate::tables::Form;
 use crate::write::{add_service, load, remove, remove_service, replace, update, Row, Tokens};
 use std::ops::Range;
 
+const SIZES: &Sizes = Rules::IN_FORCE.sizes;
 /// The package that kinds 1 and 2 load and remove.
-const LAST: u8 = 7;
+const LAST: u8 = SIZES.packages as u8 - 1;
 /// Called by every package that is granted it, and needed.
 const NEEDED: Tokens = (0, 0);
 /// Called by package 1 alone, and needed by none.
@@ -34,7 +36,7 @@ pub fn timed() -> Vec<Timed> {
     let mut full = before.clone();
     assert_eq!(BYTES.judge(&mut full, &load_last()).answer, 0);
     let own = package(0);
-    let callers: Vec<Vec<u8>> = (1..8).map(package).chain([stranger(99)]).collect();
+    let callers: Vec<Vec<u8>> = (1..=LAST).map(package).chain([stranger(99)]).collect();
     let on_full = |kind, name, operations, record| Timed { kind, name, operations, image: full.clone(), record };
     vec![
         Timed { kind: 1, name: "load", operations: Some(7032), image: before, record: load_last() },
@@ -57,23 +59,27 @@ pub fn old_card() -> Vec<u8> {
 }
 
 fn package(number: u8) -> Vec<u8> {
-    [vec![0xF0; 15], vec![number]].concat()
+    longest_aid(0xF0, number)
 }
 
 /// An AID that is not installed.
 fn stranger(number: u8) -> Vec<u8> {
-    [vec![0xEE; 15], vec![number]].concat()
+    longest_aid(0xEE, number)
 }
 
-/// Seven services each, tokens 0, 0 to 0, 6.
+fn longest_aid(first: u8, last: u8) -> Vec<u8> {
+    [vec![first; *Aid::LENGTHS.end() - 1], vec![last]].concat()
+}
+
+/// All services but one each, tokens 0, 0 and on.
 fn services() -> Vec<Tokens> {
-    (0..7).map(|method| (0, method)).collect()
+    (0..SIZES.services as u8 - 1).map(|method| (0, method)).collect()
 }
 
-/// The card with packages 0 to 6. Each grants six services to each other, calls four and needs two;
+/// The card without its last package. Each grants six services to each other, calls four and needs two;
 /// it calls a service of the last package, which is unmet, and grants that package one of its own,
-/// which waits. Eight more rows in each list stay when the last package comes; one is a grant that waits for its service, where
-/// the rules have such. They have kind 9 too, which sets the needs.
+/// which waits. As many rows and one more in each list stay when the last package comes; one is a grant that waits for its
+/// service, where the rules have such. They have kind 9 too, which sets the needs.
 fn card_without_last(rules: Rules) -> Vec<u8> {
     let each = || 0..LAST;
     let pairs = || each().flat_map(move |own| each().filter(move |other| *other != own).map(move |other| (own, other)));
@@ -97,7 +103,7 @@ fn card_without_last(rules: Rules) -> Vec<u8> {
         false => update(7, &package(0), &stranger(10), LONELY),
     });
 
-    let (card, mut image) = (Bytes(rules), vec![0; Version::of(rules).size]);
+    let (card, mut image) = (Bytes(rules), vec![0; Form::of(rules).size]);
     card.empty(&mut image);
     for record in records {
         assert_eq!(card.judge(&mut image, &record).answer, 0);
@@ -117,7 +123,7 @@ fn load_last() -> Vec<u8> {
 
 /// The whole contract of package 0's next release. Of its services two go, one of which package 1 calls, and two come, one of
 /// which package 1 has called already; the calls on each other package are others than before, and so are the needs. Both
-/// lists pass 16 rows on the way, and end at 16.
+/// lists pass their limit on the way, and end there.
 fn new_release() -> Vec<u8> {
     let others = || 1..LAST;
     let rows = |methods: Range<u8>| -> Vec<Row> {
@@ -134,15 +140,21 @@ fn new_release() -> Vec<u8> {
 mod tests {
     use super::*;
     use crate::card::{linked, Verdict, IMAGE};
-    use crate::machine::{Aid, Row};
-    use crate::tables;
+    use crate::machine::Row;
+    use crate::tables::{self, Tables};
+
+    /// How many packages, unmet calls and waiting grants a card has.
+    fn filled(rules: Rules, image: &[u8]) -> [usize; 3] {
+        let tables = Tables::of(rules, image).expect("a sound image");
+        [tables.packages.iter().flatten().count(), tables.unmet.len(), tables.waiting.len()]
+    }
 
     #[test]
     fn the_card_is_nearly_full() {
         for timed in timed() {
             let image = &timed.image;
-            let packages = if timed.kind == 1 { 7 } else { 8 };
-            assert_eq!((image[3].count_ones(), image[468], image[789]), (packages, 15, 15));
+            let packages = if timed.kind == 1 { SIZES.packages - 1 } else { SIZES.packages };
+            assert_eq!(filled(Rules::IN_FORCE, image), [packages, SIZES.listed - 1, SIZES.listed - 1]);
             let card = tables::contracts(Rules::IN_FORCE, image).expect("a sound image");
             let early = |(callee, grant): &(&Aid, &Row)| !card.contracts[*callee].provides.contains(&grant.tokens);
             assert_eq!(card.waiting().filter(early).count(), 1);
@@ -155,18 +167,19 @@ mod tests {
     }
 
     #[test]
-    fn the_new_release_passes_16_on_the_way() {
+    fn the_new_release_passes_the_limits_on_the_way() {
         let timed = timed().pop().expect("a replaced contract");
         let mut image = timed.image;
         assert_eq!(BYTES.judge(&mut image, &timed.record), Verdict::new(0, 0));
-        assert_eq!((image[468], image[789]), (16, 16));
-        assert_eq!(image[140..156], [0, 0, 0, 1, 0, 2, 0, 3, 9, 9, 0, 5, 9, 8, 0, 0]);
+        assert_eq!(filled(Rules::IN_FORCE, &image), [SIZES.packages, SIZES.listed, SIZES.listed]);
+        let services = [0, 0, 0, 1, 0, 2, 0, 3, 9, 9, 0, 5, 9, 8];
+        assert!(image[Form::of(Rules::IN_FORCE).tokens..].starts_with(&services));
     }
 
     #[test]
     fn the_old_card_is_converted() {
         let old = old_card();
-        assert_eq!((old[3], old[468], old[789]), (0xFF, 15, 15));
+        assert_eq!(filled(Rules::R_7, &old), [SIZES.packages, SIZES.listed - 1, SIZES.listed - 1]);
         for card in linked() {
             assert_eq!(card.convert(&old, &mut [0; IMAGE]).answer, 0);
         }

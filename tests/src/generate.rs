@@ -16,11 +16,11 @@ use crate::write;
 enum Drive {
     /// Nowhere: rows of every sort.
     Mixed,
-    /// Lists at 15, 16 and past them.
+    /// Lists at their limit, one below it and past it.
     Lists,
-    /// Eight packages, with few rows each.
+    /// Every package number used, with few rows each.
     Packages,
-    /// Eight services in a package.
+    /// Every service number of a package used.
     Services,
 }
 
@@ -48,7 +48,7 @@ impl Source {
         let drives = [Drive::Mixed, Drive::Lists, Drive::Packages, Drive::Services];
         let drive = drives[random.below(drives.len())];
         let rules = Rules::IN_FORCE;
-        let (aids, tokens) = (few_aids(&mut random, aids), few_tokens(&mut random, rules, tokens));
+        let (aids, tokens) = (few_aids(&mut random, rules, aids), few_tokens(&mut random, rules, tokens));
         Source { random, rules, drive, aids, tokens, own: None }
     }
 
@@ -57,7 +57,7 @@ impl Source {
         self.own = Some(own);
         loop {
             let record = self.record(held);
-            if record::read(self.rules, &record).map_or(true, |record| record.aid == own) {
+            if record::read(self.rules, &record).is_none_or(|record| record.aid == own) {
                 return record;
             }
         }
@@ -126,7 +126,7 @@ impl Source {
     /// Loads first; then every kind, more of what the history is driven to. A kind that the rules do not read comes seldom; where
     /// they read kind 9 it comes often, so that needs of its own are on the card when it is retired.
     fn kind(&mut self, packages: usize) -> u8 {
-        let wanted = if self.drive == Drive::Packages { 7 } else { 3 };
+        let wanted = if self.drive == Drive::Packages { self.rules.sizes.packages - 1 } else { 3 };
         if packages < wanted && self.random.percent(60) {
             return 1;
         }
@@ -194,16 +194,18 @@ fn pair(tokens: Tokens) -> write::Tokens {
     (tokens.interface, tokens.method)
 }
 
-/// Eleven AIDs of 5 to 16 bytes, those given among them: three more than a card has packages. Some begin alike, and some
+/// Three AIDs more than a card has packages, of any length, those given among them. Some begin alike, and some
 /// differ only in zeros at the end, which a table's fill must not blur.
-fn few_aids(random: &mut Random, given: Vec<Aid>) -> Vec<Aid> {
+fn few_aids(random: &mut Random, rules: Rules, given: Vec<Aid>) -> Vec<Aid> {
+    let (shortest, longest) = Aid::LENGTHS.into_inner();
     let mut aids = given;
-    while aids.len() < 11 {
+    while aids.len() < rules.sizes.packages + 3 {
         let mut aid = match random.pick(&aids) {
             Some(like) if random.percent(50) => like.bytes().to_vec(),
             _ => vec![0xF0, 0, 0, 0, random.byte()],
         };
-        let length = if random.percent(30) { [5, 16][random.below(2)] } else { random.between(5, 16) };
+        let ends = random.percent(30);
+        let length = if ends { [shortest, longest][random.below(2)] } else { random.between(shortest, longest) };
         aid.resize(length, 0);
         if random.percent(40) {
             aid[length - 1] = random.byte();
@@ -216,14 +218,14 @@ fn few_aids(random: &mut Random, given: Vec<Aid>) -> Vec<Aid> {
     aids
 }
 
-/// Ten token pairs, those given among them: two more than a package has services. The lowest and the highest are there;
+/// Two token pairs more than a package has services, those given among them. The lowest and the highest are there;
 /// some others have a method around 128, as far as the rules go, or an interface there, which may go on to 255.
 fn few_tokens(random: &mut Random, rules: Rules, given: Vec<Tokens>) -> Vec<Tokens> {
     let most = rules.most_method;
     let around: Vec<u8> = [126, 127, 128, 129, 255].into_iter().filter(|method| *method <= most).collect();
     let mut ends = vec![Tokens { interface: 0, method: 0 }, Tokens { interface: 255, method: most }];
     let mut tokens = given;
-    while tokens.len() < 10 {
+    while tokens.len() < rules.sizes.services + 2 {
         let edge = random.percent(25);
         let interface = if edge { [127, 128, 255][random.below(3)] } else { random.below(3) as u8 };
         let edge = random.percent(30);

@@ -1,15 +1,13 @@
-//! A second engine, written from the paper alone, and what compares it with the proved engine.
+//! What compares the proved engine with the second engine.
 
-// The second engine, twice: `machine` and `bytes` share no code. Both are handed the rules to judge by.
-pub mod bytes;
-pub mod machine;
-pub mod rules;
+// The second engine, and the rules that both its halves judge by.
+pub use second::{bytes, machine, rules};
 
-// The proved engine, and what makes engines alike for the comparison.
+// What the programs share with the tool.
+pub use cardtool::{hex, program, say, say_line};
+
+// What makes engines alike for the comparison.
 pub mod card;
-#[cfg(feature = "engine")]
-pub mod engine;
-pub mod refusal;
 
 // The comparison.
 pub mod compare;
@@ -37,12 +35,6 @@ pub mod session;
 // What is timed.
 pub mod full_card;
 
-// Records and images as text, for hosts and testers.
-pub mod host;
-
-// What the programs share.
-pub mod program;
-
-pub mod hex;
+pub mod encode;
 pub mod random;
 pub mod write;

@@ -2,6 +2,7 @@
 
 use crate::card::IMAGE;
 use crate::rules::Rules;
+use crate::tables::Form;
 use std::fmt;
 
 /// A part of records that has tokens: one of the lists of kind 1 or 11, or a kind of update.
@@ -59,9 +60,9 @@ fn walk(record: &[u8], found: &mut Vec<(Place, usize)>) -> Option<()> {
             found.extend((1..=services).map(|n| (provides, at + 2 * n)));
             at += 1 + 2 * services;
             for list in lists {
-                let rows = *record.get(at)?;
-                at += 1;
-                for _ in 0..rows {
+                let count = record.get(at..at + Rules::IN_FORCE.sizes.count_bytes)?;
+                at += count.len();
+                for _ in 0..count.iter().fold(0, |rows, byte| 256 * rows + usize::from(*byte)) {
                     at = after_aid(at)? + 2;
                     found.push((list, at - 1));
                 }
@@ -95,11 +96,16 @@ impl fmt::Display for Held {
 
 /// The byte of each method token that an image of either version holds.
 pub fn of_image(image: &[u8]) -> Vec<(Held, usize)> {
-    let count = |at: usize| usize::from(image[at]).min(16);
-    let provided = (0..64).filter(|n| image[268 + n / 8] >> (n % 8) & 1 == 1);
-    let provided = provided.map(|n| (Held::Provided, 140 + 2 * n + 1));
-    let unmet = (0..count(468)).map(|n| (Held::Unmet, 469 + 20 * n + 18));
-    let waiting = (0..count(789)).filter(|_| image.len() == IMAGE).map(|n| (Held::Waiting, 790 + 20 * n + 19));
+    let form = Form::of_image(image);
+    let rows = |list: usize| 0..usize::from(image[list]).min(form.sizes.listed);
+    let services = |package: usize| (0..form.sizes.services).map(move |service| (package, service));
+    let provided = (0..form.sizes.packages).flat_map(services);
+    let provided = provided.filter(|(package, service)| form.provided_bit(*package, *service).is_set(image));
+    let provided = provided.map(|(package, service)| (Held::Provided, form.token_pair(package, service) + 1));
+    // A method token is the last byte but one of an unmet call, and the last of a waiting grant.
+    let unmet = rows(form.unmet).map(|n| (Held::Unmet, form.unmet_at(n + 1) - 2));
+    let waiting = rows(form.waiting).filter(|_| image.len() == IMAGE);
+    let waiting = waiting.map(|n| (Held::Waiting, form.waiting_at(n + 1) - 1));
     provided.chain(unmet).chain(waiting).collect()
 }
 

@@ -39,7 +39,7 @@ impl fmt::Display for Kind {
 /// For every kind: 1 on an image that is not sound, 2 for a record that cannot be read. 12 is for
 /// reading out alone. 3 needs a second AID or a list, which kinds 2 and 4 have not. 4 is for loads
 /// and 5 for all others. 6 is for updates, kinds 3 to 10. 7 is for what takes a number, kinds 1
-/// and 3; the eight services of kind 11 at most always find theirs. The card is lawful and within
+/// and 3; the services of kind 11 always find theirs. The card is lawful and within
 /// its limits before the change, so for 8 to 11 the change itself must be able to bring the cause
 /// about.
 const ANSWERS: [(Kind, &[u32]); 13] = [

@@ -1,6 +1,7 @@
 //! What R-1 brings about, "An applet's new release brings its whole contract", so that it can be counted in histories.
 
 use crate::machine::{Aid, Row, Tokens};
+use crate::rules::Rules;
 use crate::tables::{Bit, Tables};
 use std::fmt;
 
@@ -33,7 +34,7 @@ pub enum Replaced {
     /// A waiting grant of another stays; one that is given to the package.
     OtherStays,
     GivenStays,
-    /// A list passes 16 rows on the way and ends at 16.
+    /// A list passes its limit on the way and ends there.
     UnmetPast,
     WaitingPast,
 }
@@ -93,11 +94,12 @@ impl Replaced {
         let both = |one: &[Row], other: &[Row]| one.iter().any(|row| other.contains(row));
         let (waited, waits) = (waiting(before, true), waiting(after, true));
         let stay = waiting(after, false);
+        let most = Rules::IN_FORCE.sizes.listed;
 
         let done = |replaced: &Replaced| match replaced {
-            Replaced::Kept => (0..8).any(|service| kept(&service) && (0..service).any(dropped)),
+            Replaced::Kept => (0..new.len()).any(|service| kept(&service) && (0..service).any(dropped)),
             Replaced::Reordered => !in_order.is_sorted(),
-            Replaced::Taken => (0..8).any(|service| dropped(service) && new[service].is_some()),
+            Replaced::Taken => (0..new.len()).any(|service| dropped(service) && new[service].is_some()),
             Replaced::StaysMet => met.iter().any(|call| met_before.contains(call)),
             Replaced::StaysNeeded => needed.iter().any(|need| needed_before.contains(need)),
             Replaced::Met => met.iter().any(|call| !met_before.contains(call)),
@@ -115,19 +117,20 @@ impl Replaced {
             Replaced::GrantSettled => both(&waited, &grants(after)),
             Replaced::OtherStays => !stay.is_empty(),
             Replaced::GivenStays => stay.iter().any(|grant| grant.other == own),
-            Replaced::UnmetPast => before.unmet.len() + unmet_come > 16 && after.unmet.len() == 16,
-            Replaced::WaitingPast => before.waiting.len() + waits.len() > 16 && after.waiting.len() == 16,
+            Replaced::UnmetPast => before.unmet.len() + unmet_come > most && after.unmet.len() == most,
+            Replaced::WaitingPast => before.waiting.len() + waits.len() > most && after.waiting.len() == most,
         };
         Replaced::ALL.into_iter().filter(done).collect()
     }
 }
 
-fn services(tables: &Tables, number: usize) -> [Option<Tokens>; 8] {
-    tables.packages[number].as_ref().map_or([None; 8], |package| package.services)
+fn services(tables: &Tables, number: usize) -> &[Option<Tokens>] {
+    tables.at(number).map_or(&[], |package| &package.services)
 }
 
 impl fmt::Display for Replaced {
     fn fmt(&self, f: &mut fmt::Formatter) -> fmt::Result {
+        let most = Rules::IN_FORCE.sizes.listed;
         f.write_str(match self {
             Replaced::Kept => "service kept above a dropped one",
             Replaced::Reordered => "services in another order",
@@ -145,8 +148,8 @@ impl fmt::Display for Replaced {
             Replaced::GrantSettled => "grant settled as its service comes",
             Replaced::OtherStays => "waiting grant of another stays",
             Replaced::GivenStays => "one given to the package stays",
-            Replaced::UnmetPast => "unmet calls past 16 on the way",
-            Replaced::WaitingPast => "waiting grants past 16 on the way",
+            Replaced::UnmetPast => return write!(f, "unmet calls past {most} on the way"),
+            Replaced::WaitingPast => return write!(f, "waiting grants past {most} on the way"),
         })
     }
 }

@@ -50,7 +50,7 @@ pub struct OldNeeds(BTreeSet<(Aid, Row)>);
 impl OldNeeds {
     /// An accepted record by the rules leaves these contracts: kind 9 brings a need, and what a whole contract has is its own.
     pub fn follow(&mut self, rules: Rules, bytes: &[u8], after: &Machine) {
-        let Ok(record) = record::read(rules, bytes) else { return };
+        let Some(record) = record::read(rules, bytes) else { return };
         match record.change {
             Change::AddNeed(row) => drop(self.0.insert((record.aid, row))),
             Change::Replace(_) => self.0.retain(|(own, _)| *own != record.aid),
@@ -67,14 +67,14 @@ impl OldNeeds {
         }
         let before = || held.clone().judge(Rules::R_1, bytes);
         match (record::read(rules, bytes), answer, bytes.get(3)) {
-            (Err(_), 2, Some(9)) if before() == 0 => shown.push(Retired::Adds),
-            (Err(_), 2, Some(10)) if before() == 0 => shown.push(Retired::Removes),
-            (Ok(record), 9, _) if self.lifted(held).judge(rules, bytes) != 9 => shown.push(match record.change {
+            (None, 2, Some(9)) if before() == 0 => shown.push(Retired::Adds),
+            (None, 2, Some(10)) if before() == 0 => shown.push(Retired::Removes),
+            (Some(record), 9, _) if self.lifted(held).judge(rules, bytes) != 9 => shown.push(match record.change {
                 Change::Remove => Retired::KeepsPackage,
                 Change::RemoveService(_) => Retired::KeepsService,
                 _ => Retired::KeepsContract,
             }),
-            (Ok(record), 0, _) => {
+            (Some(record), 0, _) => {
                 let own = self.0.iter().filter(|(own, _)| *own == record.aid).map(|(_, need)| need);
                 shown.extend(own.filter_map(|need| match &record.change {
                     Change::Remove => Some(Retired::GoesWithPackage),

@@ -5,6 +5,7 @@ use crate::compare::{lengths_alike, Compare, Difference, Tally};
 use crate::damage::Damage;
 use crate::generate::Source;
 use crate::history::{changes, Event};
+use crate::program::Progress;
 use crate::rules::Rules;
 use crate::shrink::shrink;
 use std::panic::{catch_unwind, AssertUnwindSafe};
@@ -27,7 +28,9 @@ pub fn run(cards: &[&dyn Card], seed: u64, records: u64) -> Result<Tally, Failur
     lengths_alike(cards).map_err(|words| Failure { difference: words.into(), history: Vec::new() })?;
     let mut tally = Tally::default();
     let mut ordinal = 0;
+    let mut progress = Progress::new("comparing", records as usize);
     while tally.records < records {
+        progress.at(tally.records as usize);
         let mut history = Vec::new();
         caught(|| one_history(cards, seed, ordinal, records, &mut history, &mut tally)).map_err(|difference| {
             // A difference before a change: the changes to come tell by which rules it was.

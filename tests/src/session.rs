@@ -26,7 +26,7 @@ pub fn frames(input: &[u8]) -> Frames<'_> {
 }
 
 /// The length of the record that stands first. None does when no byte is left, or a single one, or when the length is
-/// below 4, above 4,145 or past the end of input.
+/// below 4, above that of the longest record or past the end of input.
 fn length(bytes: &[u8]) -> Option<usize> {
     let [high, low, ..] = *bytes else { return None };
     let length = usize::from(u16::from_be_bytes([high, low]));
@@ -77,8 +77,9 @@ mod tests {
         assert_eq!(transcript(&[]), "");
         assert_eq!(transcript(&[0, 4, 1, 99]), "1 99 2 -\n");
         let longest = |length: u16| [&length.to_be_bytes()[..], &[0; 70_000]].concat();
-        assert!(transcript(&longest(4145)).starts_with("1 0 2 -\n2 - 2 -\n"));
-        let bad: [&[u8]; 6] = [&[0], &[0, 3, 1], &[0, 0, 0, 0], &[0, 4], &[0, 5, 1, 2], &longest(4146)];
+        let most = LONGEST_RECORD as u16;
+        assert!(transcript(&longest(most)).starts_with("1 0 2 -\n2 - 2 -\n"));
+        let bad: [&[u8]; 6] = [&[0], &[0, 3, 1], &[0, 0, 0, 0], &[0, 4], &[0, 5, 1, 2], &longest(most + 1)];
         for bad in bad {
             assert_eq!(transcript(bad), "1 - 2 -\n");
             assert_eq!(transcript(&[&paper()[0], bad].concat()), "1 1 0 0\n2 - 2 -\n");

@@ -4,12 +4,13 @@
 //! what it read. Where the two differ, something stands where nothing may.
 
 use crate::machine::{Aid, Contract, Machine, Row, Tokens};
-use crate::rules::Rules;
+use crate::rules::{Rules, Sizes};
 
 /// What an image's tables say, whichever version it has.
-#[derive(Clone, Debug, Default, PartialEq, Eq)]
+#[derive(Clone, Debug, PartialEq, Eq)]
 pub struct Tables {
-    pub packages: [Option<Package>; 8],
+    /// By package number.
+    pub packages: Vec<Option<Package>>,
     /// The bits set, by callee, caller and service.
     pub calls: Vec<Bit>,
     pub grants: Vec<Bit>,
@@ -21,7 +22,8 @@ pub struct Tables {
 #[derive(Clone, Debug, PartialEq, Eq)]
 pub struct Package {
     pub aid: Aid,
-    pub services: [Option<Tokens>; 8],
+    /// By service number.
+    pub services: Vec<Option<Tokens>>,
 }
 
 /// A service that one package calls, is granted or needs of another.
@@ -53,103 +55,250 @@ pub fn contracts(rules: Rules, image: &[u8]) -> Option<Machine> {
 }
 
 /// The AID at a package number of a sound image; `None` when the number is not used.
-pub fn aid_at(image: &[u8], number: u32) -> Option<Aid> {
-    let used = number < 8 && bit(image[3], number as usize);
-    used.then(|| read_aid(&image[4 + 17 * number as usize..])).flatten()
+pub fn aid_at(rules: Rules, image: &[u8], number: u32) -> Option<Aid> {
+    let (form, number) = (Form::of(rules), number as usize);
+    let used = number < form.sizes.packages && form.used_bit(number).is_set(image);
+    used.then(|| read_aid(&image[form.aid(number)..])).flatten()
+}
+
+/// The length of the image in two bytes, and its version.
+const HEADER: usize = 3;
+/// The length byte, the AID's bytes and zero fill.
+const AID: usize = 1 + *Aid::LENGTHS.end();
+/// Interface and method.
+const PAIR: usize = 2;
+
+/// Where the parts of an image begin. Each begins where the one before it ends.
+#[derive(Clone, Copy)]
+pub struct Form {
+    pub sizes: &'static Sizes,
+    /// The length of the image and its version.
+    pub header: [u8; HEADER],
+    pub size: usize,
+    pub used: usize,
+    pub aids: usize,
+    pub tokens: usize,
+    pub provides: usize,
+    pub calls: usize,
+    pub grants: usize,
+    pub needs: usize,
+    /// The lists: a count byte, then the rows.
+    pub unmet: usize,
+    pub waiting: usize,
+    /// The bytes of a row.
+    pub unmet_row: usize,
+    pub waiting_row: usize,
+}
+
+impl Form {
+    /// Of the images that the rules have.
+    pub const fn of(rules: Rules) -> Form {
+        let Sizes { packages, services, listed, .. } = *rules.sizes;
+        let table = packages * packages * width(services);
+        // A row has an AID, a package number and tokens, or in version 01 the number of a service to be granted.
+        let unmet_row = AID + 1 + PAIR;
+        let (version, waiting_row) = if rules.early_grants { (2, unmet_row) } else { (1, AID + 1 + 1) };
+        let used = HEADER;
+        let aids = used + width(packages);
+        let tokens = aids + packages * AID;
+        let provides = tokens + packages * services * PAIR;
+        let calls = provides + packages * width(services);
+        let [grants, needs, unmet] = [calls + table, calls + 2 * table, calls + 3 * table];
+        let waiting = unmet + 1 + listed * unmet_row;
+        let size = waiting + 1 + listed * waiting_row;
+        let [high, low] = (size as u16).to_be_bytes();
+        let (sizes, header) = (rules.sizes, [high, low, version]);
+        Form {
+            sizes,
+            header,
+            size,
+            used,
+            aids,
+            tokens,
+            provides,
+            calls,
+            grants,
+            needs,
+            unmet,
+            waiting,
+            unmet_row,
+            waiting_row,
+        }
+    }
+
+    /// Of an image whose size is that of some version.
+    pub fn of_image(image: &[u8]) -> Form {
+        let mut forms = Rules::ALL.into_iter().map(Form::of);
+        forms.find(|form| form.size == image.len()).expect("an image of some version")
+    }
+
+    /// The place of a package's AID.
+    pub const fn aid(&self, package: usize) -> usize {
+        self.aids + package * AID
+    }
+
+    /// The place of a service's tokens.
+    pub const fn token_pair(&self, package: usize, service: usize) -> usize {
+        self.tokens + (package * self.sizes.services + service) * PAIR
+    }
+
+    /// The place of a row of unmet calls.
+    pub const fn unmet_at(&self, row: usize) -> usize {
+        self.unmet + 1 + row * self.unmet_row
+    }
+
+    /// The place of a row of waiting grants.
+    pub const fn waiting_at(&self, row: usize) -> usize {
+        self.waiting + 1 + row * self.waiting_row
+    }
+
+    pub fn used_bit(&self, package: usize) -> BitAt {
+        BitAt::of(self.used, self.sizes.packages, package)
+    }
+
+    pub fn provided_bit(&self, package: usize, service: usize) -> BitAt {
+        self.entry_bit(self.provides, package, service)
+    }
+
+    /// "Row the caller, column the callee."
+    pub fn call_bit(&self, bit: &Bit) -> BitAt {
+        self.table_bit(self.calls, bit.caller, bit.callee, bit.service)
+    }
+
+    /// "Row the callee, column the caller."
+    pub fn grant_bit(&self, bit: &Bit) -> BitAt {
+        self.table_bit(self.grants, bit.callee, bit.caller, bit.service)
+    }
+
+    /// "As calls."
+    pub fn need_bit(&self, bit: &Bit) -> BitAt {
+        self.table_bit(self.needs, bit.caller, bit.callee, bit.service)
+    }
+
+    fn table_bit(&self, table: usize, row: usize, column: usize, service: usize) -> BitAt {
+        self.entry_bit(table, row * self.sizes.packages + column, service)
+    }
+
+    fn entry_bit(&self, start: usize, entry: usize, service: usize) -> BitAt {
+        BitAt::of(start + entry * width(self.sizes.services), self.sizes.services, service)
+    }
+}
+
+/// The bytes that so many bits have.
+const fn width(bits: usize) -> usize {
+    bits / 8
+}
+
+/// A bit of an image: its byte, and the bit alone.
+#[derive(Clone, Copy)]
+pub struct BitAt {
+    pub byte: usize,
+    pub bit: u8,
+}
+
+impl BitAt {
+    /// Of so many bits at a place, big-endian, the one with this number.
+    fn of(start: usize, bits: usize, number: usize) -> BitAt {
+        BitAt { byte: start + width(bits) - 1 - number / 8, bit: 1 << (number % 8) }
+    }
+
+    pub fn is_set(self, image: &[u8]) -> bool {
+        image[self.byte] & self.bit != 0
+    }
+
+    fn set(self, image: &mut [u8]) {
+        image[self.byte] |= self.bit;
+    }
 }
 
 impl Tables {
+    /// The tables of the empty image.
+    pub fn empty(rules: Rules) -> Tables {
+        let [calls, grants, needs] = [const { Vec::new() }; 3];
+        let packages = vec![None; rules.sizes.packages];
+        Tables { packages, calls, grants, needs, unmet: Vec::new(), waiting: Vec::new() }
+    }
+
     /// The tables of an image that is sound by the rules.
     pub fn of(rules: Rules, image: &[u8]) -> Option<Tables> {
         Tables::read(rules, image).filter(|tables| tables.write(rules) == image && tables.hold(rules))
     }
 
     fn read(rules: Rules, image: &[u8]) -> Option<Tables> {
-        let (_, size, waiting_row) = form(rules);
-        if image.len() != size {
+        let form = Form::of(rules);
+        if image.len() != form.size {
             return None;
         }
-        let mut packages: [Option<Package>; 8] = [const { None }; 8];
-        for (number, place) in packages.iter_mut().enumerate() {
-            if bit(image[3], number) {
-                let aid = read_aid(&image[4 + 17 * number..])?;
-                let mut services = [None; 8];
-                for (service, place) in services.iter_mut().enumerate() {
-                    if bit(image[268 + number], service) {
-                        *place = Some(read_tokens(&image[140 + 16 * number + 2 * service..]));
-                    }
-                }
-                *place = Some(Package { aid, services });
+        let mut tables = Tables::empty(rules);
+        for (number, place) in tables.packages.iter_mut().enumerate() {
+            if form.used_bit(number).is_set(image) {
+                let aid = read_aid(&image[form.aid(number)..])?;
+                let service = |service: usize| {
+                    let provided = form.provided_bit(number, service).is_set(image);
+                    provided.then(|| read_tokens(&image[form.token_pair(number, service)..]))
+                };
+                *place = Some(Package { aid, services: (0..form.sizes.services).map(service).collect() });
             }
         }
-        let [mut calls, mut grants, mut needs] = [const { Vec::new() }; 3];
-        for place in places(&packages) {
-            let Bit { caller, callee, service } = place;
-            if bit(image[340 + 8 * callee + caller], service) {
-                grants.push(place);
+        for place in places(&tables.packages) {
+            if form.grant_bit(&place).is_set(image) {
+                tables.grants.push(place);
             }
-            if bit(image[276 + 8 * caller + callee], service) {
-                calls.push(place);
-                if bit(image[404 + 8 * caller + callee], service) {
-                    needs.push(place);
+            if form.call_bit(&place).is_set(image) {
+                tables.calls.push(place);
+                if form.need_bit(&place).is_set(image) {
+                    tables.needs.push(place);
                 }
             }
         }
-        let mut unmet = Vec::new();
-        for row in list(image, 468, 20)? {
-            unmet.push(Unmet { callee: read_aid(row)?, tokens: read_tokens(&row[17..]), caller: row[19].into() });
+        for row in list(&form, image, form.unmet, form.unmet_row)? {
+            let (callee, [interface, method, caller]) = (read_aid(row)?, *row[AID..].first_chunk()?);
+            tables.unmet.push(Unmet { callee, tokens: Tokens { interface, method }, caller: caller.into() });
         }
-        let mut waiting = Vec::new();
-        for row in list(image, 789, waiting_row)? {
-            let callee = usize::from(row[17]);
+        for row in list(&form, image, form.waiting, form.waiting_row)? {
+            let (caller, callee, rest) = (read_aid(row)?, usize::from(row[AID]), &row[AID + 1..]);
             let tokens = match rules.early_grants {
-                true => read_tokens(&row[18..]),
-                false => (*packages.get(callee)?.as_ref()?.services.get(usize::from(row[18]))?)?,
+                true => read_tokens(rest),
+                false => (*tables.at(callee)?.services.get(usize::from(rest[0]))?)?,
             };
-            waiting.push(Waiting { caller: read_aid(row)?, callee, tokens });
+            tables.waiting.push(Waiting { caller, callee, tokens });
         }
-        Some(Tables { packages, calls, grants, needs, unmet, waiting })
+        Some(tables)
     }
 
     /// The image with these tables, of the version that the rules have.
     pub fn write(&self, rules: Rules) -> Vec<u8> {
-        let (header, size, waiting_row) = form(rules);
-        let mut image = vec![0; size];
-        image[..3].copy_from_slice(&header);
+        let form = Form::of(rules);
+        let mut image = vec![0; form.size];
+        image[..HEADER].copy_from_slice(&form.header);
         for (number, package) in self.packages.iter().enumerate() {
             let Some(package) = package else { continue };
-            image[3] |= 1 << number;
-            write_aid(&mut image[4 + 17 * number..], package.aid);
+            form.used_bit(number).set(&mut image);
+            write_aid(&mut image[form.aid(number)..], package.aid);
             for (service, tokens) in package.services.iter().enumerate() {
                 let Some(tokens) = tokens else { continue };
-                image[268 + number] |= 1 << service;
-                image[140 + 16 * number + 2 * service] = tokens.interface;
-                image[140 + 16 * number + 2 * service + 1] = tokens.method;
+                form.provided_bit(number, service).set(&mut image);
+                write_tokens(&mut image[form.token_pair(number, service)..], *tokens);
             }
         }
-        for Bit { caller, callee, service } in &self.calls {
-            image[276 + 8 * caller + callee] |= 1 << service;
-        }
-        for Bit { caller, callee, service } in &self.grants {
-            image[340 + 8 * callee + caller] |= 1 << service;
-        }
-        for Bit { caller, callee, service } in &self.needs {
-            image[404 + 8 * caller + callee] |= 1 << service;
-        }
-        image[468] = self.unmet.len() as u8;
+        self.calls.iter().for_each(|call| form.call_bit(call).set(&mut image));
+        self.grants.iter().for_each(|grant| form.grant_bit(grant).set(&mut image));
+        self.needs.iter().for_each(|need| form.need_bit(need).set(&mut image));
+        image[form.unmet] = self.unmet.len() as u8;
         for (n, row) in self.unmet.iter().enumerate() {
-            let place = &mut image[469 + 20 * n..];
+            let place = &mut image[form.unmet_at(n)..];
             write_aid(place, row.callee);
-            place[17..20].copy_from_slice(&[row.tokens.interface, row.tokens.method, row.caller as u8]);
+            write_tokens(&mut place[AID..], row.tokens);
+            place[AID + PAIR] = row.caller as u8;
         }
-        image[789] = self.waiting.len() as u8;
+        image[form.waiting] = self.waiting.len() as u8;
         for (n, row) in self.waiting.iter().enumerate() {
-            let place = &mut image[790 + waiting_row * n..];
+            let place = &mut image[form.waiting_at(n)..];
             write_aid(place, row.caller);
-            place[17] = row.callee as u8;
+            place[AID] = row.callee as u8;
             match rules.early_grants {
-                true => place[18..20].copy_from_slice(&[row.tokens.interface, row.tokens.method]),
-                false => place[18] = self.service(row.callee, row.tokens).expect("a service provided") as u8,
+                true => write_tokens(&mut place[AID + 1..], row.tokens),
+                false => place[AID + 1] = self.service(row.callee, row.tokens).expect("a service provided") as u8,
             }
         }
         image
@@ -168,7 +317,8 @@ impl Tables {
     /// Gives the services of the package other numbers, by those that they have.
     pub fn renumber(&mut self, package: usize, number: impl Fn(usize) -> usize) {
         let Some(own) = &mut self.packages[package] else { return };
-        let old = std::mem::take(&mut own.services);
+        let none = vec![None; own.services.len()];
+        let old = std::mem::replace(&mut own.services, none);
         for (service, tokens) in old.into_iter().enumerate().filter(|(_, tokens)| tokens.is_some()) {
             own.services[number(service)] = tokens;
         }
@@ -215,13 +365,9 @@ impl Tables {
 
     /// The contracts, one for each used number under its AID.
     pub fn machine(&self) -> Machine {
-        let mut contracts = [const { None }; 8];
-        for (contract, package) in contracts.iter_mut().zip(&self.packages) {
-            *contract = package.as_ref().map(|package| Contract {
-                provides: package.services.iter().flatten().copied().collect(),
-                ..Contract::default()
-            });
-        }
+        let provides = |package: &Package| package.services.iter().flatten().copied().collect();
+        let begun = |package: &Package| Contract { provides: provides(package), ..Contract::default() };
+        let mut contracts: Vec<_> = self.packages.iter().map(|package| package.as_ref().map(begun)).collect();
         let called = |place: &Bit| self.row(place.callee, place.callee, place.service);
         for place in &self.calls {
             contracts[place.caller].as_mut().unwrap().calls.insert(called(place));
@@ -252,36 +398,28 @@ impl Tables {
     }
 }
 
-/// Of the images that the rules have: the header, the size, and the bytes of a waiting grant.
-fn form(rules: Rules) -> ([u8; 3], usize, usize) {
-    match rules.early_grants {
-        true => ([0x04, 0x56, 0x02], 1110, 20),
-        false => ([0x04, 0x46, 0x01], 1094, 19),
-    }
-}
-
 /// The places that a bit may have, upwards: two different used numbers and a service provided.
-pub fn places(packages: &[Option<Package>; 8]) -> Vec<Bit> {
+pub fn places(packages: &[Option<Package>]) -> Vec<Bit> {
     let mut places = Vec::new();
     for (callee, package) in packages.iter().enumerate() {
         let Some(package) = package else { continue };
-        for caller in (0..8).filter(|caller| *caller != callee && packages[*caller].is_some()) {
-            let services = (0..8).filter(|service| package.services[*service].is_some());
+        for caller in (0..packages.len()).filter(|caller| *caller != callee && packages[*caller].is_some()) {
+            let services = (0..package.services.len()).filter(|service| package.services[*service].is_some());
             places.extend(services.map(|service| Bit { caller, callee, service }));
         }
     }
     places
 }
 
-/// The rows of the list at `start`; `None` when its count is above 16.
-fn list(image: &[u8], start: usize, row: usize) -> Option<impl Iterator<Item = &[u8]>> {
+/// The rows of the list at `start`; `None` when its count is above what lists have.
+fn list<'a>(form: &Form, image: &'a [u8], start: usize, row: usize) -> Option<impl Iterator<Item = &'a [u8]>> {
     let count = usize::from(image[start]);
-    (count <= 16).then(|| image[start + 1..].chunks(row).take(count))
+    (count <= form.sizes.listed).then(|| image[start + 1..].chunks(row).take(count))
 }
 
 fn read_aid(place: &[u8]) -> Option<Aid> {
     let length = usize::from(place[0]);
-    (5..=16).contains(&length).then(|| Aid::new(&place[1..1 + length]))
+    Aid::LENGTHS.contains(&length).then(|| Aid::new(&place[1..1 + length]))
 }
 
 fn write_aid(place: &mut [u8], aid: Aid) {
@@ -294,12 +432,39 @@ fn read_tokens(place: &[u8]) -> Tokens {
     Tokens { interface: place[0], method: place[1] }
 }
 
-fn bit(byte: u8, n: usize) -> bool {
-    byte & (1 << n) != 0
+fn write_tokens(place: &mut [u8], tokens: Tokens) {
+    place[..PAIR].copy_from_slice(&[tokens.interface, tokens.method]);
 }
 
 fn differ<T: Ord>(items: impl Iterator<Item = T>) -> bool {
     let mut items: Vec<T> = items.collect();
     items.sort();
     items.windows(2).all(|two| two[0] != two[1])
+}
+
+#[cfg(test)]
+mod tests {
+    use super::*;
+
+    /// The paper's offsets.
+    #[test]
+    fn the_places_are_the_papers() {
+        for (rules, version, size) in [(Rules::R_7, 1, 1094), (Rules::R_2, 2, 1110)] {
+            let form = Form::of(rules);
+            assert_eq!([form.used, form.aids, form.tokens, form.provides], [3, 4, 140, 268]);
+            assert_eq!([form.calls, form.grants, form.needs, form.unmet, form.waiting], [276, 340, 404, 468, 789]);
+            assert_eq!((form.size, form.header), (size, [0x04, size as u8, version]));
+        }
+    }
+
+    /// "16 packages of 16 services, a used field and table entries of two bytes, big-endian, 32 rows in each list."
+    #[test]
+    fn the_sizes_of_r_9_make_its_image() {
+        const SIZES: Sizes = Sizes { packages: 16, services: 16, listed: 32, ..Sizes::SMALL };
+        let form = Form::of(Rules { sizes: &SIZES, ..Rules::R_2 });
+        assert_eq!((form.size, &form.header[..2]), (3639, &[0x0E, 0x37][..]));
+        let bits = [form.used_bit(0), form.used_bit(15), form.provided_bit(1, 7), form.provided_bit(1, 8)];
+        let provides = form.provides + 2;
+        assert_eq!(bits.map(|at| (at.byte, at.bit)), [(4, 0x01), (3, 0x80), (provides + 1, 0x80), (provides, 0x01)]);
+    }
 }

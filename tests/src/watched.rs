@@ -7,7 +7,7 @@ pub mod turns;
 use crate::machine::{Aid, Row, Tokens};
 use crate::pairs::Pairs;
 use crate::rules::Rules;
-use crate::tables::Tables;
+use crate::tables::{Package, Tables};
 use std::collections::{BTreeMap, BTreeSet};
 use std::fmt;
 
@@ -89,7 +89,7 @@ fn contract_rows(tables: &Tables) -> impl Iterator<Item = ContractRow> + '_ {
 #[derive(Clone, Debug, PartialEq, Eq, PartialOrd, Ord)]
 pub struct View {
     /// By package number, the AID and the services, in their order.
-    packages: [Option<(Aid, Vec<Tokens>)>; 8],
+    packages: Vec<Option<(Aid, Vec<Tokens>)>>,
     /// The rows with B at an end, each under its clause and with the AID of the other end, in their order.
     rows: Vec<(Clause, Row)>,
     unmet: usize,
@@ -98,13 +98,12 @@ pub struct View {
 
 impl View {
     pub fn of(tables: &Tables, own: Aid) -> View {
-        let packages = tables.packages.each_ref().map(|package| {
-            package.as_ref().map(|package| {
-                let mut services: Vec<Tokens> = package.services.iter().flatten().copied().collect();
-                services.sort();
-                (package.aid, services)
-            })
-        });
+        let shown = |package: &Package| {
+            let mut services: Vec<Tokens> = package.services.iter().flatten().copied().collect();
+            services.sort();
+            (package.aid, services)
+        };
+        let packages = tables.packages.iter().map(|package| package.as_ref().map(shown)).collect();
         let mut rows = Vec::new();
         for ContractRow { sort, owner, row, .. } in contract_rows(tables) {
             let [of, on] = match sort {
@@ -134,7 +133,7 @@ impl View {
         match clause {
             Clause::Sound => true,
             Clause::UsedNumbers => {
-                let used = |view: &View| view.packages.each_ref().map(Option::is_some);
+                let used = |view: &View| view.packages.iter().map(Option::is_some).collect::<Vec<_>>();
                 used(self) == used(other)
             }
             Clause::Aids => both.all(|(one, two)| one.0 == two.0),
@@ -220,7 +219,9 @@ impl Watched {
         let rows = [one, two].map(among_others);
         let mut differ: Vec<Watched> = rows[0].symmetric_difference(&rows[1]).map(|(sort, ..)| *sort).collect();
         differ.dedup();
-        let services = |tables: &Tables| tables.packages.each_ref().map(|own| own.as_ref().map(|own| own.services));
+        let services = |tables: &Tables| -> Vec<_> {
+            tables.packages.iter().map(|own| own.as_ref().map(|own| own.services.clone())).collect()
+        };
         if services(one) != services(two) {
             differ.push(Watched::ServiceNumbers);
         }

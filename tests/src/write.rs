@@ -1,12 +1,18 @@
 //! Writes records, good and bad: nothing is looked at, so that any wrong record can be written.
 
+use crate::rules::{Rules, Sizes};
+
+/// The sizes of the card that the records are for.
+const SIZES: &Sizes = Rules::IN_FORCE.sizes;
+pub const VERSION: u8 = SIZES.record_version;
+
 pub type Tokens = (u8, u8);
 /// A row of calls, grants or needs: the other end's AID and the tokens.
 pub type Row = (Vec<u8>, Tokens);
 
 /// A record with the right length field and version: the kind, then the parts.
 pub fn record(kind: u8, parts: &[&[u8]]) -> Vec<u8> {
-    let mut record = vec![0, 0, 1, kind];
+    let mut record = vec![0, 0, VERSION, kind];
     for part in parts {
         record.extend_from_slice(part);
     }
@@ -36,19 +42,19 @@ pub fn row(other: &[u8], service: Tokens) -> Vec<u8> {
     [aid(other), tokens(service).to_vec()].concat()
 }
 
-fn list(rows: Vec<Vec<u8>>) -> Vec<u8> {
-    let mut written = vec![rows.len() as u8];
-    written.extend(rows.concat());
-    written
+/// A count of so many bytes, and the rows.
+fn list(count_bytes: usize, rows: Vec<Vec<u8>>) -> Vec<u8> {
+    let count = rows.len().to_be_bytes();
+    [&count[count.len() - count_bytes..], &rows.concat()].concat()
 }
 
 fn rows(rows: &[Row]) -> Vec<u8> {
-    list(rows.iter().map(|(other, service)| row(other, *service)).collect())
+    list(SIZES.count_bytes, rows.iter().map(|(other, service)| row(other, *service)).collect())
 }
 
 /// Kind 1 or 11, which have one layout.
 pub fn contract(kind: u8, own: &[u8], provides: &[Tokens], calls: &[Row], grants: &[Row], needs: &[Row]) -> Vec<u8> {
-    let provides = list(provides.iter().map(|service| tokens(*service).to_vec()).collect());
+    let provides = list(1, provides.iter().map(|service| tokens(*service).to_vec()).collect());
     record(kind, &[&aid(own), &provides, &rows(calls), &rows(grants), &rows(needs)])
 }
 
@@ -69,7 +75,7 @@ pub fn remove(own: &[u8]) -> Vec<u8> {
 
 /// Kind 3.
 pub fn add_service(own: &[u8], service: Tokens, callers: &[Vec<u8>]) -> Vec<u8> {
-    let callers = list(callers.iter().map(|caller| aid(caller)).collect());
+    let callers = list(1, callers.iter().map(|caller| aid(caller)).collect());
     record(3, &[&aid(own), &tokens(service), &callers])
 }
 

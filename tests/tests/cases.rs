@@ -1,16 +1,16 @@
 //! The table of cases holds on the machine and on every engine.
 
-use second::card::{linked, Card, Verdict, BYTES, IMAGE};
-use second::cases::{all, conditions, early, named, replace, retired, tokens, watched, worked, Step, B};
-use second::conditions::Outcome;
-use second::damage::Damage;
-use second::early::Early;
-use second::machine::Aid;
-use second::methods::Place;
-use second::replace::Replaced;
-use second::retired::Retired;
-use second::run::replay;
-use second::watched::{alike, Watched};
+use comparison::card::{linked, Card, Verdict, BYTES, IMAGE};
+use comparison::cases::{all, conditions, early, named, replace, retired, tokens, watched, worked, Step, B};
+use comparison::conditions::Outcome;
+use comparison::damage::Damage;
+use comparison::early::Early;
+use comparison::machine::Aid;
+use comparison::methods::Place;
+use comparison::replace::Replaced;
+use comparison::retired::Retired;
+use comparison::run::replay;
+use comparison::watched::{alike, Watched};
 use std::collections::BTreeSet;
 
 #[test]

@@ -1,13 +1,15 @@
 //! Each cause by itself, and the lowest number where several apply.
 
-use second::bytes::layout::Version;
-use second::card::{linked, Bytes, Card, Verdict, IMAGE, OLD_IMAGE};
-use second::cases::{B, C, H, X};
-use second::compare::{Compare, Tally};
-use second::conditions::Conditions;
-use second::machine::{Change, Machine};
-use second::rules::Rules;
-use second::write::{add_service, load, record, remove, remove_service, replace, row as written, update, Row, Tokens};
+use comparison::card::{linked, Bytes, Card, Verdict, IMAGE, OLD_IMAGE};
+use comparison::cases::{B, C, H, X};
+use comparison::compare::{Compare, Tally};
+use comparison::conditions::Conditions;
+use comparison::machine::{Change, Machine};
+use comparison::rules::Rules;
+use comparison::tables::Form;
+use comparison::write::{
+    add_service, load, record, remove, remove_service, replace, row as written, update, Row, Tokens,
+};
 use std::collections::BTreeSet;
 
 const S: Tokens = (0, 0);
@@ -133,7 +135,7 @@ fn kinds_9_and_10_are_read_up_to_r_13() {
         (update(10, C, H, S), 6),
     ];
     for (rules, read) in Rules::ALL.into_iter().zip([true, true, true, true, false]) {
-        let (mut machine, mut image) = (Machine::default(), vec![0; Version::of(rules).size]);
+        let (mut machine, mut image) = (Machine::default(), vec![0; Form::of(rules).size]);
         Bytes(rules).empty(&mut image);
         let mut judge = |record: &[u8]| [machine.judge(rules, record), Bytes(rules).judge(&mut image, record).answer];
         assert!(card.iter().all(|record| judge(record) == [0; 2]));
@@ -155,7 +157,7 @@ fn as_kind_11(load: &[u8]) -> Vec<u8> {
 
 /// What the machine and the byte engine answer to a record on the empty card, each by the rules.
 fn answers_by(rules: Rules, record: &[u8]) -> [u32; 2] {
-    let mut image = vec![0; Version::of(rules).size];
+    let mut image = vec![0; Form::of(rules).size];
     Bytes(rules).empty(&mut image);
     [Machine::default().judge(rules, record), Bytes(rules).judge(&mut image, record).answer]
 }
@@ -439,7 +441,7 @@ fn the_reports_conditions_decide_8_and_9() {
         let cards: Vec<&dyn Card> = if rules == Rules::IN_FORCE { linked() } else { vec![&bytes] };
         let mut seen = BTreeSet::new();
         for server in &servers {
-            let (mut held, mut image) = (Machine::default(), vec![0; Version::of(rules).size]);
+            let (mut held, mut image) = (Machine::default(), vec![0; Form::of(rules).size]);
             bytes.empty(&mut image);
             if [held.judge(rules, server), bytes.judge(&mut image, server).answer] != [0; 2] {
                 continue;

@@ -1,13 +1,12 @@
-//! The documents say what is so: their commands print what stands below them, their offsets are
-//! those of an image, and the header's numbers are those of the answers and sizes.
+//! The documents say what is so: their offsets are those of an image, and the header's numbers are those of the answers
+//! and sizes. What their commands print is held by the tool's own tests.
 
-use second::bytes::layout::*;
-use second::card::{IMAGE, LONGEST_RECORD, OLD_IMAGE};
-use second::refusal::Refusal;
+use comparison::card::{IMAGE, LONGEST_RECORD, OLD_IMAGE};
+use comparison::rules::Rules;
+use comparison::tables::{Bit, Form};
 use std::collections::BTreeSet;
 use std::fs;
 use std::path::{Path, PathBuf};
-use std::process::Command;
 
 fn root() -> &'static Path {
     Path::new(env!("CARGO_MANIFEST_DIR")).parent().expect("the repository")
@@ -22,67 +21,6 @@ fn section(text: &str, heading: &str) -> String {
     let lines = text.lines().skip_while(|line| *line != heading);
     let own = lines.enumerate().take_while(|(n, line)| *n == 0 || !line.starts_with("## "));
     own.map(|(_, line)| format!("{line}\n")).collect()
-}
-
-/// Each command, and the lines below it. A command stands in an indented block after `$`.
-fn commands(text: &str) -> Vec<(String, String)> {
-    let mut commands: Vec<(String, String)> = Vec::new();
-    let mut in_block = false;
-    for line in text.lines() {
-        match (line.strip_prefix("    $ "), line.strip_prefix("    ")) {
-            (Some(command), _) => {
-                commands.push((command.to_string(), String::new()));
-                in_block = true;
-            }
-            (None, Some(printed)) if in_block => {
-                let (_, output) = commands.last_mut().expect("a command");
-                output.push_str(&format!("{printed}\n"));
-            }
-            _ => in_block = false,
-        }
-    }
-    commands
-}
-
-/// A directory with the examples, in which commands may write.
-fn place(name: &str) -> PathBuf {
-    let place = PathBuf::from(env!("CARGO_TARGET_TMPDIR")).join(name);
-    let _ = fs::remove_dir_all(&place);
-    fs::create_dir_all(place.join("tests/target")).expect("a directory");
-    fs::create_dir_all(place.join("examples")).expect("a directory");
-    for example in ["club.txt", "log.txt", "old.image"] {
-        fs::copy(root().join("examples").join(example), place.join("examples").join(example)).expect(example);
-    }
-    place
-}
-
-/// Runs the commands in order, and compares what each prints.
-fn run_as_printed(text: &str, directory: &Path) -> usize {
-    let programs = Path::new(env!("CARGO_BIN_EXE_cardtool")).parent().expect("a directory");
-    let path = format!("{}:{}", programs.display(), std::env::var("PATH").expect("a path"));
-    let commands = commands(text);
-    for (command, printed) in &commands {
-        let run = Command::new("bash")
-            .args(["-c", &format!("{{ {command}; }} 2>&1")])
-            .current_dir(directory)
-            .env("PATH", &path)
-            .output()
-            .expect("bash");
-        assert_eq!(String::from_utf8_lossy(&run.stdout), *printed, "{command}");
-    }
-    commands.len()
-}
-
-#[test]
-fn the_readmes_commands_print_what_stands_there() {
-    let text = section(&document("README.md"), "## Records and images as text");
-    assert_eq!(run_as_printed(&text, &place("readme")), 18);
-}
-
-#[test]
-fn the_worked_dump_is_what_the_tool_prints() {
-    let text = section(&document("docs/FORMATS.md"), "## A worked dump");
-    assert_eq!(run_as_printed(&text, &place("formats")), 7);
 }
 
 /// The cells of each row of a document's tables.
@@ -102,13 +40,16 @@ fn the_offsets_of_packages_and_rows_are_right() {
     let numbers: Vec<Vec<usize>> =
         rows.iter().filter_map(|row| row.iter().map(|cell| number(cell)).collect()).collect();
     let (packages, lists): (Vec<_>, Vec<_>) = numbers.into_iter().partition(|row| row.len() == 7);
+    let form = Form::of(Rules::IN_FORCE);
     let package = |n: usize| {
-        let cells = [CALLS, GRANTS, NEEDS].map(|table| cell(table, n, 0));
-        [vec![n, AIDS + AID * n, tokens_at(n, 0), PROVIDES + n], cells.to_vec()].concat()
+        let bits = Bit { caller: n, callee: 0, service: 0 };
+        let own = Bit { caller: 0, callee: n, service: 0 };
+        let rows = [form.provided_bit(n, 0), form.call_bit(&bits), form.grant_bit(&own), form.need_bit(&bits)];
+        [&[n, form.aid(n), form.token_pair(n, 0)], &rows.map(|at| at.byte)[..]].concat()
     };
-    assert_eq!(packages, (0..8).map(package).collect::<Vec<_>>());
-    let list = |n: usize| vec![n, UNMET + 1 + UNMET_ROW * n, WAITING + 1 + VERSION_02.waiting_row * n];
-    assert_eq!(lists, (0..MOST_ROWS).map(list).collect::<Vec<_>>());
+    assert_eq!(packages, (0..form.sizes.packages).map(package).collect::<Vec<_>>());
+    let list = |n: usize| vec![n, form.unmet_at(n), form.waiting_at(n)];
+    assert_eq!(lists, (0..form.sizes.listed).map(list).collect::<Vec<_>>());
 }
 
 /// The rows of version 01's waiting grants.
@@ -117,8 +58,8 @@ fn the_offsets_of_old_rows_are_right() {
     let rows = table_rows(&section(&document("docs/FORMATS.md"), "## Version 01 of the image, 1,094 bytes"));
     let numbers: Vec<Vec<usize>> =
         rows.iter().filter_map(|row| row.iter().map(|cell| number(cell)).collect()).collect();
-    let old = |n: usize| vec![n, WAITING + 1 + VERSION_01.waiting_row * n];
-    assert_eq!(numbers, (0..MOST_ROWS).map(old).collect::<Vec<_>>());
+    let form = Form::of(Rules::R_7);
+    assert_eq!(numbers, (0..form.sizes.listed).map(|n| vec![n, form.waiting_at(n)]).collect::<Vec<_>>());
 }
 
 #[test]
@@ -132,9 +73,11 @@ fn the_areas_begin_where_an_image_has_them() {
             Some((offset, usize::from_str_radix(&row[1], 16).expect("a hexadecimal offset")))
         })
         .collect();
-    let starts =
-        [0, 2, USED, AIDS, TOKENS, PROVIDES, CALLS, GRANTS, NEEDS, UNMET, UNMET + 1, WAITING, WAITING + 1, IMAGE];
-    assert_eq!(areas, starts.map(|start| (start, start)));
+    let Form { size, used, aids, tokens, provides, calls, grants, needs, unmet, waiting, .. } =
+        Form::of(Rules::IN_FORCE);
+    let lists = [unmet, unmet + 1, waiting, waiting + 1];
+    let starts = [&[0, 2, used, aids, tokens, provides, calls, grants, needs], &lists[..], &[size]].concat();
+    assert_eq!(areas, starts.into_iter().map(|start| (start, start)).collect::<Vec<_>>());
 }
 
 #[test]
@@ -166,8 +109,7 @@ fn the_headers_numbers_are_those_of_the_card() {
         .take_while(|line| *line != "};")
         .filter_map(|line| number(line.split_once(" = ")?.1.split(' ').next()?))
         .collect();
-    let causes = Refusal::ALL.map(|refusal| refusal.number() as usize);
-    assert_eq!(answers, [&[0], &causes[..]].concat());
+    assert_eq!(answers, (0..=12).collect::<Vec<usize>>());
 }
 
 /// The names between backquotes.

@@ -1,12 +1,12 @@
 //! Every engine that is wrong on purpose is found, with a short history.
 
-use second::card::{Card, BYTES};
-use second::cases::all;
-use second::compare::lengths_alike;
-use second::damage::Damage;
-use second::faults::FAULTS;
-use second::history::{changes, Event};
-use second::run::{replay, run};
+use comparison::card::{Card, BYTES};
+use comparison::cases::all;
+use comparison::compare::lengths_alike;
+use comparison::damage::Damage;
+use comparison::faults::FAULTS;
+use comparison::history::{changes, Event};
+use comparison::run::{replay, run};
 
 /// Each of the seeds 1 to 10 finds every fault in 20,000 records. The shortest history that dropping records comes to has up to 24 of
 /// them, by the seed; this seed is one by which it has at most 16 for every fault, and by which cards of each sort go over the

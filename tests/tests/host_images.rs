@@ -1,35 +1,59 @@
 //! Images as text and as dumps, both ways, and why an image is not sound.
 
-use second::bytes::layout::{Version, VERSION_01, VERSION_02};
-use second::card::{Bytes, Card, BYTES, IMAGE};
-use second::damage::Damage;
-use second::generate::Source;
-use second::host::fault::{At, Fault};
-use second::host::names::Names;
-use second::host::unsound::faults;
-use second::host::{dump, encode, hexadecimal, image_text, record_text};
-use second::machine::record;
-use second::machine::Machine;
-use second::random::Random;
-use second::rules::Rules;
-use second::tables::Tables;
+use cardtool::contract::Aid;
+use cardtool::fault::{At, Fault};
+use cardtool::layout::{Image, VERSION_01, VERSION_02};
+use cardtool::names::Names;
+use cardtool::tables::{Tables, Unmet, Waiting};
+use cardtool::unsound::faults;
+use cardtool::words::utf8;
+use cardtool::{contract, dump, hexadecimal, image_text, record, record_text};
+use comparison::card::{Bytes, Card, BYTES, IMAGE};
+use comparison::damage::Damage;
+use comparison::generate::Source;
+use comparison::machine::{self, Machine};
+use comparison::random::Random;
+use comparison::rules::Rules;
+use comparison::tables as apart;
+use std::collections::{BTreeMap, BTreeSet};
 
 /// The rules whose images the tool reads: the last of version 01, and those in force.
 const BOTH: [Rules; 2] = [Rules::R_7, Rules::IN_FORCE];
 
 fn empty(rules: Rules) -> Vec<u8> {
-    let mut image = vec![0; Version::of(rules).size];
-    Bytes(rules).empty(&mut image);
+    let layout = if rules.early_grants { &VERSION_02 } else { &VERSION_01 };
+    let mut image = vec![0; layout.size()];
+    assert_eq!(Bytes(rules).empty(&mut image).answer, 0);
     image
 }
 
 /// The image after the records of a text, each of which is accepted.
 fn image_after(rules: Rules, text: &str) -> Vec<u8> {
     let mut image = empty(rules);
-    for placed in record_text::read(text).expect("a text").records {
-        assert_eq!(Bytes(rules).judge(&mut image, &encode::bytes(&placed.record)).answer, 0, "{:?}", placed.record);
+    for placed in record_text::read(text, &Names::default()).expect("a text").records {
+        assert_eq!(Bytes(rules).judge(&mut image, &placed.bytes()).answer, 0, "{:?}", placed.written);
     }
     image
+}
+
+/// The names that a text gives.
+fn names(text: &str) -> Names {
+    record_text::read(text, &Names::default()).expect("a text").names
+}
+
+/// The tables of a sound image.
+fn tables(image: &[u8]) -> Tables {
+    Tables::of(image, &Names::default()).unwrap_or_else(|faults| panic!("{faults:?}"))
+}
+
+/// The text of a sound image, without names.
+fn text_of(image: &[u8]) -> String {
+    image_text::write(&tables(image), &Names::default())
+}
+
+/// The image of a text without names given beforehand.
+fn read(text: &str) -> Result<Vec<u8>, Fault> {
+    image_text::read(text, &Names::default())
 }
 
 /// Images after the records of random histories.
@@ -78,12 +102,11 @@ waiting F000000001 grants 0.1 to F000000009
 #[test]
 fn an_image_is_shown() {
     for rules in BOTH {
-        let tables = Tables::of(rules, &image_after(rules, CARD)).expect("a sound image");
-        assert_eq!(image_text::write(&tables, &Names::default()), CARD_TEXT);
-        let names = record_text::read(CARD).expect("a text").names;
-        assert_eq!(image_text::write(&tables, &names), CARD_TEXT.replace("F000000001", "log"));
+        let image = image_after(rules, CARD);
+        assert_eq!(text_of(&image), CARD_TEXT);
+        assert_eq!(image_text::write(&tables(&image), &names(CARD)), CARD_TEXT.replace("F000000001", "log"));
     }
-    assert_eq!(image_text::read(CARD_TEXT), Ok(image_after(Rules::IN_FORCE, CARD)));
+    assert_eq!(read(CARD_TEXT), Ok(image_after(Rules::IN_FORCE, CARD)));
 }
 
 /// A grant that waits for its service, to an installed package and to another.
@@ -91,10 +114,10 @@ fn an_image_is_shown() {
 fn grants_of_services_not_provided_are_shown() {
     let early = "add F000000001 grants 7.7 to F000000002\nadd F000000001 grants 7.7 to F000000008\n";
     let image = image_after(Rules::IN_FORCE, &format!("{CARD}{early}"));
-    let text = image_text::write(&Tables::of(Rules::IN_FORCE, &image).expect("a sound image"), &Names::default());
+    let text = text_of(&image);
     let waiting = "waiting F000000001 grants 7.7 to F000000002\nwaiting F000000001 grants 7.7 to F000000008\n";
     assert_eq!(text, format!("{}{waiting}", CARD_TEXT.replace("1 waiting grant", "3 waiting grants")));
-    assert_eq!(image_text::read(&text), Ok(image));
+    assert_eq!(read(&text), Ok(image));
 }
 
 #[test]
@@ -102,8 +125,9 @@ fn images_are_text_and_back() {
     let images = random_images(Rules::IN_FORCE, 12);
     assert!(images.len() > 500, "{}", images.len());
     for image in images {
-        let text = image_text::write(&Tables::of(Rules::IN_FORCE, &image).expect("a sound image"), &Names::default());
-        assert!(image_text::read(&text) == Ok(image), "{text}");
+        let text = text_of(&image);
+        assert_eq!(tables(&image).image(), image, "{text}");
+        assert!(read(&text) == Ok(image), "{text}");
     }
 }
 
@@ -113,24 +137,149 @@ fn the_text_of_an_old_image_is_that_of_the_converted_one() {
     let images = random_images(Rules::R_7, 12);
     assert!(images.len() > 500, "{}", images.len());
     for old in images {
-        let text = image_text::write(&Tables::of(Rules::R_7, &old).expect("a sound image"), &Names::default());
+        let text = text_of(&old);
+        assert_eq!(tables(&old).image(), old, "{text}");
         let mut converted = vec![0; IMAGE];
         assert_eq!(BYTES.convert(&old, &mut converted).answer, 0);
-        assert!(image_text::read(&text) == Ok(converted), "{text}");
+        assert!(read(&text) == Ok(converted), "{text}");
+    }
+}
+
+/// Contracts as bytes and numbers: of each AID its four sets, in which a service provided has no AID.
+type Plain = BTreeMap<Vec<u8>, [BTreeSet<(Vec<u8>, u8, u8)>; 4]>;
+
+fn plain(contracts: &contract::Contracts) -> Plain {
+    let service = |tokens: &contract::Tokens| (Vec::new(), tokens.interface, tokens.method);
+    let row = |row: &contract::Row| (row.other.bytes().to_vec(), row.tokens.interface, row.tokens.method);
+    let sets = |contract: &contract::Contract| {
+        let rows = [&contract.calls, &contract.grants, &contract.needs].map(|rows| rows.iter().map(row).collect());
+        let [calls, grants, needs] = rows;
+        [contract.provides.iter().map(service).collect(), calls, grants, needs]
+    };
+    contracts.iter().map(|(aid, contract)| (aid.bytes().to_vec(), sets(contract))).collect()
+}
+
+/// The same of the machine's contracts.
+fn plain_apart(machine: &Machine) -> Plain {
+    let service = |tokens: &machine::Tokens| (Vec::new(), tokens.interface, tokens.method);
+    let row = |row: &machine::Row| (row.other.bytes().to_vec(), row.tokens.interface, row.tokens.method);
+    let sets = |contract: &machine::Contract| {
+        let rows = [&contract.calls, &contract.grants, &contract.needs].map(|rows| rows.iter().map(row).collect());
+        let [calls, grants, needs] = rows;
+        [contract.provides.iter().map(service).collect(), calls, grants, needs]
+    };
+    machine.contracts.iter().map(|(aid, contract)| (aid.bytes().to_vec(), sets(contract))).collect()
+}
+
+/// The tables are read exactly when the reader that is written apart reads them, and with the same contracts.
+#[test]
+fn tables_are_those_of_the_reader_apart() {
+    let mut random = Random::new(3);
+    for rules in BOTH {
+        let (mut read, mut refused, mut rows) = (0, 0, 0);
+        for image in random_images(rules, 12) {
+            let damaged = [Damage::one_byte, Damage::two_bytes].map(|draw| draw(&image, &mut random).done_to(&image));
+            for image in [&image, &damaged[0], &damaged[1]] {
+                let found = Tables::of(image, &Names::default()).ok();
+                let contracts = found.as_ref().map(|tables| plain(&tables.contracts()));
+                assert_eq!(contracts, apart::contracts(rules, image).map(|machine| plain_apart(&machine)));
+                let Some(tables) = found else {
+                    refused += 1;
+                    continue;
+                };
+                assert_eq!(&tables.image(), image);
+                read += 1;
+                rows += tables.unmet.len() + tables.waiting.len() + tables.needs.len();
+            }
+        }
+        assert!(read > 500 && refused > 500 && rows > 1000, "{read}, {refused} and {rows}");
+    }
+}
+
+/// Rows past the limit of a list are not written, and nothing else is.
+#[test]
+fn a_list_that_is_too_long_is_cut() {
+    for rules in BOTH {
+        let mut tables = tables(&image_after(rules, CARD));
+        let aid = |n: u8| Aid::new(&[0xF1, 0, 0, 0, n]).expect("an AID");
+        let tokens = contract::Tokens { interface: 0, method: 1 };
+        tables.unmet = (0..16).map(|n| Unmet { callee: aid(n), tokens, caller: 1 }).collect();
+        tables.waiting = (0..16).map(|n| Waiting { caller: aid(n), callee: 0, tokens }).collect();
+        let full = tables.image();
+        assert_eq!(faults(&full, &Names::default()), []);
+        for n in 16..40 {
+            tables.unmet.push(Unmet { callee: aid(n), tokens, caller: 1 });
+            tables.waiting.push(Waiting { caller: aid(n), callee: 0, tokens });
+        }
+        assert_eq!(tables.image(), full);
     }
 }
 
 #[test]
 fn dumps_are_read_back() {
     let mut random = Random::new(2);
-    for (rules, version) in BOTH.into_iter().zip([&VERSION_01, &VERSION_02]) {
+    let (mut dumps, mut named) = (0, 0);
+    for rules in BOTH {
         for image in random_images(rules, 6) {
             let damaged = Damage::two_bytes(&image, &mut random).done_to(&image);
+            let named_0 = tables(&image).at(0).map(|package| format!("name log {}\n", package.aid));
+            let names = names(&named_0.unwrap_or_default());
             for image in [image, damaged] {
-                assert_eq!(hexadecimal::dump(&dump::image(&image, version)), Ok(image));
+                let text = dump::image(Image::new(&image).expect("a card's size"), &names);
+                named += usize::from(text.contains("package 0 (log)"));
+                assert_eq!(hexadecimal::dump(&text), Ok(image));
+                dumps += 1;
             }
         }
     }
+    assert!(dumps > 500 && named > 100, "{dumps} and {named}");
+}
+
+/// The parts of an image in words, with names where packages have them.
+#[test]
+fn a_dump_has_words() {
+    for (rules, end, service) in [(Rules::R_7, 1094, "service"), (Rules::IN_FORCE, 1110, "tokens")] {
+        let image = image_after(rules, CARD);
+        let dump = |names: &Names| dump::image(Image::new(&image).expect("a card's size"), names);
+        let words = [
+            "   0: length, version",
+            "   3: used package numbers, bit by bit",
+            "   4: AID of package 0: length, bytes, fill",
+            "  21: AID of package 1: length, bytes, fill",
+            "140: tokens of package 0, two bytes for each service",
+            "268: services provided, a byte for each package",
+            "284: calls of package 1, a byte for each callee",
+            "340: grants of package 0, a byte for each caller",
+            "412: needs of package 1, a byte for each callee",
+            "468: count of unmet calls",
+            "469: unmet call 0: callee AID, tokens, caller",
+            "789: count of waiting grants",
+            &format!("790: waiting grant 0: caller AID, callee, {service}"),
+            &format!("{end}:"),
+        ]
+        .map(|line| line.trim_start().to_string());
+        let said = |line: &str| {
+            let (offset, rest) = line.split_once(':').expect("an offset");
+            let words = rest.split_once("# ").map_or(String::new(), |(_, words)| format!(" {words}"));
+            format!("{}:{words}", offset.trim_start())
+        };
+        assert_eq!(dump(&Names::default()).lines().map(said).collect::<Vec<_>>(), words);
+        let named: Vec<String> = dump(&names(CARD)).lines().map(said).collect();
+        assert_eq!(named, words.map(|line| line.replace("package 0", "package 0 (log)")));
+    }
+}
+
+/// A dump may begin with a byte order mark.
+#[test]
+fn a_byte_order_mark_before_a_dump_is_taken() {
+    let image = image_after(Rules::IN_FORCE, CARD);
+    let dump = dump::image(Image::new(&image).expect("a card's size"), &Names::default());
+    let marked = format!("\u{FEFF}{dump}").into_bytes();
+    assert_eq!(utf8(&marked).and_then(hexadecimal::dump), Ok(image));
+    let bad = utf8(b"\xEF\xBB\xBF0: 0G").and_then(hexadecimal::dump).expect_err("no digit");
+    assert_eq!(bad.to_string(), "line 1, column 5: 'G' is no hexadecimal digit");
+    let text = format!("\u{FEFF}{CARD_TEXT}").into_bytes();
+    assert_eq!(utf8(&text).and_then(read), read(CARD_TEXT));
 }
 
 /// A record's dump has its bytes and no others.
@@ -141,7 +290,7 @@ fn record_dumps_are_read_back() {
     for _ in 0..600 {
         let bytes = source.record(&machine);
         machine.judge(Rules::IN_FORCE, &bytes);
-        if let Ok(record) = record::read(Rules::IN_FORCE, &bytes) {
+        if let Ok(record) = record::read(&bytes) {
             kinds.insert(bytes[3]);
             assert_eq!(hexadecimal::dump(&dump::record(&record)), Ok(bytes));
         }
@@ -157,10 +306,16 @@ fn bad_dumps_have_messages_with_places() {
         ("65537:", "line 1, column 1: '65537' is no offset: a decimal number to 65536"),
         ("0: 04 46 3: 01", "line 1, column 11: ':' is no hexadecimal digit"),
         ("0: 04 4", "line 1, column 7: a byte has two digits, here is one"),
+        ("3::", "line 1, column 1: '3:' is no offset: a decimal number to 65536"),
+        ("\n :", "line 2, column 2: '' is no offset: a decimal number to 65536"),
+        ("+1:", "line 1, column 1: '+1' is no offset: a decimal number to 65536"),
     ];
-    for (text, message) in cases {
+    let long = format!("{}:", "9".repeat(60));
+    let cut = format!("line 1, column 1: '{}...' is no offset: a decimal number to 65536", "9".repeat(40));
+    for (text, message) in cases.into_iter().chain([(&*long, &*cut)]) {
         assert_eq!(hexadecimal::dump(text).expect_err(text).to_string(), message);
     }
+    assert_eq!(hexadecimal::dump("65536:").map(|bytes| bytes.len()), Ok(65536));
 }
 
 /// An image has faults exactly when it is not sound, and each is at one of its bytes.
@@ -170,12 +325,14 @@ fn faults_are_there_exactly_when_an_image_is_not_sound() {
     for rules in BOTH {
         let (mut sound, mut unsound) = (0, 0);
         for image in random_images(rules, 12) {
-            assert_eq!(faults(&image), []);
+            assert_eq!(faults(&image, &Names::default()), []);
             for draw in [Damage::one_byte, Damage::two_bytes, Damage::two_bytes] {
                 let damaged = draw(&image, &mut random).done_to(&image);
-                let found = faults(&damaged);
+                let found = faults(&damaged, &Names::default());
                 let refused = Bytes(rules).check(&damaged).answer == 1;
                 assert_eq!(!found.is_empty(), refused, "{found:?}");
+                let tables = Tables::of(&damaged, &Names::default());
+                assert_eq!(tables.err().unwrap_or_default(), found);
                 let in_image = |fault: &Fault| matches!(fault.at, At::Byte(byte) if byte < image.len());
                 assert!(found.iter().all(in_image), "{found:?}");
                 sound += usize::from(!refused);
@@ -186,10 +343,15 @@ fn faults_are_there_exactly_when_an_image_is_not_sound() {
     }
 }
 
-fn each_is_found(image: &[u8], cases: &[(&str, &str)]) {
+/// The messages about an image with some damage.
+fn messages(image: &[u8], damage: &str, names: &Names) -> Vec<String> {
+    let damaged = Damage::from_text(damage).expect(damage).done_to(image);
+    faults(&damaged, names).iter().map(Fault::to_string).collect()
+}
+
+fn each_is_found(image: &[u8], names: &Names, cases: &[(&str, &str)]) {
     for (damage, message) in cases {
-        let damaged = Damage::from_text(damage).expect(damage).done_to(image);
-        let found: Vec<String> = faults(&damaged).iter().map(Fault::to_string).collect();
+        let found = messages(image, damage, names);
         assert!(found.iter().any(|fault| fault == message), "{damage}: {found:?}");
     }
 }
@@ -200,11 +362,14 @@ fn each_fault_has_its_byte_and_words() {
     let image = image_after(Rules::IN_FORCE, CARD);
     each_is_found(
         &image,
+        &Names::default(),
         &[
-            ("1=46", "byte 1: the header has 56 here, not 46"),
-            ("2=01", "byte 2: the header has 02 here, not 01"),
+            ("1=46", "byte 1: here is 46, and the header has 56"),
+            ("2=01", "byte 2: here is 01, and the header has 02"),
             ("4=04", "byte 4: the AID of package 0 has the length 4, not 5 to 16"),
             ("20=07", "byte 20: the AID of package 0 has 5 bytes, and the fill after them is not zero but 07"),
+            ("2=03", "byte 2: here is 03, and the header has 02"),
+            ("0=00", "byte 0: here is 00, and the header has 04"),
             ("26=01", "byte 21: package 1 has the AID of package 0"),
             ("40=01", "byte 40: package 2 is not used, and its AID's place is not zero but 01"),
             ("270=01", "byte 270: package 2 is not used, and its provides byte is not zero but 01"),
@@ -219,27 +384,121 @@ fn each_fault_has_its_byte_and_words() {
             ("341=00", "byte 284: calls: package 0 does not grant package 1 its service 0"),
             ("412=03", "byte 412: needs: package 1 does not call service 1 of package 0, which it needs"),
             ("468=11", "byte 468: the count is 17, a list has at most 16 rows"),
-            ("489=01", "byte 489: the list has 1 rows, and the place past them is not zero but 01"),
+            ("468=00", "byte 469: the list has 0 rows, and the place past that is not zero but 05"),
+            ("468=02", "byte 489: the callee's AID has the length 0, not 5 to 16"),
+            ("489=01", "byte 489: the list has 1 row, and the place past that is not zero but 01"),
             ("469=11", "byte 469: the callee's AID has the length 17, not 5 to 16"),
             ("488=02", "byte 488: the caller is package 2, which is not used"),
             ("474=02", "byte 469: package 1 calls itself"),
-            ("474=01,486=00,487=01", "byte 469: the service is provided on the card, and the call is said to be unmet"),
+            ("474=01,486=00,487=01", "byte 469: service 1 of package 0 is provided on the card, and the call is said to be unmet"),
             ("790=00", "byte 790: the caller's AID has the length 0, not 5 to 16"),
             ("795=01", "byte 790: package 0 grants to itself"),
-            ("795=02", "byte 790: the caller is package 1 and service 1 is provided, and the grant is said to wait"),
+            ("795=02", "byte 790: the caller is package 1 and service 1 of package 0 is provided, and the grant is said to wait"),
             ("807=08", "byte 807: the callee is package 8, which is not used"),
             ("807=02", "byte 807: the callee is package 2, which is not used"),
             ("809=80", "byte 809: the waiting grant has the method token 128, not 0 to 127"),
-            ("1109=01", "byte 1109: the list has 1 rows, and the place past them is not zero but 01"),
+            ("1109=01", "byte 1109: the list has 1 row, and the place past that is not zero but 01"),
         ],
     );
     // A grant of a service that is not provided may wait, also one to an installed package.
     for damage in ["808=07", "809=7F", "795=02,808=07"] {
-        assert_eq!(faults(&Damage::from_text(damage).expect(damage).done_to(&image)), [], "{damage}");
+        assert_eq!(messages(&image, damage, &Names::default()), [""; 0], "{damage}");
     }
-    let size = |bytes: &[u8]| faults(bytes)[0].to_string();
-    assert_eq!(size(&image[..1109]), "byte 1109: an image has 1110 bytes, or 1094 in version 01, here are 1109");
-    assert_eq!(size(&[0; 1111]), "byte 1110: an image has 1110 bytes, or 1094 in version 01, here are 1111");
+    for (bytes, at) in [(0, 0), (1, 1), (1093, 1093), (1095, 1095), (1109, 1109), (1111, 1110), (4000, 1110)] {
+        let found: Vec<String> = faults(&vec![0; bytes], &Names::default()).iter().map(Fault::to_string).collect();
+        assert_eq!(found, [format!("byte {at}: an image has 1110 bytes, or 1094 in version 01, here are {bytes}")]);
+    }
+}
+
+/// Names for the packages and services of `CARD`. 0.0 is named, whose tokens are those of a place that is empty.
+const NAMES: &str = "\
+name log F000000001
+name purse F000000002
+name read log 0.0
+name write log 0.1
+name pay purse 0.0
+";
+
+/// Each reason that has a package or a service of it, with its names.
+#[test]
+fn faults_have_names() {
+    let image = image_after(Rules::IN_FORCE, CARD);
+    let provided = "is provided on the card, and the call is said to be unmet";
+    let waits = "and the grant is said to wait";
+    each_is_found(
+        &image,
+        &names(NAMES),
+        &[
+            ("4=11", "byte 4: the AID of package 0 has the length 17, not 5 to 16"),
+            ("20=07", "byte 20: the AID of package 0 (log) has 5 bytes, and the fill after them is not zero but 07"),
+            ("26=01", "byte 21: package 1 (log) has the AID of package 0"),
+            ("143=00", "byte 142: service 1 of package 0 (log) has the tokens of service 0 (read)"),
+            ("141=80", "byte 141: service 0 of package 0 (log) has the method token 128, not 0 to 127"),
+            ("144=09", "byte 144: package 0 (log) does not provide service 2, and the tokens' place is not zero but 09"),
+            ("276=01", "byte 276: calls: package 0 (log) has bits for itself"),
+            ("340=01", "byte 340: grants: package 0 (log) has bits for itself"),
+            ("404=01", "byte 404: needs: package 0 (log) has bits for itself"),
+            ("348=04", "byte 348: grants: package 1 (purse) does not provide service 2, and its bit is set"),
+            ("284=05", "byte 284: calls: package 0 (log) does not provide service 2, and its bit is set"),
+            ("284=05", "byte 284: calls: package 0 (log) does not grant package 1 (purse) its service 2"),
+            ("284=03", "byte 284: calls: package 0 (log) does not grant package 1 (purse) its service 1 (write)"),
+            ("341=00", "byte 284: calls: package 0 (log) does not grant package 1 (purse) its service 0 (read)"),
+            ("412=03", "byte 412: needs: package 1 (purse) does not call service 1 (write) of package 0 (log), which it needs"),
+            ("412=05", "byte 412: needs: package 1 (purse) does not call service 2 of package 0 (log), which it needs"),
+            ("405=01", "byte 405: needs: package 0 (log) does not call service 0 of package 1 (purse), which it needs"),
+            ("474=02", "byte 469: package 1 (purse) calls itself"),
+            ("474=01,486=00,487=01", &format!("byte 469: service 1 (write) of package 0 (log) {provided}")),
+            ("795=01", "byte 790: package 0 (log) grants to itself"),
+            ("795=02", &format!("byte 790: the caller is package 1 (purse) and service 1 (write) of package 0 (log) is provided, {waits}")),
+            // A package that is not used has no name, whatever stands in its place.
+            ("3=01", "byte 21: package 1 is not used, and its AID's place is not zero but 05"),
+            ("3=01", "byte 284: calls: package 1 is not used, and has bits"),
+            ("3=01", "byte 488: the caller is package 1, which is not used"),
+            ("807=02", "byte 807: the callee is package 2, which is not used"),
+        ],
+    );
+    let old = image_after(Rules::R_7, CARD);
+    each_is_found(
+        &old,
+        &names(NAMES),
+        &[
+            ("808=02", "byte 808: package 0 (log) does not provide service 2"),
+            ("795=02", &format!("byte 790: the caller is package 1 (purse) and service 1 (write) of package 0 (log) is provided, {waits}")),
+        ],
+    );
+}
+
+/// Names stand in brackets alone: without these, messages are as without names.
+#[test]
+fn names_change_nothing_else_in_messages() {
+    let names = names(NAMES);
+    let named = ["(log)", "(purse)", "(read)", "(write)", "(pay)"];
+    let (mut random, mut seen) = (Random::new(10), BTreeSet::new());
+    for rules in BOTH {
+        let image = image_after(rules, CARD);
+        for _ in 0..3000 {
+            let damaged = Damage::two_bytes(&image, &mut random).done_to(&image);
+            let without = faults(&damaged, &Names::default());
+            let mut with = faults(&damaged, &names);
+            for fault in &mut with {
+                for name in named {
+                    seen.extend(fault.words.contains(name).then_some(name));
+                    fault.words = fault.words.replace(&format!(" {name}"), "");
+                }
+            }
+            assert_eq!(with, without);
+        }
+    }
+    assert_eq!(seen, BTreeSet::from(named));
+}
+
+/// Long names are cut as words are.
+#[test]
+fn long_names_in_faults_are_cut() {
+    let long = format!("name l{} F000000001\nname r{} F000000001 0.0\n", "o".repeat(40), "e".repeat(40));
+    let (log, read) = (format!("l{}...", "o".repeat(39)), format!("r{}...", "e".repeat(39)));
+    let message = format!("byte 284: calls: package 0 ({log}) does not grant package 1 its service 0 ({read})");
+    assert_eq!(messages(&image_after(Rules::IN_FORCE, CARD), "341=00", &names(&long)), [message]);
 }
 
 /// The same of an image of version 01, where it has other places and reasons.
@@ -251,17 +510,18 @@ fn each_fault_of_an_old_image_has_its_byte_and_words() {
     let unmet = format!("byte 487: the unmet call has the method token 255, not 0 to 127: {since}");
     each_is_found(
         &image,
+        &Names::default(),
         &[
-            ("1=56", "byte 1: the header has 46 here, not 56"),
-            ("2=02", "byte 2: the header has 01 here, not 02"),
+            ("1=56", "byte 1: here is 56, and the header has 46"),
+            ("2=02", "byte 2: here is 02, and the header has 01"),
             ("141=80", &provided),
             ("487=FF", &unmet),
             ("790=00", "byte 790: the caller's AID has the length 0, not 5 to 16"),
-            ("795=02", "byte 790: the caller is package 1 and service 1 is provided, and the grant is said to wait"),
+            ("795=02", "byte 790: the caller is package 1 and service 1 of package 0 is provided, and the grant is said to wait"),
             ("807=08", "byte 807: the callee is package 8, which is not used"),
             ("808=02", "byte 808: package 0 does not provide service 2"),
             ("808=08", "byte 808: package 0 does not provide service 8"),
-            ("809=01", "byte 809: the list has 1 rows, and the place past them is not zero but 01"),
+            ("809=01", "byte 809: the list has 1 row, and the place past that is not zero but 01"),
         ],
     );
 }
@@ -274,7 +534,7 @@ fn a_list_row_that_repeats_is_named() {
         image[468] = 2;
         image.copy_within(790..790 + size, second);
         image[789] = 2;
-        let found: Vec<String> = faults(&image).iter().map(Fault::to_string).collect();
+        let found: Vec<String> = faults(&image, &Names::default()).iter().map(Fault::to_string).collect();
         let waiting = format!("byte {second}: waiting grant 1 is waiting grant 0 again");
         assert_eq!(found, ["byte 489: unmet call 1 is unmet call 0 again", &waiting]);
     }
@@ -293,8 +553,19 @@ fn bad_image_texts_have_messages_with_places() {
         ("package 0".to_string(), "line 1, column 10: the package's AID is missing"),
         (after("package 1 F000000003"), "line 4, column 9: package 1 stands above"),
         (after("package 2 F000000002"), "line 4, column 11: a package with this AID stands above"),
+        ("pack 0 F000000001".to_string(), "line 1, column 1: 'pack' begins no line of an image: there are package, service, calls, grants, needs, unmet, waiting and name"),
+        ("package 0 purse".to_string(), "line 1, column 11: 'purse' is neither an AID in hexadecimal nor a name given above"),
+        ("package 00 F000000001".to_string(), "line 1, column 9: '00' is not a number from 0 to 7"),
         ("service 0 0.0".to_string(), "line 1, column 1: 'service' belongs to a package, and none stands above"),
         ("calls F000000001 0.0".to_string(), "line 1, column 1: 'calls' belongs to a package, and none stands above"),
+        ("service".to_string(), "line 1, column 1: 'service' belongs to a package, and none stands above"),
+        ("grants read to log".to_string(), "line 1, column 1: 'grants' belongs to a package, and none stands above"),
+        ("needs".to_string(), "line 1, column 1: 'needs' belongs to a package, and none stands above"),
+        (after("service"), "line 4, column 8: a service number is missing"),
+        (after("service 0"), "line 4, column 10: a service, as 0.1, is missing"),
+        (after("unmet"), "line 4, column 6: the package's AID is missing"),
+        (after("waiting F000000001"), "line 4, column 19: 'grants' is missing"),
+        (after("service 0 0.0 0.1"), "line 4, column 15: nothing may follow here, but '0.1' does"),
         (after("service 9 0.0"), "line 4, column 9: '9' is not a number from 0 to 7"),
         (after("service 0 0.0\nservice 0 0.1"), "line 5, column 9: service 0 of the package stands above"),
         (after("service 0 0.0\nservice 1 0.0"), "line 5, column 11: the package has this service already"),
@@ -322,7 +593,7 @@ fn bad_image_texts_have_messages_with_places() {
         (waiting, "line 20, column 1: an image has at most 16 waiting grants"),
     ];
     for (text, message) in cases {
-        assert_eq!(image_text::read(&text).expect_err(&text).to_string(), message, "{text}");
+        assert_eq!(read(&text).expect_err(&text).to_string(), message, "{text}");
     }
 }
 
@@ -330,9 +601,9 @@ fn bad_image_texts_have_messages_with_places() {
 #[test]
 fn damaged_image_texts_give_a_sound_image_or_a_fault() {
     let mut random = Random::new(8);
-    let (mut read, mut faulted) = (0, 0);
+    let (mut sound, mut faulted) = (0, 0);
     for image in random_images(Rules::IN_FORCE, 12) {
-        let text = image_text::write(&Tables::of(Rules::IN_FORCE, &image).expect("a sound image"), &Names::default());
+        let text = text_of(&image);
         let mut rows: Vec<String> = text.lines().map(|line| format!("{line}\n")).collect();
         let at = random.below(rows.len());
         match random.below(4) {
@@ -341,10 +612,11 @@ fn damaged_image_texts_give_a_sound_image_or_a_fault() {
             2 => rows.swap(at, random.below(at + 1)),
             _ => rows[at] = rows[at].replacen(['0', '1'], "2", random.between(1, 3)),
         }
-        match image_text::read(&rows.concat()) {
+        match read(&rows.concat()) {
             Ok(image) => {
-                assert_eq!(faults(&image), [], "{}", rows.concat());
-                read += 1;
+                assert_eq!(faults(&image, &Names::default()), [], "{}", rows.concat());
+                assert_eq!(BYTES.check(&image).answer, 0, "{}", rows.concat());
+                sound += 1;
             }
             Err(fault) => {
                 let At::Text(place) = fault.at else { panic!("{fault}") };
@@ -354,5 +626,5 @@ fn damaged_image_texts_give_a_sound_image_or_a_fault() {
             }
         }
     }
-    assert!(read > 100 && faulted > 100, "{read} and {faulted}");
+    assert!(sound > 100 && faulted > 100, "{sound} and {faulted}");
 }

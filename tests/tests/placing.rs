@@ -1,9 +1,9 @@
 //! The placing rules, against images written down by hand from the offsets of the paper and of R-2, also for R-1's kind 11.
 
-use second::card::{linked, Bytes, Card, Verdict, IMAGE, OLD_IMAGE};
-use second::cases::{B, C, H, X};
-use second::rules::Rules;
-use second::write::{add_service, load, remove, remove_service, replace, update, Row, Tokens};
+use comparison::card::{linked, Bytes, Card, Verdict, IMAGE, OLD_IMAGE};
+use comparison::cases::{B, C, H, X};
+use comparison::rules::Rules;
+use comparison::write::{add_service, load, remove, remove_service, replace, update, Row, Tokens};
 
 const D: &[u8] = &[0xF0, 0, 0, 0, 4, 0];
 

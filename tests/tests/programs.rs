@@ -1,26 +1,18 @@
 //! The programs as they are run: their output closed or full, their help, and their exit codes.
 
-use second::cases::named;
-use second::history::Event;
+use comparison::cases::named;
+use comparison::history::Event;
 use std::fs::File;
 use std::path::PathBuf;
 use std::process::{Command, Output, Stdio};
 
-const PROGRAMS: [&str; 4] = [
-    env!("CARGO_BIN_EXE_bench"),
-    env!("CARGO_BIN_EXE_cardtool"),
-    env!("CARGO_BIN_EXE_cases"),
-    env!("CARGO_BIN_EXE_differ"),
-];
+const PROGRAMS: [&str; 3] = [env!("CARGO_BIN_EXE_bench"), env!("CARGO_BIN_EXE_cases"), env!("CARGO_BIN_EXE_differ")];
 
 /// A short run of each program, and of each of its ways to write.
-const RUNS: [&str; 10] = [
+const RUNS: [&str; 7] = [
     "bench --rounds 1",
     "bench --count 2 --calls 1",
     "bench --help",
-    "cardtool --help",
-    "cardtool encode RECORDS",
-    "cardtool encode --raw RECORDS",
     "cases",
     "cases --records",
     "differ --records 10",
@@ -33,10 +25,7 @@ fn program(run: &str) -> Command {
     let name = words.next().expect("a program");
     let path = PROGRAMS.into_iter().find(|path| path.ends_with(&format!("/{name}"))).expect(name);
     let mut command = Command::new(path);
-    command.args(words.map(|word| match word {
-        "RECORDS" => PathBuf::from(env!("CARGO_MANIFEST_DIR")).join("../examples/club.txt"),
-        word => PathBuf::from(word),
-    }));
+    command.args(words);
     command.stdin(Stdio::null());
     command
 }
@@ -93,7 +82,7 @@ fn a_full_output_is_told() {
 
 #[test]
 fn closed_errors_change_no_exit_code() {
-    for run in ["bench --bogus", "cardtool bogus", "cases --bogus", "differ --bogus"] {
+    for run in ["bench --bogus", "cases --bogus", "differ --bogus"] {
         let ended = program(run).stdout(closed()).stderr(closed()).status().expect(run);
         assert_eq!(ended.code(), Some(2), "{run}");
     }
@@ -115,18 +104,6 @@ fn a_bad_command_line_is_2() {
     fails("cases --fault", 2, "cases: either --records or --fault NAME can be given\n");
     fails("differ --damage 3", 2, "differ: --damage 3: not as in 3=0F,1109=01\n");
     fails("differ --replay no-such-file", 2, "differ: no-such-file: No such file or directory (os error 2)\n");
-    let missing = "a command is missing; there are encode, decode, show, build, dump, convert, judge and --help";
-    fails("cardtool", 2, &format!("cardtool: {missing}\n"));
-}
-
-#[cfg(unix)]
-#[test]
-fn an_argument_that_is_no_text_is_told() {
-    use std::ffi::OsStr;
-    use std::os::unix::ffi::OsStrExt;
-    let ended = program("cardtool show").arg(OsStr::from_bytes(b"a\xFF")).output().expect("cardtool");
-    let told = "cardtool: \"a\\xFF\" is not text in UTF-8\n";
-    assert_eq!((ended.status.code(), errors(&ended).as_str()), (Some(2), told));
 }
 
 #[test]

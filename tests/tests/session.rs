@@ -2,9 +2,9 @@
 //! and it ends whatever becomes of its input and output.
 #![cfg(feature = "engine")]
 
-use second::random::Random;
-use second::session::streams::{edges, histories, history, paper, Stream};
-use second::session::{frames, transcript};
+use comparison::random::Random;
+use comparison::session::streams::{edges, histories, history, paper, Stream};
+use comparison::session::{frames, transcript};
 use std::io::{self, BufRead, BufReader, Read, Write};
 use std::path::{Path, PathBuf};
 use std::process::{Child, ChildStdin, ChildStdout, Command, ExitStatus, Stdio};

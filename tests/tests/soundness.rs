@@ -1,11 +1,10 @@
 //! Each condition of a sound image, broken by itself. The engines and the tests' own reader agree.
 
-use second::bytes::layout::Version;
-use second::card::{linked, Bytes, Card, Verdict, IMAGE};
-use second::cases::{B, C, H, X};
-use second::rules::Rules;
-use second::tables;
-use second::write::{load, remove, remove_service, Row, Tokens};
+use comparison::card::{linked, Bytes, Card, Verdict, IMAGE};
+use comparison::cases::{B, C, H, X};
+use comparison::rules::Rules;
+use comparison::tables::{self, Form};
+use comparison::write::{load, remove, remove_service, Row, Tokens};
 
 /// Bytes put at a place.
 type Edit = (usize, &'static [u8]);
@@ -24,7 +23,7 @@ fn sample(rules: Rules) -> Vec<u8> {
         remove(B),
         remove_service(H, (1, 2)),
     ];
-    let mut image = vec![0; Version::of(rules).size];
+    let mut image = vec![0; Form::of(rules).size];
     Bytes(rules).empty(&mut image);
     for record in records {
         assert_eq!(Bytes(rules).judge(&mut image, &record).answer, 0);

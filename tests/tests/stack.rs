@@ -2,9 +2,9 @@
 //! a stack of its own that was painted before; and added up from the frames in the archive's machine code, for every path of calls.
 #![cfg(feature = "engine")]
 
-use second::card::{Card, Engine, Verdict, BYTES, IMAGE};
-use second::full_card::{old_card, timed};
-use second::run::{run, DEFAULT_SEED};
+use comparison::card::{Card, Engine, Verdict, BYTES, IMAGE};
+use comparison::full_card::{old_card, timed};
+use comparison::run::{run, DEFAULT_SEED};
 use std::arch::asm;
 use std::collections::BTreeMap;
 use std::hint::black_box;

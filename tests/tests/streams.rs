@@ -1,11 +1,12 @@
 //! The streams that the session program is run on tell it from programs that are wrong in one way each.
 
-use second::machine;
-use second::methods::{self, Place};
-use second::pairs::{self, Kind};
-use second::rules::Rules;
-use second::session::streams::{all, edges, history, SEEDS};
-use second::session::{frames, transcript, Frames};
+use comparison::card::LONGEST_RECORD;
+use comparison::machine;
+use comparison::methods::{self, Place};
+use comparison::pairs::{self, Kind};
+use comparison::rules::Rules;
+use comparison::session::streams::{all, edges, history, SEEDS};
+use comparison::session::{frames, transcript, Frames};
 use std::collections::BTreeSet;
 
 /// A wrong program: what it makes of the frames and of the right lines.
@@ -32,11 +33,11 @@ const WRONG: [(&str, Wrong); 21] = [
         let padded = [frames.rest, &[0]].concat();
         if_bad(frames, lines, |line| Some(read(&padded, line)))
     }),
-    ("4,146 bytes are read", |frames, lines| {
-        let read = |line| if said(frames.rest) == 4146 { read(frames.rest, line) } else { line };
+    ("a byte more than the longest record is read", |frames, lines| {
+        let read = |line| if said(frames.rest) == LONGEST_RECORD + 1 { read(frames.rest, line) } else { line };
         if_bad(frames, lines, |line| Some(read(line)))
     }),
-    ("4,145 bytes are not read", |frames, lines| bad_at(frames, lines, 4145)),
+    ("the longest record is not read", |frames, lines| bad_at(frames, lines, LONGEST_RECORD)),
     ("4 bytes are not read", |frames, lines| bad_at(frames, lines, 4)),
     ("a kind that is not known is -", |frames, mut lines| {
         for (record, line) in frames.records.iter().zip(&mut lines) {
@@ -144,5 +145,5 @@ fn the_edges_have_method_tokens_in_every_place() {
 }
 
 fn read_by(rules: Rules, record: &[u8]) -> bool {
-    machine::record::read(rules, record).is_ok()
+    machine::record::read(rules, record).is_some()
 }

@@ -1,17 +1,17 @@
 //! R-6, "Suppliers must not watch each other": the comparison on pairs of cards by itself, each clause of 'alike for B', and every
 //! pair of a small world.
 
-use second::card::{linked, Bytes, Card, Verdict, BYTES, IMAGE};
-use second::cases::{B, C, H, X};
-use second::faults;
-use second::generate::Source;
-use second::hex::from_hex;
-use second::machine::{Aid, Machine, Tokens as Service};
-use second::random::Random;
-use second::rules::Rules;
-use second::tables::{self, Bit, Package, Tables, Unmet, Waiting};
-use second::watched::{alike, turns, Clause, Seen, View, Watched};
-use second::write::{add_service, contract, load, remove, remove_service, update, Row, Tokens};
+use comparison::card::{linked, Bytes, Card, Verdict, BYTES, IMAGE};
+use comparison::cases::{B, C, H, X};
+use comparison::faults;
+use comparison::generate::Source;
+use comparison::hex::from_hex;
+use comparison::machine::{Aid, Machine, Tokens as Service};
+use comparison::random::Random;
+use comparison::rules::Rules;
+use comparison::tables::{self, Bit, Package, Tables, Unmet, Waiting};
+use comparison::watched::{alike, turns, Clause, Seen, View, Watched};
+use comparison::write::{add_service, contract, load, remove, remove_service, update, Row, Tokens};
 use std::collections::{BTreeMap, BTreeSet};
 
 const IN_FORCE: Rules = Rules::IN_FORCE;
@@ -52,7 +52,7 @@ fn watch(card: &dyn Card, pairs: usize) -> Result<Seen, String> {
 }
 
 fn fault(name: &str) -> &'static dyn Card {
-    faults::named(name).ok().expect("a fault of that name")
+    faults::named(name).expect("a fault of that name")
 }
 
 /// What is told of a difference shows it again: the engine, B, the record and both images.
@@ -282,10 +282,10 @@ fn world_card(n: usize, packages: usize, more: u8) -> Option<Tables> {
     let tokens = service(S);
     let provides = |package: usize| package < packages && n >> package & 1 == 1;
     // By the rows between H and C: cards that are alike for B have different ones.
-    let number = |package: usize| ((n >> 3) + 3 * package) % 8;
-    let mut card = Tables::default();
+    let number = |package: usize| ((n >> 3) + 3 * package) % IN_FORCE.sizes.services;
+    let mut card = Tables::empty(IN_FORCE);
     for package in 0..packages {
-        let mut services = [None; 8];
+        let mut services = vec![None; IN_FORCE.sizes.services];
         services[number(package)] = provides(package).then_some(tokens);
         card.packages[package] = Some(Package { aid: aids[package], services });
     }
@@ -316,7 +316,7 @@ fn world_card(n: usize, packages: usize, more: u8) -> Option<Tables> {
     // While B is absent it has no service, and the reader finds no card sound that has rows of its own.
     let absent = (packages..3).any(|package| n >> package & 1 == 1);
     let sound = || Tables::of(IN_FORCE, &card.write(IN_FORCE)).is_some();
-    (!absent && unmet.max(waiting) <= 16 && sound()).then_some(card)
+    (!absent && unmet.max(waiting) <= IN_FORCE.sizes.listed && sound()).then_some(card)
 }
 
 fn service((interface, method): Tokens) -> Service {
@@ -324,6 +324,9 @@ fn service((interface, method): Tokens) -> Service {
 }
 
 /// Every record of B's over the names of the world. Of whole contracts one alone is a load where B is installed, or kind 11 where it
+/// The four lists of a contract.
+type Whole<'a> = (&'a [Tokens], Vec<Row>, Vec<Row>, Vec<Row>);
+
 /// is absent.
 fn records(installed: bool) -> Vec<Vec<u8>> {
     let some =
@@ -337,7 +340,7 @@ fn records(installed: bool) -> Vec<Vec<u8>> {
         contracts.push((provides, rows(n & 3), rows(n >> 2 & 3), rows(needs)));
     }
     assert_eq!(contracts.len(), 72);
-    let whole = |kind, contracts: &[(&[Tokens], Vec<Row>, Vec<Row>, Vec<Row>)]| -> Vec<Vec<u8>> {
+    let whole = |kind, contracts: &[Whole]| -> Vec<Vec<u8>> {
         let written = contracts.iter();
         written.map(|(provides, calls, grants, needs)| contract(kind, B, provides, calls, grants, needs)).collect()
     };

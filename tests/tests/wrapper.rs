@@ -1,12 +1,11 @@
 //! The safe wrapper of the exported functions says what their numbers say.
 #![cfg(feature = "engine")]
 
-use second::card::{Bytes, Card, Verdict, IMAGE, LONGEST_RECORD, OLD_IMAGE};
-use second::cases::{all, C, H};
-use second::engine::{self, exact};
-use second::refusal::Refusal;
-use second::rules::Rules;
-use second::write::{load, update};
+use card::{exact, Refusal, IMAGE_SIZE, OLD_IMAGE_SIZE, RECORD_SIZE};
+use comparison::card::{Bytes, Card, Verdict, IMAGE, LONGEST_RECORD, OLD_IMAGE};
+use comparison::cases::{all, C, H};
+use comparison::rules::Rules;
+use comparison::write::{load, update};
 use std::collections::BTreeSet;
 
 /// What an answer and a second number mean.
@@ -23,9 +22,9 @@ fn judging_gives_the_numbers_of_every_case() {
     for case in all() {
         let mut image = case.image();
         for step in &case.steps {
-            let judged = engine::judge(&mut image, &step.record);
+            let judged = card::judge(&mut image, &step.record);
             assert_eq!(judged.map_err(Refusal::number), meaning(step.verdict), "{}", case.name);
-            assert_eq!(engine::check(&image).map_err(Refusal::number), meaning(exact::check(&image)));
+            assert_eq!(card::check(&image).map_err(Refusal::number), meaning(exact::check(&image).into()));
             seen.extend(judged.err());
         }
     }
@@ -35,32 +34,32 @@ fn judging_gives_the_numbers_of_every_case() {
 #[test]
 fn refusals_of_the_other_entries() {
     let mut image = [0xA5; IMAGE + 1];
-    assert_eq!(engine::empty(&mut image), Err(Refusal::Unsound));
+    assert_eq!(card::empty(&mut image), Err(Refusal::Unsound));
     assert_eq!(image, [0xA5; IMAGE + 1]);
-    assert_eq!(engine::check(&image), Err(Refusal::Unsound));
-    assert_eq!(engine::judge(&mut image, &[]), Err(Refusal::Unsound));
+    assert_eq!(card::check(&image), Err(Refusal::Unsound));
+    assert_eq!(card::judge(&mut image, &[]), Err(Refusal::Unsound));
     let mut buffer = [0xA5; LONGEST_RECORD];
-    assert_eq!(engine::read_out(&image, 0, &mut buffer), Err(Refusal::Unsound));
-    assert_eq!(engine::empty(&mut image[..IMAGE]), Ok(()));
+    assert_eq!(card::read_out(&image, 0, &mut buffer), Err(Refusal::Unsound));
+    assert_eq!(card::empty(&mut image[..IMAGE]), Ok(()));
     let image = &mut image[..IMAGE];
-    assert_eq!(engine::read_out(image, 0, &mut buffer), Err(Refusal::NotInstalled));
-    assert_eq!(engine::judge(image, &[]), Err(Refusal::Malformed));
+    assert_eq!(card::read_out(image, 0, &mut buffer), Err(Refusal::NotInstalled));
+    assert_eq!(card::judge(image, &[]), Err(Refusal::Malformed));
 }
 
 #[test]
 fn a_contract_is_read_out_as_a_part_of_the_buffer() {
     let record = load(H, &[(1, 2)], &[], &[], &[]);
     let mut image = [0; IMAGE];
-    assert_eq!(engine::empty(&mut image), Ok(()));
-    assert_eq!(engine::judge(&mut image, &record), Ok(0));
+    assert_eq!(card::empty(&mut image), Ok(()));
+    assert_eq!(card::judge(&mut image, &record), Ok(0));
     let mut buffer = vec![0xA5; record.len() - 1];
-    assert_eq!(engine::read_out(&image, 0, &mut buffer), Err(Refusal::BufferShort));
+    assert_eq!(card::read_out(&image, 0, &mut buffer), Err(Refusal::BufferShort));
     assert_eq!(buffer, vec![0xA5; record.len() - 1]);
     let mut buffer = vec![0xA5; record.len() + 3];
-    assert_eq!(engine::read_out(&image, 0, &mut buffer), Ok(&record[..]));
+    assert_eq!(card::read_out(&image, 0, &mut buffer), Ok(&record[..]));
     assert_eq!(buffer[record.len()..], [0xA5; 3]);
-    assert_eq!(engine::aid(&record), H);
-    assert_eq!(engine::aid(&record[1..]), []);
+    assert_eq!(card::aid(&record), H);
+    assert_eq!(card::aid(&record[1..]), []);
 }
 
 #[test]
@@ -70,15 +69,41 @@ fn an_old_image_is_converted() {
     let record = load(H, &[(1, 2)], &[], &[(C.to_vec(), (1, 2))], &[]);
     assert_eq!(then.judge(&mut old, &record), Verdict::new(0, 0));
     let mut image = [0xA5; IMAGE];
-    assert_eq!(engine::check(&old), Err(Refusal::Unsound));
-    assert_eq!(engine::convert(&old[1..], &mut image), Err(Refusal::Unsound));
-    assert_eq!(engine::convert(&old, &mut image[1..]), Err(Refusal::Unsound));
+    assert_eq!(card::check(&old), Err(Refusal::Unsound));
+    assert_eq!(card::convert(&old[1..], &mut image), Err(Refusal::Unsound));
+    assert_eq!(card::convert(&old, &mut image[1..]), Err(Refusal::Unsound));
     assert_eq!(image, [0xA5; IMAGE]);
-    assert_eq!(engine::convert(&old, &mut image), Ok(()));
-    assert_eq!(engine::check(&image), Ok(1));
+    assert_eq!(card::convert(&old, &mut image), Ok(()));
+    assert_eq!(card::check(&image), Ok(1));
     let mut buffer = [0; LONGEST_RECORD];
-    assert_eq!(engine::read_out(&image, 0, &mut buffer), Ok(&record[..]));
+    assert_eq!(card::read_out(&image, 0, &mut buffer), Ok(&record[..]));
     let early = update(7, H, C, (3, 4));
-    assert_eq!(engine::judge(&mut image, &early), Ok(0));
-    assert_eq!(engine::judge(&mut image, &early), Err(Refusal::Pointless));
+    assert_eq!(card::judge(&mut image, &early), Ok(0));
+    assert_eq!(card::judge(&mut image, &early), Err(Refusal::Pointless));
+}
+
+#[test]
+fn the_sizes_are_those_of_the_second_engine() {
+    assert_eq!((IMAGE_SIZE, OLD_IMAGE_SIZE, RECORD_SIZE), (IMAGE, OLD_IMAGE, LONGEST_RECORD));
+}
+
+/// Each number has its cause and its own words, in the wrapper and in the tool.
+#[test]
+fn each_number_has_its_cause() {
+    let mut words = BTreeSet::new();
+    for (number, refusal) in (1..).zip(Refusal::ALL) {
+        assert_eq!((refusal.number(), Refusal::of(number)), (number, Some(refusal)));
+        assert_eq!(refusal.to_string(), format!("{number}: {}", refusal.words()));
+        assert_eq!(refusal.words(), cardtool::cause::words(number));
+        assert!(words.insert(refusal.words()));
+    }
+    assert_eq!(Refusal::of(0), None);
+    assert_eq!(Refusal::of(1 + Refusal::ALL.len() as u32), None);
+}
+
+/// The archive says what it was proved with, and that is the pinned logic.
+#[test]
+fn the_logic_is_the_pinned_one() {
+    let pinned = include_str!("../../toolchain.txt");
+    assert!(card::LOGIC.len() == 16 && pinned.trim_end().ends_with(card::LOGIC), "{}", card::LOGIC);
 }

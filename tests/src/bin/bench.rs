@@ -1,10 +1,10 @@
 //! Times a record of each kind on a nearly full card, every engine against the byte engine.
 //! `bench --help` lists the options.
 
-use second::card::{linked, Card, IMAGE, LONGEST_RECORD};
-use second::full_card::{old_card, timed, Timed};
-use second::program::{self, number, Failure};
-use second::{say, say_line};
+use comparison::card::{linked, Card, IMAGE, LONGEST_RECORD};
+use comparison::full_card::{old_card, timed, Timed};
+use comparison::program::{self, number, Failure};
+use comparison::{say, say_line};
 use std::hint::black_box;
 use std::process::ExitCode;
 use std::time::{Duration, Instant};

@@ -1,11 +1,11 @@
 //! Runs every case of the table on the machine and every engine, and prints a line for each.
 //! `cases --help` lists the options.
 
-use second::card::{linked, names, Card};
-use second::cases::{all, Case};
-use second::faults;
-use second::program::{self, Failure};
-use second::say_line;
+use comparison::card::{linked, names, Card};
+use comparison::cases::{all, Case};
+use comparison::faults;
+use comparison::program::{self, Failure};
+use comparison::say_line;
 use std::process::ExitCode;
 
 const HELP: &str = "\

@@ -1,21 +1,21 @@
 //! Compares the engines on random histories. `differ --help` lists the options.
 
-use second::card::{linked, names, Card};
-use second::compare::Tally;
-use second::conditions::Outcome;
-use second::damage::Damage;
-use second::early::Early;
-use second::faults;
-use second::history::{changes, Event};
-use second::methods::{Held, Place};
-use second::pairs::{all, gone, Kind};
-use second::program::{self, number, Failure};
-use second::replace::Replaced;
-use second::retired::Retired;
-use second::rules::Rules;
-use second::run::{replay, run, DEFAULT_RECORDS, DEFAULT_SEED};
-use second::say_line;
-use second::watched::Watched;
+use comparison::card::{linked, names, Card};
+use comparison::compare::Tally;
+use comparison::conditions::Outcome;
+use comparison::damage::Damage;
+use comparison::early::Early;
+use comparison::faults;
+use comparison::history::{changes, Event};
+use comparison::methods::{Held, Place};
+use comparison::pairs::{all, gone, Kind};
+use comparison::program::{self, number, Failure};
+use comparison::replace::Replaced;
+use comparison::retired::Retired;
+use comparison::rules::{Rules, Sizes};
+use comparison::run::{replay, run, DEFAULT_RECORDS, DEFAULT_SEED};
+use comparison::say_line;
+use comparison::watched::Watched;
 use std::collections::BTreeMap;
 use std::fmt::Display;
 use std::process::ExitCode;
@@ -103,14 +103,16 @@ fn run_histories(cards: &[&dyn Card], arguments: &Arguments) -> Result<(), Failu
 }
 
 fn report(tally: &Tally) -> String {
+    let Sizes { packages, services, listed, .. } = *Rules::IN_FORCE.sizes;
+    let below = listed - 1;
     let (seen, possible) = tally.pairs.coverage(all(Rules::IN_FORCE));
     let (seen_before, gone) = tally.pairs_before.coverage(gone());
     let (of_b, possible_of_b) = tally.watched.records.coverage(on_sound_cards());
     format!(
         "{}\n{} records, all alike; {seen} of {possible} pairs (kind, answer) seen, and {seen_before} of {gone} before that are gone\n\
          {} contracts read out; damaged images: {} sound, {} not\n\
-         records after which: unmet calls 15: {}, 16: {}; waiting grants 15: {}, 16: {}; \
-         8 packages: {}; 8 services in one: {}\n\
+         records after which: unmet calls {below}: {}, {listed}: {}; waiting grants {below}: {}, {listed}: {}; \
+         {packages} packages: {}; {services} services in one: {}\n\
          histories over changes of the rules: {} gone on, {} of them cleared before; {} left out; records before: {}\n\
          images of version 01: {} converted, {} refused\n\
          grants before their service: {}\n\
@@ -129,8 +131,8 @@ fn report(tally: &Tally) -> String {
         tally.unmet[1],
         tally.waiting[0],
         tally.waiting[1],
-        tally.eight_packages,
-        tally.eight_services,
+        tally.all_packages,
+        tally.all_services,
         tally.gone_on,
         tally.cleared,
         tally.left_out,
@@ -222,7 +224,7 @@ fn everything_seen(tally: &Tally) -> Result<(), String> {
             return Err(format!("never seen{when}: {}", joined(missing.into_iter().map(pair))));
         }
     }
-    let states = [tally.unmet, tally.waiting, [tally.eight_packages, tally.eight_services]].concat();
+    let states = [tally.unmet, tally.waiting, [tally.all_packages, tally.all_services]].concat();
     let damaged = [tally.damaged_sound, tally.damaged_unsound];
     if states.iter().chain(&damaged).any(|count| *count == 0) {
         return Err("a list or a card was never driven to its limit".to_string());

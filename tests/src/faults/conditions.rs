@@ -4,7 +4,7 @@ use super::replace::add_grants;
 use super::IN_FORCE;
 use crate::card::{Card, Verdict, BYTES};
 use crate::conditions::{called_and_granted, Conditions};
-use crate::host::encode;
+use crate::encode;
 use crate::machine::record::{Change, Lists, Record};
 use crate::machine::{Aid, Machine, Row, Tokens};
 use crate::tables;

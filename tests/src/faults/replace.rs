@@ -2,7 +2,7 @@
 
 use super::{tables_after, Entry, Fault, IN_FORCE};
 use crate::card::{Card, Verdict, BYTES};
-use crate::host::encode;
+use crate::encode;
 use crate::machine::record::{self, Change, Lists, Record};
 use crate::machine::{Machine, Row, Tokens};
 use crate::rules::Rules;
@@ -29,14 +29,14 @@ fn after(
 
 /// A record of kind 11 on the contracts that an image stands for.
 fn replacing(image: &[u8], bytes: &[u8]) -> Option<(Record, Lists, Machine)> {
-    let record = record::read(IN_FORCE, bytes).ok()?;
+    let record = record::read(IN_FORCE, bytes)?;
     let Change::Replace(lists) = record.change.clone() else { return None };
     Some((record, lists, tables::contracts(IN_FORCE, image)?))
 }
 
 /// Gives the package's services other numbers.
 fn renumber(tables: &mut Tables, package: usize, number: impl Fn(Tokens) -> usize) {
-    let Some(services) = tables.at(package).map(|own| own.services) else { return };
+    let Some(services) = tables.at(package).map(|own| own.services.clone()) else { return };
     tables.renumber(package, |service| services[service].map_or(service, &number));
 }
 
@@ -53,10 +53,10 @@ pub fn renumbers(image: &mut [u8], bytes: &[u8]) -> Verdict {
 /// Dropped services keep their numbers for this record: what comes takes others, and there may be none left.
 pub fn numbers_not_freed(image: &mut [u8], bytes: &[u8]) -> Verdict {
     after(image, bytes, |number, before, after| {
-        let services = |tables: &Tables| tables.packages[number].as_ref().expect("the package").services;
+        let services = |tables: &Tables| tables.at(number).expect("the package").services.clone();
         let (old, new) = (services(before), services(after));
         let come: Vec<Tokens> = new.into_iter().flatten().filter(|tokens| !old.contains(&Some(*tokens))).collect();
-        let free: Vec<usize> = (0..8).filter(|service| old[*service].is_none()).collect();
+        let free: Vec<usize> = (0..old.len()).filter(|service| old[*service].is_none()).collect();
         if come.len() > free.len() {
             return Err(7);
         }
@@ -195,12 +195,13 @@ pub fn given_grants_taken(image: &mut [u8], bytes: &[u8]) -> Verdict {
     })
 }
 
-/// A list that passes 16 on the way does not fit.
+/// A list that passes its limit on the way does not fit.
 pub fn limits_on_the_way(image: &mut [u8], bytes: &[u8]) -> Verdict {
     after(image, bytes, |number, before, after| {
         let unmet = after.unmet.iter().filter(|call| call.caller == number || !before.unmet.contains(call));
         let waiting = after.waiting.iter().filter(|grant| grant.callee == number);
-        match (before.unmet.len() + unmet.count() > 16, before.waiting.len() + waiting.count() > 16) {
+        let past = |rows: usize| rows > IN_FORCE.sizes.listed;
+        match (past(before.unmet.len() + unmet.count()), past(before.waiting.len() + waiting.count())) {
             (true, _) => Err(10),
             (false, true) => Err(11),
             (false, false) => Ok(()),

@@ -2,7 +2,7 @@
 
 use super::{tables_after, Entry, Fault, IN_FORCE};
 use crate::card::{Bytes, Card, Verdict, BYTES, LONGEST_RECORD};
-use crate::host::encode;
+use crate::encode;
 use crate::machine::record::{self, Change};
 use crate::rules::Rules;
 use crate::tables::Tables;
@@ -92,7 +92,7 @@ pub fn outlives_contract(image: &mut [u8], bytes: &[u8]) -> Verdict {
 pub fn not_read_out(image: &[u8], number: u32, out: &mut [u8]) -> Verdict {
     let mut whole = [0; LONGEST_RECORD];
     let verdict = BYTES.read_out(image, number, &mut whole);
-    let Ok(mut record) = record::read(IN_FORCE, &whole[..verdict.second as usize]) else { return verdict };
+    let Some(mut record) = record::read(IN_FORCE, &whole[..verdict.second as usize]) else { return verdict };
     if let Change::Load(lists) = &mut record.change {
         lists.needs.clear();
     }

@@ -57,7 +57,7 @@ pub fn next_callers_number(image: &mut [u8], bytes: &[u8]) -> Verdict {
 pub fn every_call_counted(image: &mut [u8], bytes: &[u8]) -> Verdict {
     tables_after(2, image, bytes, |number, before, _| {
         let unmet = before.unmet.iter().filter(|call| call.caller != number).count();
-        refused_if(10, unmet + before.calls.iter().filter(|call| call.caller != number).count() > 16)
+        refused_if(10, unmet + before.calls.iter().filter(|call| call.caller != number).count() > IN_FORCE.sizes.listed)
     })
 }
 
@@ -65,7 +65,10 @@ pub fn every_call_counted(image: &mut [u8], bytes: &[u8]) -> Verdict {
 pub fn every_grant_counted(image: &mut [u8], bytes: &[u8]) -> Verdict {
     tables_after(2, image, bytes, |number, before, _| {
         let waiting = before.waiting.iter().filter(|grant| grant.callee != number).count();
-        refused_if(11, waiting + before.grants.iter().filter(|grant| grant.callee != number).count() > 16)
+        refused_if(
+            11,
+            waiting + before.grants.iter().filter(|grant| grant.callee != number).count() > IN_FORCE.sizes.listed,
+        )
     })
 }
 
@@ -77,10 +80,10 @@ pub fn last_row_unsearched(image: &mut [u8], bytes: &[u8]) -> Verdict {
     })
 }
 
-/// Kind 5 does not find the grant of a service that has number 7.
+/// Kind 5 does not find the grant of a service that has the last number.
 pub fn seventh_ungranted(image: &mut [u8], bytes: &[u8]) -> Verdict {
     tables_after(5, image, bytes, |_, before, after| {
-        refused_if(8, new(&after.calls, &before.calls).is_some_and(|call| call.service == 7))
+        refused_if(8, new(&after.calls, &before.calls).is_some_and(|call| call.service == IN_FORCE.sizes.services - 1))
     })
 }
 

@@ -117,7 +117,8 @@ impl Source {
         };
         let stays = |tokens: &&Tokens| self.random.percent(if needed(tokens) { 95 } else { 70 });
         let mut services: Vec<Tokens> = old.provides.iter().filter(stays).copied().collect();
-        let most = if self.random.percent(20) { 8 } else { 3 };
+        let all = self.rules.sizes.services;
+        let most = if self.random.percent(20) { all } else { 3 };
         let mut more: Vec<Tokens> =
             self.tokens.iter().filter(|tokens| !old.provides.contains(tokens)).copied().collect();
         self.random.shuffle(&mut more);
@@ -126,7 +127,7 @@ impl Source {
         }
         more.truncate(self.random.between(0, most));
         services.extend(more);
-        services.truncate(8);
+        services.truncate(all);
         self.random.shuffle(&mut services);
         services
     }
@@ -139,7 +140,7 @@ impl Source {
         self.random.shuffle(&mut absent);
         absent.sort_by_key(|call| !old.calls.contains(call));
         let stay = absent.iter().filter(|call| old.calls.contains(call) && self.random.percent(70)).count();
-        absent.truncate(self.rows_more(unmet).max(stay).min(72 - calls.len()));
+        absent.truncate(self.rows_more(unmet).max(stay).min(self.rules.sizes.rows - calls.len()));
         calls.extend(absent);
         self.random.shuffle(&mut calls);
         calls
@@ -159,7 +160,7 @@ impl Source {
         }
         let mut grants = self.some(&here, |_| 40);
         self.random.shuffle(&mut absent);
-        absent.truncate(self.rows_more(waiting).min(16));
+        absent.truncate(self.rows_more(waiting).min(self.rules.sizes.listed));
         grants.extend(absent);
         grants
     }
@@ -171,16 +172,17 @@ impl Source {
         others.flat_map(|other| tokens().map(|tokens| Row { other: *other, tokens: *tokens })).collect()
     }
 
-    /// How many rows to add to a list that has `now`: a few, or up to 15, 16 or 17 of them.
+    /// How many rows to add to a list that has `now`: a few, or up to its limit, one below it or one past it.
     fn rows_more(&mut self, now: usize) -> usize {
         let to_the_limit = match self.drive {
             Drive::Lists => 40,
             Drive::Mixed => 10,
             Drive::Packages | Drive::Services => 3,
         };
+        let limit = self.rules.sizes.listed;
         match self.random.percent(to_the_limit) {
-            true => self.random.between(15, 17).saturating_sub(now),
-            false => self.random.between(0, 3).min(17usize.saturating_sub(now)),
+            true => self.random.between(limit - 1, limit + 1).saturating_sub(now),
+            false => self.random.between(0, 3).min((limit + 1).saturating_sub(now)),
         }
     }
 

@@ -1,6 +1,8 @@
 //! Well formed records that name things at random, whatever the card holds.
 
 use super::{pair, Source};
+use crate::machine::Aid;
+use crate::rules::Sizes;
 use crate::write;
 
 impl Source {
@@ -37,23 +39,25 @@ impl Source {
     /// A record with lists as long as they may be, or one row longer.
     pub(super) fn long_record(&mut self) -> Vec<u8> {
         let own = self.own_bytes();
-        let mut aid = vec![0xEE; self.random.between(5, 16)];
+        let mut aid = vec![0xEE; self.random.between(*Aid::LENGTHS.start(), *Aid::LENGTHS.end())];
         let mut next = |n: usize| {
-            aid[0] = n as u8;
+            aid[..2].copy_from_slice(&[n as u8, 0xEE + (n >> 8) as u8]);
             aid.clone()
         };
-        let [services, callers, calls, grants, needs] = [8, 32, 72, 72, 72].map(|most| match self.random.below(8) {
+        let Sizes { services, callers, rows, .. } = *self.rules.sizes;
+        let lengths = [services, callers, rows, rows, rows].map(|most| match self.random.below(8) {
             0 => most + 1,
             1..=3 => self.random.below(most),
             _ => most,
         });
+        let [services, callers, calls, grants, needs] = lengths;
         if self.random.percent(30) {
             let callers: Vec<_> = (0..callers).map(&mut next).collect();
             return write::add_service(&own, pair(self.tokens()), &callers);
         }
         let mut provides: Vec<_> = self.tokens.iter().copied().map(pair).collect();
         provides.truncate(services);
-        let rows: Vec<_> = (0..73).map(|n| (next(n), provides.first().copied().unwrap_or((0, 0)))).collect();
+        let rows: Vec<_> = (0..=rows).map(|n| (next(n), provides.first().copied().unwrap_or((0, 0)))).collect();
         let kind = [1, 11][self.random.below(2)];
         write::contract(kind, &own, &provides, &rows[..calls], &rows[..grants], &rows[..needs])
     }

@@ -1,14 +1,15 @@
 //! Damaged, truncated and random records.
 
+use crate::machine::Aid;
 use crate::methods;
 use crate::random::Random;
-use crate::write::set_length;
+use crate::write::{self, set_length, VERSION};
 
 /// Random bytes, half of them behind a right length, version and kind.
 pub fn noise(random: &mut Random) -> Vec<u8> {
     let mut record: Vec<u8> = (0..random.below(48)).map(|_| random.byte()).collect();
     if record.len() >= 4 && random.percent(50) {
-        record[2] = 1;
+        record[2] = VERSION;
         record[3] = random.between(1, 11) as u8;
         set_length(&mut record);
     }
@@ -51,8 +52,8 @@ pub fn spoiled(mut record: Vec<u8>, random: &mut Random) -> Vec<u8> {
 fn wrong_aid(record: &mut Vec<u8>, random: &mut Random) {
     let second = 5 + usize::from(record[4]);
     let at = if (5..=10).contains(&record[3]) && random.percent(50) { second } else { 4 };
-    let (end, length) = (at + 1 + usize::from(record[at]), [0, 4, 17][random.below(3)]);
-    let aid = [vec![length], vec![0xF0; length.into()]].concat();
+    let (end, wrong) = (at + 1 + usize::from(record[at]), [0, *Aid::LENGTHS.start() - 1, *Aid::LENGTHS.end() + 1]);
+    let aid = write::aid(&vec![0xF0; wrong[random.below(wrong.len())]]);
     record.splice(at..end, aid);
     set_length(record);
 }

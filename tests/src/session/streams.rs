@@ -4,10 +4,10 @@ use super::frames;
 use crate::card::LONGEST_RECORD;
 use crate::cases::{self, named, Case, C, H};
 use crate::generate::Source;
-use crate::machine::Machine;
+use crate::machine::{Aid, Machine};
 use crate::random::Random;
-use crate::rules::Rules;
-use crate::write::{add_service, load, record, replace, update, Row};
+use crate::rules::{Rules, Sizes};
+use crate::write::{add_service, load, record, replace, update, Row, VERSION};
 use std::ops::RangeInclusive;
 
 /// An input, and what it is.
@@ -59,7 +59,9 @@ fn single_bytes() -> Vec<Stream> {
 /// Good and bad lengths, with as many bytes as they say, with more and with less; alone, behind records and before them.
 fn lengths() -> Vec<Stream> {
     let mut streams = Vec::new();
-    for length in [0, 1, 2, 3, 4, 5, 255, 256, 257, 4096, 4144, 4145, 4146, 4147, 8192, 32_768, 65_535] {
+    let longest = LONGEST_RECORD as u16;
+    let around = [longest - 1, longest, longest + 1, longest + 2];
+    for length in [&[0, 1, 2, 3, 4, 5, 255, 256, 257, 4096][..], &around, &[8192, 32_768, 65_535]].concat() {
         let said = usize::from(length);
         let mut sizes = vec![2, 3, 4, said, said + 1, said.saturating_sub(1), said / 2];
         sizes.retain(|size| *size >= 2);
@@ -77,11 +79,11 @@ fn lengths() -> Vec<Stream> {
     streams
 }
 
-/// So many bytes, two at least: a length field, version 1, kind 1 and junk.
+/// So many bytes, two at least: a length field, the version, kind 1 and junk.
 fn junk(length: u16, size: usize) -> Vec<u8> {
     let mut bytes = vec![0x5A; size.max(4)];
     bytes[..2].copy_from_slice(&length.to_be_bytes());
-    bytes[2..4].fill(1);
+    bytes[2..4].copy_from_slice(&[VERSION, 1]);
     bytes.truncate(size);
     bytes
 }
@@ -119,13 +121,14 @@ fn requests() -> Vec<Stream> {
 
 /// The longest records, a load and one that replaces a contract, and the longest that adds a service: all read to the end.
 fn longest() -> Vec<Stream> {
-    let aid = |n: u8| vec![n; 16];
-    let services: Vec<_> = (0..8).map(|method| (1, method)).collect();
-    let rows: Vec<Row> = (1..=72).map(|n| (aid(n), services[0])).collect();
+    let Sizes { services, rows, callers, .. } = *Rules::IN_FORCE.sizes;
+    let aid = |n: usize| [vec![n as u8; *Aid::LENGTHS.end() - 1], vec![(n + (n >> 8)) as u8]].concat();
+    let services: Vec<_> = (0..services as u8).map(|method| (1, method)).collect();
+    let rows: Vec<Row> = (1..=rows).map(|n| (aid(n), services[0])).collect();
     let loaded = load(&aid(0), &services, &rows, &rows, &rows);
     assert_eq!(loaded.len(), LONGEST_RECORD);
     let replaced = [load(&aid(0), &[], &[], &[], &[]), replace(&aid(0), &services, &rows, &rows, &rows)].concat();
-    let callers: Vec<_> = (1..=32).map(aid).collect();
+    let callers: Vec<_> = (1..=callers).map(aid).collect();
     let added = [load(&aid(0), &[], &[], &[], &[]), add_service(&aid(0), (1, 0), &callers)].concat();
     let four = paper().concat();
     let mut byte_more = loaded.clone();
@@ -135,7 +138,7 @@ fn longest() -> Vec<Stream> {
         Stream::new("the longest load twice, between records", [&four[..], &loaded, &loaded, &four].concat()),
         Stream::new("the longest load, a byte short", loaded[..LONGEST_RECORD - 1].to_vec()),
         Stream::new("the longest load and a byte", byte_more),
-        Stream::new("a load, and a service with 32 grants", added),
+        Stream::new("a load, and a service with as many grants as it may bring", added),
         Stream::new("a load, and the longest contract in its place", replaced),
     ]
 }

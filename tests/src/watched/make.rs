@@ -3,10 +3,11 @@
 
 use crate::machine::{Aid, Tokens};
 use crate::random::Random;
+use crate::rules::Rules;
 use crate::tables::{places, Bit, Tables, Unmet, Waiting};
 
 /// AIDs and tokens that no history has.
-const STRANGERS: [&[u8]; 2] = [&[0xE1; 5], &[0xE2; 16]];
+const STRANGERS: [&[u8]; 2] = [&[0xE1; *Aid::LENGTHS.start()], &[0xE2; *Aid::LENGTHS.end()]];
 const STRANGE: Tokens = Tokens { interface: 77, method: 77 };
 
 /// The AIDs and the tokens on a card, and a few more.
@@ -17,7 +18,7 @@ pub struct Names {
 
 impl Names {
     pub fn of(tables: &Tables) -> Names {
-        let provided = tables.packages.iter().flatten().flat_map(|package| package.services.into_iter().flatten());
+        let provided = tables.packages.iter().flatten().flat_map(|package| package.services.iter().copied().flatten());
         let listed = tables.unmet.iter().map(|row| row.tokens).chain(tables.waiting.iter().map(|row| row.tokens));
         Names {
             aids: distinct(installed(tables).chain(listed_aids(tables)).chain(STRANGERS.map(Aid::new))),
@@ -54,7 +55,8 @@ pub fn choose(tables: &Tables, random: &mut Random) -> Aid {
 /// Another card that is alike for the package.
 pub fn other_card(tables: &Tables, own: Aid, names: &Names, random: &mut Random) -> Tables {
     let number = tables.number(own);
-    let others: Vec<usize> = (0..8).filter(|n| tables.at(*n).is_some() && Some(*n) != number).collect();
+    let others: Vec<usize> =
+        (0..tables.packages.len()).filter(|n| tables.at(*n).is_some() && Some(*n) != number).collect();
     let aids: Vec<Aid> = names.aids.iter().filter(|aid| **aid != own).copied().collect();
     // So many of the rows in a hundred stay as they are.
     let stay = [0, 60, 95][random.below(3)];
@@ -93,8 +95,8 @@ pub fn other_card(tables: &Tables, own: Aid, names: &Names, random: &mut Random)
         random.shuffle(&mut card.waiting);
     }
     if random.percent(60) {
-        for package in 0..8 {
-            let mut numbers = [0, 1, 2, 3, 4, 5, 6, 7];
+        for package in 0..card.packages.len() {
+            let mut numbers: Vec<usize> = (0..Rules::IN_FORCE.sizes.services).collect();
             random.shuffle(&mut numbers);
             card.renumber(package, |old| numbers[old]);
         }

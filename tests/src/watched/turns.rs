@@ -82,7 +82,7 @@ impl Two {
             return Err(self.told(card, bytes, &format!("judging gives {one:?} on one and {two:?} on the other")));
         }
         // A malformed record has no first AID.
-        if one.answer != 2 && record::read(Rules::IN_FORCE, bytes).is_err() {
+        if one.answer != 2 && record::read(Rules::IN_FORCE, bytes).is_none() {
             return Err(self.told(card, bytes, &format!("judging a malformed record gives {one:?}")));
         }
         Ok((one, images))

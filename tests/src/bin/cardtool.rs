@@ -1,9 +1,0 @@
-//! Records and images as text. `cardtool --help` lists the commands.
-
-use second::host::tool;
-use second::program::{run, write};
-use std::process::ExitCode;
-
-fn main() -> ExitCode {
-    run(|arguments| tool::run(arguments, &mut std::io::stdin().lock()).map(|output| write(&output)))
-}
