@@ -16,6 +16,9 @@
  * - Until the call returns nobody else writes what is lent: no other thread, signal handler or interrupt, and nobody through a
  *   file that is mapped there.
  *
+ * An image is changed in place, and of a call that does not return nothing is promised: where the power may fail, judge on a copy, and
+ * store the copy after the call.
+ *
  * What the functions use, as `rt staticlib` compiles them:
  *
  * - No heap and no state: no byte outlives a call, and several threads may call at once.
