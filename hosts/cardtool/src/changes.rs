@@ -1,6 +1,7 @@
 //! What differs between the contracts of two cards, by AIDs and tokens and not by numbers.
 
 use crate::contract::{Aid, Contract, Row, Tokens};
+use crate::explain::{met, waits, Ends};
 use crate::names::Names;
 use crate::record_text::{calls, grants, needs, provides};
 use crate::tables::Tables;
@@ -56,14 +57,16 @@ pub fn between(before: &Tables, after: &Tables) -> Vec<Change> {
         differences(&was.grants, &is.grants, Changed::Grants, &mut say);
         differences(&was.needs, &is.needs, Changed::Needs, &mut say);
         for call in was.calls.intersection(&is.calls) {
-            match (met(before, call), met(after, call)) {
+            let met = [&old, &new].map(|card| met(card, &Ends::call(package, call)));
+            match met.into() {
                 (true, false) => say(Sign::Turned, Changed::Unmet(*call)),
                 (false, true) => say(Sign::Turned, Changed::Met(*call)),
                 _ => {}
             }
         }
         for grant in was.grants.intersection(&is.grants) {
-            match (in_force(before, package, grant), in_force(after, package, grant)) {
+            let in_force = [&old, &new].map(|card| waits(card, &Ends::grant(package, grant)).is_none());
+            match in_force.into() {
                 (true, false) => say(Sign::Turned, Changed::Waiting(*grant)),
                 (false, true) => say(Sign::Turned, Changed::InForce(*grant)),
                 _ => {}
@@ -81,17 +84,6 @@ fn differences<T: Copy + Ord>(
 ) {
     was.difference(is).for_each(|item| say(Sign::Gone, row(*item)));
     is.difference(was).for_each(|item| say(Sign::Come, row(*item)));
-}
-
-/// Whether the service of a call is on the card.
-fn met(tables: &Tables, call: &Row) -> bool {
-    tables.number(call.other).is_some_and(|callee| tables.service(callee, call.tokens).is_some())
-}
-
-/// Whether the caller and the service of a grant are both on the card.
-fn in_force(tables: &Tables, own: Aid, grant: &Row) -> bool {
-    let service = tables.number(own).and_then(|own| tables.service(own, grant.tokens));
-    tables.number(grant.other).is_some() && service.is_some()
 }
 
 impl Change {

@@ -272,12 +272,12 @@ fn rows(record: &Record) -> Vec<(Part, Item)> {
 
 impl Ends {
     /// Those of a package's call or need.
-    fn call(own: Aid, row: &Row) -> Ends {
+    pub fn call(own: Aid, row: &Row) -> Ends {
         Ends { caller: own, callee: row.other, service: row.tokens }
     }
 
     /// Those of a package's grant.
-    fn grant(own: Aid, row: &Row) -> Ends {
+    pub fn grant(own: Aid, row: &Row) -> Ends {
         Ends { caller: row.other, callee: own, service: row.tokens }
     }
 }
@@ -288,7 +288,7 @@ fn calls(card: &Contracts) -> impl Iterator<Item = Ends> + '_ {
 }
 
 /// "A call is met when its service is provided on the card", and a need alike.
-fn met(card: &Contracts, call: &Ends) -> bool {
+pub fn met(card: &Contracts, call: &Ends) -> bool {
     card.get(&call.callee).is_some_and(|provider| provider.provides.contains(&call.service))
 }
 
@@ -299,7 +299,7 @@ fn granted(card: &Contracts, call: &Ends) -> bool {
 }
 
 /// What a grant waits for: "it waits until caller and service are both on the card".
-fn waits(card: &Contracts, grant: &Ends) -> Option<Waits> {
+pub fn waits(card: &Contracts, grant: &Ends) -> Option<Waits> {
     match (card.contains_key(&grant.caller), met(card, grant)) {
         (true, true) => None,
         (false, true) => Some(Waits::Caller),

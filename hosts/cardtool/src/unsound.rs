@@ -7,6 +7,9 @@ use crate::names::Names;
 use crate::tables::aid;
 use crate::words::{counted, cut};
 
+/// What is said of an image of version 01 that is to be judged.
+pub const OLD: &str = "the image has version 01, and has to be converted before it can be judged: 'cardtool convert'";
+
 /// The image, where some layout has its size.
 pub fn sized(bytes: &[u8]) -> Result<Image<'_>, Fault> {
     let [old, new] = [&VERSION_01, &VERSION_02].map(|layout| layout.size());

@@ -1,6 +1,7 @@
 //! Who gets at a service: by a grant, by a call, and by a chain of calls through others.
 
 use crate::contract::{Aid, Row, Tokens};
+use crate::explain::{waits, Ends, Waits};
 use crate::names::Names;
 use crate::reach;
 use crate::tables::Tables;
@@ -56,12 +57,11 @@ pub fn access(tables: &Tables, package: Aid, tokens: Tokens) -> Access {
     let row = Row { other: package, tokens };
     let own = contracts.get(&package).into_iter().flat_map(|own| &own.grants);
     let granted = own.filter(|grant| grant.tokens == tokens).map(|grant| {
-        let waits_for = match (tables.number(grant.other).is_some(), number.is_some()) {
-            (true, true) => None,
-            (false, true) => Some("the package"),
-            (true, false) => Some("the service"),
-            (false, false) => Some("the package and the service"),
-        };
+        let waits_for = waits(&contracts, &Ends::grant(package, grant)).map(|waits| match waits {
+            Waits::Caller => "the package",
+            Waits::Service => "the service",
+            Waits::Both => "the package and the service",
+        });
         Grant { caller: grant.other, waits_for }
     });
     let callers = contracts.iter().filter(|(_, contract)| contract.calls.contains(&row));

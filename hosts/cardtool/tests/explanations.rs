@@ -104,7 +104,7 @@ fn cause_1_each_fault_has_its_byte() {
 fn cause_1_version_01_is_converted_first() {
     let mut image = vec![0; VERSION_01.size()];
     image[..3].copy_from_slice(&VERSION_01.header);
-    let words = "byte 2: the image has version 01, and has to be converted before it can be judged";
+    let words = "byte 2: the image has version 01, and has to be converted before it can be judged: 'cardtool convert'";
     let old = (Some(2), words.to_string());
     assert_eq!(bytes(&image, b""), (1, vec![old.clone()]));
     image[789] = 17;

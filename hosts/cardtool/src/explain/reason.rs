@@ -2,10 +2,11 @@
 
 use crate::contract::{Aid, Row, Tokens};
 use crate::fault::{At, Fault};
-use crate::layout::{USED, VERSION_01};
+use crate::layout::USED;
 use crate::names::Names;
 use crate::record::{Clash, Malformed, Part};
 use crate::record_text::service;
+use crate::unsound::OLD;
 
 /// The packages at both ends of a call, a grant or a need, and the callee's service.
 #[derive(Clone, Copy, Debug, PartialEq, Eq, PartialOrd, Ord)]
@@ -155,10 +156,7 @@ impl Reason {
         let all = |aids: &[Aid]| aids.iter().map(word).collect::<Vec<_>>().join(", ");
         match self {
             Reason::Unsound(fault) => fault.to_string(),
-            Reason::Old => {
-                let (at, version) = (USED - 1, VERSION_01.version);
-                format!("byte {at}: the image has version {version}, and has to be converted before it can be judged")
-            }
+            Reason::Old => format!("byte {}: {OLD}", USED - 1),
             Reason::Malformed(malformed) => format!("byte {}: {}", malformed.at, malformed.why),
             Reason::Installed { package, number } => {
                 format!("{} is on the card already, as package {number}", word(package))

@@ -1,6 +1,7 @@
 //! A command line, read: the inputs' bytes, words, options, and where the output goes.
 
 use super::{Command, Takes, Trouble, OPTIONS};
+use crate::dump;
 use crate::fault::{Fault, Place};
 use crate::hexadecimal;
 use crate::layout::{Image, Layout, VERSION_02};
@@ -8,15 +9,11 @@ use crate::names::Names;
 use crate::program::Failure;
 use crate::record_text::{self, Text};
 use crate::tables::Tables;
+use crate::unsound::{self, OLD};
 use crate::words::{utf8, Word};
-use crate::{dump, unsound};
 use std::fs;
 use std::io::Read;
 use std::path::{Path, PathBuf};
-
-/// What is said of an image of version 01.
-pub const CONVERT_FIRST: &str =
-    "the image has version 01, and has to be converted before it can be judged: 'cardtool convert'";
 
 /// An input with its name.
 #[derive(Clone, Debug)]
@@ -178,8 +175,12 @@ impl Call {
     /// The tables of a sound image that was read.
     pub fn tables(&self, input: &Input) -> Result<(Tables, Vec<u8>), Trouble> {
         let image = self.image_bytes(input)?;
-        let tables = Tables::of(&image, &self.names).map_err(|faults| Trouble::Input(input.name.clone(), faults))?;
-        Ok((tables, image))
+        Ok((self.sound(input, &image)?, image))
+    }
+
+    /// The tables of an image, or what keeps it from being sound.
+    pub fn sound(&self, input: &Input, image: &[u8]) -> Result<Tables, Trouble> {
+        Tables::of(image, &self.names).map_err(|faults| Trouble::Input(input.name.clone(), faults))
     }
 
     /// A text after the names that it uses.
@@ -195,12 +196,12 @@ impl Call {
         }
     }
 
-    /// An image that records can be judged on.
+    /// An image of the version that records are judged on.
     pub fn judgeable(&self, input: &Input) -> Result<Vec<u8>, Trouble> {
         let image = self.image_bytes(input)?;
         match *unsound::sized(&image).map_err(|fault| input.bad(fault))?.layout == VERSION_02 {
             true => Ok(image),
-            false => Err(input.bad(Fault::byte(2, CONVERT_FIRST))),
+            false => Err(input.bad(Fault::byte(2, OLD))),
         }
     }
 }

@@ -1,6 +1,6 @@
 //! Images: shown, built, dumped, converted, read out, compared, drawn, and asked who gets at a service.
 
-use super::call::{on_command_line, Call, Input, CONVERT_FIRST};
+use super::call::{on_command_line, Call};
 use super::{disagreement, records, views, Done, Trouble};
 use crate::cause;
 use crate::contract::{Aid, Contract, Tokens};
@@ -23,7 +23,7 @@ pub fn show(call: &Call) -> Result<Done, Trouble> {
     let tables = Tables::of(&image, &call.names);
     held_to_check(&image, tables.is_ok())?;
     let tables = tables.map_err(|faults| Trouble::Input(input.name.clone(), faults))?;
-    let version = if *tables.layout == VERSION_02 { String::new() } else { format!("# {CONVERT_FIRST}\n") };
+    let version = if *tables.layout == VERSION_02 { String::new() } else { format!("# {}\n", unsound::OLD) };
     let text = version + &call.with_names(image_text::write(&tables, &call.names));
     Ok(Done::new(text, views::tables(&tables, &call.names)))
 }
@@ -116,7 +116,8 @@ fn aid(call: &Call, tables: &Tables, word: &str) -> Result<Aid, Trouble> {
 
 pub fn readout(call: &Call) -> Result<Done, Trouble> {
     let input = &call.inputs[0];
-    let (tables, image) = judged(call, input)?;
+    let image = call.judgeable(input)?;
+    let tables = call.sound(input, &image)?;
     let aid = aid(call, &tables, &call.words[0])?;
     let Some(number) = tables.number(aid) else {
         return Err(Failure::failed(format!("{} is not on the card", call.names.word(aid))).into());
@@ -147,12 +148,6 @@ fn loaded(record: &record::Record) -> Option<Contract> {
         record::Change::Load(lists) => Some(lists.contract()),
         _ => None,
     }
-}
-
-/// The tables of an image that an engine takes.
-fn judged(call: &Call, input: &Input) -> Result<(Tables, Vec<u8>), Trouble> {
-    call.judgeable(input)?;
-    call.tables(input)
 }
 
 pub fn who(call: &Call) -> Result<Done, Trouble> {

@@ -161,18 +161,18 @@ impl Session<'_> {
             return Err(format!("{name} answers {answer}, and the contracts on the card give {}", explained.answer));
         }
         let tables = |image: &[u8]| Tables::of(image, self.names).ok();
-        let left = match &explained.after {
-            None => self.image == before,
-            Some(after) => tables(&self.image).is_some_and(|tables| tables.contracts() == *after),
+        let Some(after) = &explained.after else {
+            let left = format!("{name} leaves another image, though it answers {answer}");
+            return if self.image == before { Ok(()) } else { Err(left) };
         };
-        if !left {
+        let Some(left) = tables(&self.image).filter(|left| left.contracts() == *after) else {
             return Err(format!("{name} leaves other contracts than its answer {answer} says"));
-        }
-        let number = || {
-            let aid = record::read(&item.bytes).ok()?.aid;
-            [&self.image[..], before].into_iter().find_map(|image| tables(image)?.number(aid))
         };
-        match answer != 0 || number() == Some(second as usize) {
+        // A package that was removed has the number that it had.
+        let number = record::read(&item.bytes)
+            .ok()
+            .and_then(|read| left.number(read.aid).or_else(|| tables(before)?.number(read.aid)));
+        match number == Some(second as usize) {
             true => Ok(()),
             false => Err(format!("{name} gives the number {second}, which is not the package's")),
         }
@@ -397,7 +397,7 @@ mod tests {
                     image[1109] = u8::from(verdict.answer == 4);
                     verdict
                 }),
-                "2: a wrong engine leaves other contracts than its answer 4 says",
+                "2: a wrong engine leaves another image, though it answers 4",
             ),
             (
                 Wrong(|verdict, _, _| Verdict { second: verdict.second + 1, ..verdict }),
