@@ -1,2 +1,2 @@
-pub mod Cards
+pub mod Numbers
 pub mod Bounds

@@ -2,11 +2,11 @@
 use Prim.Native.Nat.{ℕ, _+_, _*_}
 use mathlib.Core.List.{List}
 use Rattle.policy.specs.Contract.{Tok}
-use Rattle.policy.specs.Layout.{Layout, small, aidSize, unmetSize, waitingSize}
+use Rattle.policy.specs.Layout.{Layout, small, large, aidSize, unmetSize, waitingSize}
 use Rattle.policy.specs.Layout.{aidsAt, tokensAt, providesAt, callsAt, grantsAt, needsAt, unmetAt, waitingAt}
 use Rattle.policy.specs.Tables.{Tables, decode}
 use Rattle.geometry.specs.declared.Card.{Card}
-use Rattle.geometry.specs.declared.Card.the-variants.{Small}
+use Rattle.geometry.specs.declared.Card.the-variants.{Small, Large}
 use Rattle.geometry.specs.declared.Table.{Table}
 use Rattle.geometry.specs.declared.Table.the-variants.{Calls, Grants, Needs}
 use Rattle.geometry.specs.declared.Kept.{Kept}
@@ -15,6 +15,7 @@ use Rattle.geometry.specs.declared.Tokens.{Tokens}
 
 abbrev pub layoutOf : Card → Layout
 layoutOf Small = small
+layoutOf Large = large
 
 -- the tables of an image of the card
 abbrev pub tablesOf : Card → List ℕ → Tables

@@ -12,11 +12,12 @@ use Rattle.policy.specs.Lists.{eqBytes, first, upto}
 use Rattle.policy.specs.Contract.{Aid, eqAid, Tok, eqTok}
 use Rattle.policy.specs.Layout.{size}
 use Rattle.policy.specs.Tables.{readNumber, writeAid, rowOf, bit, decode}
-use Rattle.policy.specs.Lookup.{freeNumber, freeService}
+use Rattle.policy.specs.Lookup.{numberOf, serviceOf, freeNumber, freeService}
 use Rattle.policy.proofs.Sets.{T-false, false-T, upto-in}
 use Rattle.policy.proofs.Equal.{eqAid→}
 use Rattle.policy.proofs.Bits.{rowOf-lt, bit-rowOf}
 use Rattle.policy.proofs.Pieces.{length-aid}
+use Rattle.bits.proofs.Tests.{other, alike}
 use Rattle.bits.proofs.Loops.{first-ext}
 use Rattle.bits.proofs.Row.{lowest-row}
 use Rattle.rows.specs.Area.{part, over}
@@ -24,25 +25,17 @@ use Rattle.rows.proofs.Over.{length-part, getD-part}
 use Rattle.rows.proofs.Same.{head-long, same-last}
 use Rattle.geometry.specs.declared.Card.{Card}
 use Rattle.geometry.specs.declared.Table.{Table}
-use Rattle.geometry.specs.Geometry.{layoutOf, aidAt, tokAt, provAt, entryAt}
-use Rattle.geometry.proofs.Bounds.{layout-ok, early, limits, token-row, geo}
+use Rattle.geometry.specs.declared.Tokens.{Tokens}
+use Rattle.geometry.specs.Geometry.{layoutOf, aidAt, tokAt, provAt, entryAt, tokOf}
+use Rattle.geometry.proofs.Bounds.{layout-ok, early, limits, front-in, token-row, geo}
 use Rattle.image.specs.Laid.{Laid, tableOf}
-use Rattle.image.specs.Read.{numberOr, aidIn, tokensIn}
+use Rattle.image.specs.Read.{numberOr, aidIn, tokensIn, aidHeld, tokensHeld}
 use Rattle.image.proofs.Laid.{laid-length}
 use Rattle.image.proofs.Access.{used-number, provides-number, entry-number, aid-length, aid-bytes, aid-slot, tok-itf, tok-mth}
 
 -- as many bytes over a list as it has
 over-whole : (x l : List ℕ) → length x ≡ length l → over 0 x l ≡ x
 over-whole x l e = ap (λ (z : List ℕ). x ++ z) (drop-of-length-le l {i = 0 + length x} (omega arith)) ∙ append-nil x
-
--- ---- a bit of a row, as a test leaves it
-bit-off : (n : ℕ) (f : ℕ → Bool) {k row : ℕ} {b : Bool} (x : Bool) → row ≡ rowOf n f → k < n → b ≡ bit row k → not b ≡ true → false ≡ f k && x
-bit-off n f {k = k} {b = false} x e h p q = ap (λ (y : Bool). y && x) (p ∙ ap (λ (r : ℕ). bit r k) e ∙ bit-rowOf n f k h)
-bit-off n f {b = true} x e h p q = absurd (false-T (sym q) tt)
-
-bit-on : (n : ℕ) (f : ℕ → Bool) {k row : ℕ} {b r : Bool} (x : Bool) → row ≡ rowOf n f → k < n → b ≡ bit row k → not b ≡ false → r ≡ x → r ≡ f k && x
-bit-on n f {k = k} {b = true} x e h p q z = z ∙ ap (λ (y : Bool). y && x) (p ∙ ap (λ (r : ℕ). bit r k) e ∙ bit-rowOf n f k h)
-bit-on n f {b = false} x e h p q z = absurd (false-T q tt)
 
 -- ---- an AID's place
 module _ (img aid : List ℕ) (at : ℕ) (room : at + 17 ≤ length img) (low : getD img at 0 ≤ 16) where
@@ -188,16 +181,39 @@ module _ (c : Card) (img : List ℕ) (h : Laid (layoutOf c) img) where
     pub tokens-copied : ((k : ℕ) → k < layoutOf c .services → tokensIn new (k * 2) ≡ decode (layoutOf c) img .tok j k) × ((i : ℕ) → layoutOf c .services * 2 ≤ i → i < n → getD new i 0 ≡ 0)
     tokens-copied = (tokens-in-front, zeros-behind)
 
-  module _ (j k row : ℕ) (s : Tok) (b : Bool) (p : j < layoutOf c .packages) (l : k < layoutOf c .services)
-      (e : row ≡ rowOf (layoutOf c .services) (decode (layoutOf c) img .provides j)) (d : b ≡ bit row k) where
-    pub unprovided : not b ≡ true → false ≡ decode (layoutOf c) img .provides j k && eqTok (decode (layoutOf c) img .tok j k) s
-    unprovided q = bit-off (layoutOf c .services) (decode (layoutOf c) img .provides j) (eqTok (decode (layoutOf c) img .tok j k) s) e l d q
+  -- ---- the package with an AID: its place is among n from a on, and row has the used numbers
+  module _ (n a : ℕ) (e : n ≡ layoutOf c .packages) (q : a ≡ aidAt (layoutOf c) 0) where
+    place-of : (k : ℕ) → a + k * 17 ≡ aidAt (layoutOf c) k
+    place-of k = omega arith
 
-    pub provided-with : (a : ℕ) (r : Bool) → not b ≡ false → a ≡ tokAt (layoutOf c) j k → r ≡ eqTok (tokensIn img a) s
-        → r ≡ decode (layoutOf c) img .provides j k && eqTok (decode (layoutOf c) img .tok j k) s
-    provided-with a r q z v =
-        bit-on (layoutOf c .services) (decode (layoutOf c) img .provides j) (eqTok (decode (layoutOf c) img .tok j k) s) e l d q
-        (v ∙ ap (λ (x : Tok). eqTok x s) (tokens-seen j k a p l z))
+    pub aids-in : (n ≤ 16) × (a + n * 17 ≤ length img) × ((k : ℕ) → k < n → getD img (a + k * 17) 0 ≤ 16)
+    aids-in = (omega (arith, limits c), omega (arith, laid-size, front-in c), λ k l. aid-short k (a + k * 17) (rw (← e) l) (place-of k))
+
+    pub package-found : (row r : ℕ) (aid : Aid) → row ≡ rowOf (layoutOf c .packages) (decode (layoutOf c) img .used)
+        → r ≡ numberOr n (first (aidHeld img a row aid) (upto n)) → r ≡ numberOr (layoutOf c .packages) (numberOf (layoutOf c) (decode (layoutOf c) img) aid)
+    unfolding numberOf
+    package-found row r aid w p =
+        let t = decode (layoutOf c) img in
+        p ∙ ap (λ (m : ℕ). numberOr m (first (aidHeld img a row aid) (upto m))) e
+        ∙ ap (numberOr (layoutOf c .packages)) (first-ext (aidHeld img a row aid) (λ k. t .used k && eqAid (t .aid k) aid) (upto (layoutOf c .packages)) (λ k m.
+        let l = upto-in (layoutOf c .packages) m in
+        ap₂ (λ (b : Bool) (x : Aid). b && eqAid x aid) (ap (λ (x : ℕ). bit x k) w ∙ bit-rowOf (layoutOf c .packages) (t .used) k l) (aid-seen k (a + k * 17) l (place-of k))))
+
+  -- ---- package j's service with these tokens, alike
+  module _ (j n a : ℕ) (p : j < layoutOf c .packages) (e : n ≡ layoutOf c .services) (q : a ≡ tokAt (layoutOf c) j 0) where
+    pub tokens-in : (n ≤ 16) × (a + n * 2 ≤ length img)
+    tokens-in = (omega (arith, limits c), omega (arith, laid-size, token-row c j p .inside))
+
+    pub service-found : (row r : ℕ) (s : Tokens) → row ≡ rowOf (layoutOf c .services) (decode (layoutOf c) img .provides j)
+        → r ≡ numberOr n (first (tokensHeld img a row s) (upto n)) → r ≡ numberOr (layoutOf c .services) (serviceOf (layoutOf c) (decode (layoutOf c) img) j (tokOf s))
+    unfolding serviceOf
+    service-found row r s w h =
+        let t = decode (layoutOf c) img in
+        h ∙ ap (λ (m : ℕ). numberOr m (first (tokensHeld img a row s) (upto m))) e
+        ∙ ap (numberOr (layoutOf c .services)) (first-ext (tokensHeld img a row s) (λ k. t .provides j k && eqTok (t .tok j k) (tokOf s)) (upto (layoutOf c .services)) (λ k m.
+        let l = upto-in (layoutOf c .services) m in
+        let at : a + k * 2 ≡ tokAt (layoutOf c) j k = omega (arith, token-row c j p .each k) in
+        ap₂ (λ (b : Bool) (x : Tok). b && eqTok x (tokOf s)) (ap (λ (x : ℕ). bit x k) w ∙ bit-rowOf (layoutOf c .services) (t .provides j) k l) (tokens-seen j k (a + k * 2) p l at)))
 
   -- ---- free numbers
   pub lowest-unused : (row r : ℕ) → row ≡ rowOf (layoutOf c .packages) (decode (layoutOf c) img .used) → r ≡ numberOr 16 (first (λ k. not (bit row k)) (upto 16))
@@ -210,4 +226,4 @@ module _ (c : Card) (img : List ℕ) (h : Laid (layoutOf c) img) where
   unfolding freeService
   lowest-unprovided j row r = lowest (layoutOf c .services) (decode (layoutOf c) img .provides j) row r (limits c .services-low)
 
-pub ruleset seen = (laid-size, place-copied, used-seen, provided-seen, entry-seen, aid-other, aid-long, aid-last, aid-none, head-long, aid-head, aid-same, aid-short, unnamed, named, tokens-read, unprovided, provided-with, lowest-unused, lowest-unprovided, geo)
+pub ruleset seen = (laid-size, place-copied, used-seen, provided-seen, entry-seen, aid-other, aid-long, aid-last, aid-none, head-long, aid-head, aid-same, aid-short, unnamed, named, other, alike, package-found, service-found, tokens-read, lowest-unused, lowest-unprovided, geo)

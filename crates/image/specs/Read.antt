@@ -1,13 +1,13 @@
 -- What code finds in an image and its tables, as numbers.
 use Prim.Native.Nat.{ℕ, _+_, _*_}
-use mathlib.Core.Bool.{Bool, cond}
+use mathlib.Core.Bool.{Bool, _&&_, cond}
 use mathlib.Core.List.{List, [], _∷_, _++_}
 use mathlib.Core.Option.{Option}
 use lib.ListN.{getD, take, drop}
 use Rattle.policy.specs.Lists.{orElse}
-use Rattle.policy.specs.Contract.{Aid, Tok, Row}
+use Rattle.policy.specs.Contract.{Aid, eqAid, Tok, eqTok, Row}
 use Rattle.policy.specs.Layout.{Layout}
-use Rattle.policy.specs.Tables.{Tables, Unmet, Waiting, noTok, writeAid}
+use Rattle.policy.specs.Tables.{Tables, Unmet, Waiting, noTok, bit, writeAid}
 use Rattle.policy.specs.Lookup.{Place as Found, Spot as SpotFound}
 use Rattle.geometry.specs.declared.Kept.{Kept}
 use Rattle.geometry.specs.declared.Kept.the-variants.{UnmetCalls, WaitingGrants}
@@ -38,6 +38,13 @@ aidIn img at = take (getD img at 0) (drop (at + 1) img)
 -- the tokens at `at`
 abbrev pub tokensIn : List ℕ → ℕ → Tok
 tokensIn img at = record { itf = getD img at 0; mth = getD img (at + 1) 0 }
+
+-- bit k of a row is set, and place k of those from `at` on holds the AID, or the tokens
+abbrev pub aidHeld : List ℕ → ℕ → ℕ → Aid → ℕ → Bool
+aidHeld img at row a k = bit row k && eqAid (aidIn img (at + k * 17)) a
+
+abbrev pub tokensHeld : List ℕ → ℕ → ℕ → Tokens → ℕ → Bool
+tokensHeld img at row t k = bit row k && eqTok (tokensIn img (at + k * 2)) (tokOf t)
 
 -- a mask of the elements that pass: bit r is the r-th
 abbrev pub maskOf : {A : Type 0} → (A → Bool) → List A → ℕ

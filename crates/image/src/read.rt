@@ -4,11 +4,12 @@ ghost use mathlib.Core.Bool.{_&&_};
 ghost use Prim.Native.Nat.{ℕ, _+_, _*_, _≤_, _<_};
 ghost use lib.ListN.{length, getD};
 ghost use Rattle.policy.specs.Contract.{Aid, eqAid, eqTok};
-ghost use Rattle.policy.specs.Tables.{rowOf, writeAid};
+ghost use Rattle.policy.specs.Lists.{first, upto};
+ghost use Rattle.policy.specs.Tables.{bit, rowOf, writeAid};
 ghost use Rattle.policy.specs.Lookup.{numberOf, serviceOf, serverOf, spotOf, freeNumber, freeService};
 ghost use Rattle.geometry.specs.Geometry.{layoutOf, tokOf, tablesOf};
 ghost use Rattle.image.specs.Laid.{Laid, tableOf};
-ghost use Rattle.image.specs.Read.{numberOr, placeOr, spotOr, asked, aidIn, tokensIn};
+ghost use Rattle.image.specs.Read.{numberOr, placeOr, spotOr, asked, aidIn, tokensIn, aidHeld, tokensHeld};
 use geometry::Card;
 use geometry::Table;
 use geometry::Tokens;
@@ -146,6 +147,31 @@ pub fn is_package(img: &[u8], c: Card, n: usize, aid: &[u8]) -> bool
     bits::has_bit(row, n)
 }
 
+// Bit i of the row is set, and the place at `at` holds this AID.
+fn holds_aid(img: &[u8], at: usize, row: u16, i: usize, aid: &[u8]) -> bool
+    requires { ⌜ (at + 17 ≤ length (now img)) × (getD (now img) at 0 ≤ 16) × (i < 16) ⌝ }
+    ensures { λ r. ⌜ r ≡ bit row i && eqAid (aidIn (now (img .entry)) at) (now (aid .entry)) ⌝ }
+{
+    if !aid_is(img, at, aid) {
+        return false;
+    }
+    bits::has_bit(row, i)
+}
+
+// The first of n places of AIDs from `at` on that holds this one and whose bit of the row is set; n where none does.
+// The numbers are the caller's, so that the loop asks for no card.
+fn find_aid(img: &[u8], at: usize, n: usize, row: u16, aid: &[u8]) -> usize
+    requires { ⌜ (n ≤ 16) × (at + n * 17 ≤ length (now img)) × ((k : ℕ) → k < n → getD (now img) (at + k * 17) 0 ≤ 16) ⌝ }
+    ensures { λ r. ⌜ r ≡ numberOr n (first (aidHeld (now (img .entry)) at row (now (aid .entry))) (upto n)) ⌝ }
+{
+    for i in 0..n {
+        if holds_aid(img, at + i * 17, row, i, aid) {
+            return i;
+        }
+    }
+    n
+}
+
 // The number of the package with this AID; the number of packages where there is none.
 pub fn find_package(img: &[u8], c: Card, aid: &[u8]) -> usize
     requires { ⌜ Laid (layoutOf c) (now img) ⌝ }
@@ -153,27 +179,33 @@ pub fn find_package(img: &[u8], c: Card, aid: &[u8]) -> usize
         (numberOf (layoutOf c) (tablesOf c (now (img .entry))) (now (aid .entry))) ⌝ }
 {
     let n = geometry::packages(c);
-    for i in 0..n {
-        if is_package(img, c, i, aid) {
-            return i;
+    let at = geometry::aid_at(c, 0);
+    let row = used_row(img, c);
+    find_aid(img, at, n, row, aid)
+}
+
+// Bit k of the row is set, and the tokens at `at` are these.
+fn holds_tokens(img: &[u8], at: usize, row: u16, k: usize, t: Tokens) -> bool
+    requires { ⌜ (at + 2 ≤ length (now img)) × (k < 16) ⌝ }
+    ensures { λ r. ⌜ r ≡ bit row k && eqTok (tokensIn (now (img .entry)) at) (tokOf t) ⌝ }
+{
+    if !tokens_are(img, at, t) {
+        return false;
+    }
+    bits::has_bit(row, k)
+}
+
+// The first of n pairs of tokens from `at` on that are these and whose bit of the row is set; n where none are.
+fn find_tokens(img: &[u8], at: usize, n: usize, row: u16, t: Tokens) -> usize
+    requires { ⌜ (n ≤ 16) × (at + n * 2 ≤ length (now img)) ⌝ }
+    ensures { λ r. ⌜ r ≡ numberOr n (first (tokensHeld (now (img .entry)) at row t) (upto n)) ⌝ }
+{
+    for k in 0..n {
+        if holds_tokens(img, at + k * 2, row, k, t) {
+            return k;
         }
     }
     n
-}
-
-// Package j provides service k, and its tokens are these.
-pub fn is_service(img: &[u8], c: Card, j: usize, t: Tokens, k: usize) -> bool
-    requires laid { ⌜ Laid (layoutOf c) (now img) ⌝ }
-    requires inside { ⌜ (j < layoutOf c .packages) × (k < layoutOf c .services) ⌝ }
-    ensures { λ r. ⌜ r ≡ tablesOf c (now (img .entry)) .provides j k
-        && eqTok (tablesOf c (now (img .entry)) .tok j k) (tokOf t) ⌝ }
-{
-    let row = provided_row(img, c, j);
-    if !bits::has_bit(row, k) {
-        return false;
-    }
-    let at = geometry::tok_at(c, j, k);
-    tokens_are(img, at, t)
 }
 
 // The number of package j's service with these tokens; the number of services where there is none.
@@ -184,12 +216,9 @@ pub fn find_service(img: &[u8], c: Card, j: usize, t: Tokens) -> usize
         (serviceOf (layoutOf c) (tablesOf c (now (img .entry))) j (tokOf t)) ⌝ }
 {
     let n = geometry::services(c);
-    for k in 0..n {
-        if is_service(img, c, j, t, k) {
-            return k;
-        }
-    }
-    n
+    let at = geometry::tok_at(c, j, 0);
+    let row = provided_row(img, c, j);
+    find_tokens(img, at, n, row, t)
 }
 
 // Package number i and package j's service with these tokens, where i was found for an AID; the number of packages and that of services

@@ -1,10 +1,10 @@
 -- Rules that differ in the kinds that are read, and in nothing else: every record is judged alike whose kind both read or neither does, and
--- every card goes on. A record of a kind that is not read is malformed.
+-- every card goes on. A record of a kind that is not read, or of another version, is malformed.
 use Prim.Native.Nat.{ℕ, zero, suc, _+_, _*_, _≤_, _<_}
 use native.Mathlib.Omega.{arith}
 use mathlib.Core.Path.{_≡_, refl, ap, _∙_}
 use mathlib.Core.Logic.{_⊎_, inl, inr}
-use mathlib.Core.Bool.{Bool, false, not, _&&_, cond}
+use mathlib.Core.Bool.{Bool, true, false, not, _&&_, cond}
 use mathlib.Core.List.{List, [], _∷_, _++_}
 use mathlib.Core.List.{List·Memᴰ as In, List·Memᴰ·head as here, List·Memᴰ·tail as there}
 use mathlib.Core.Option.{Option, none, some}
@@ -22,7 +22,7 @@ use Rattle.policy.specs.Sound.{aidsOk, tokensOk, blanksOk, entriesOk, bi
 use Rattle.policy.specs.Draft.{Draft, draft, newServices, numberFor, look}
 use Rattle.policy.specs.Judge.{Out, refusal, lookCauses, tableCauses, judgeCauses, judged, judgeTables, judge}
 use Rattle.policy.specs.History.{AllAllowed}
-use Rattle.policy.specs.Eras.{withReads, Stays, OtherKindsStay, KindsChange, UnreadMalformed}
+use Rattle.policy.specs.Eras.{withReads, Stays, OtherKindsStay, KindsChange, Malformed, UnreadMalformed, OtherVersion}
 use Rattle.policy.proofs.Sets.{T-eq, T-false, test, not-i, or-l, or-r, or-e}
 use Rattle.policy.proofs.Equal.{eqb-of}
 use Rattle.policy.proofs.Step.{standing-allowed}
@@ -204,8 +204,17 @@ but-9-and-10 k n = T-eq (nine k) (eleven k) (λ h. le→leb k 11 (to (or-e (leb 
     at-11 (inl h) = at-10 (last k 9 h)
     at-11 (inr e) = or-r (leb k 8) (eqb k 11) (eqb-of e)
 
--- ---- a kind that is not read
+-- ---- a kind that is not read, and a version that is not the card's
 module _ (L : Layout) where
+  malformed : (s : List ℕ) → parse L s ≡ none → Malformed L s
+  unfolding machine
+  malformed s e = record {
+    not-read = e;
+    engine = λ img ok. judge-malformed L img s ok e;
+    answers = λ cs. ap (λ (o : Option Request). after L cs o .answered) e;
+    contracts = λ cs. ap (λ (o : Option Request). after L cs o .contracts) e;
+  }
+
   bad-after : {A B : Type 0} (x : Got A) → andThen {B = B} x (λ a s. bad) ≡ bad
   bad-after (got a s) = refl
   bad-after bad = refl
@@ -221,12 +230,23 @@ module _ (L : Layout) where
       (λ i. whole (andThen first (λ a t. andThen (given (e i) (getD (kinds L) k (λ s. bad)) t) (λ c. done (record { aid = a; change = c }))))) ∙ ap whole (bad-after first)
 
   pub unread-malformed : UnreadMalformed L
-  unfolding machine
-  unread-malformed s n =
-      let e = unread s (T-false (L .reads (getD s 3 0)) n) in
-      record {
-        not-read = e;
-        engine = λ img ok. judge-malformed L img s ok e;
-        answers = λ cs. ap (λ (o : Option Request). after L cs o .answered) e;
-        contracts = λ cs. ap (λ (o : Option Request). after L cs o .contracts) e;
-      }
+  unread-malformed s n = malformed s (unread s (T-false (L .reads (getD s 3 0)) n))
+
+  versioned : (s : List ℕ) → eqb (getD s 2 0) (L .version) ≡ false → parse L s ≡ none
+  unfolding parse fields number byte
+  versioned [] e = refl
+  versioned (h ∷ []) e = refl
+  versioned (h ∷ x ∷ []) e = refl
+  versioned (h ∷ x ∷ v ∷ []) e = refl
+  versioned (h ∷ x ∷ v ∷ k ∷ s) e =
+      let l = length (h ∷ x ∷ v ∷ k ∷ s) in
+      let fits = eqb ((0 * 256 + h) * 256 + x) l in
+      (λ i. whole (andThen (given (fits && e i) aid s) (λ a t. andThen (change L k t) (λ c. done (record { aid = a; change = c })))))
+      ∙ (λ i. whole (andThen (given (and-false fits i) aid s) (λ a t. andThen (change L k t) (λ c. done (record { aid = a; change = c })))))
+    where
+      and-false : (b : Bool) → b && false ≡ false
+      and-false true = refl
+      and-false false = refl
+
+  pub other-version : OtherVersion L
+  other-version s n = malformed s (versioned s (T-false (eqb (getD s 2 0) (L .version)) (λ h. n (eqb→eq (getD s 2 0) (L .version) h))))

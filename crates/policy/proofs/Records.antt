@@ -1,4 +1,4 @@
--- The longest record, for every layout that is ok; and records of the card of eight packages.
+-- The longest record, for every layout that is ok; and records of both cards.
 use Prim.Native.Nat.{ℕ, zero, suc, _≤_, _<_}
 use native.Mathlib.Omega.{arith}
 use mathlib.Core.Path.{_≡_, refl}
@@ -6,11 +6,11 @@ use mathlib.Core.List.{List}
 use mathlib.Core.List.{List·Memᴰ as In, List·Memᴰ·not-nil as in-nil}
 use mathlib.Core.Option.{Option, none, some}
 use lib.Dec.{T, lit≤}
-use lib.ListN.{length, replicate}
+use lib.ListN.{length, length-replicate, replicate}
 use lib.Seq.{length-take-le}
 use Rattle.policy.specs.Contract.{Aid, Row}
-use Rattle.policy.specs.Layout.{Layout, LayoutOk, small}
-use Rattle.policy.specs.Record.{Request, load, parse}
+use Rattle.policy.specs.Layout.{Layout, LayoutOk, small, large}
+use Rattle.policy.specs.Record.{Request, load, validTok, parse}
 use Rattle.policy.specs.Tables.{noTok}
 use Rattle.policy.specs.Judge.{readOut}
 use Rattle.policy.specs.Records.{kindOf, ValidTok, ValidRow, AtMost, recordBytes, Within, longestRecord, LongestRecord}
@@ -18,7 +18,7 @@ use Rattle.policy.proofs.Sets.{each-cons}
 use Rattle.policy.proofs.ParseFacts.{parsed-within, parsed-length}
 use Rattle.policy.proofs.Written.{written-read}
 use Rattle.policy.proofs.RecordsLength.{record-length, within-writable}
-use Rattle.policy.proofs.Theorems.{small-ok}
+use Rattle.policy.proofs.Theorems.{small-ok, large-ok}
 use Rattle.policy.proofs.Numbering.{read-length}
 
 module _ (L : Layout) (lo : LayoutOk L) where
@@ -43,25 +43,49 @@ module _ (L : Layout) (lo : LayoutOk L) where
   pub longest-record : LongestRecord L
   longest-record = (too-long, read-out-short)
 
--- ---- the card of eight packages
--- 'The longest record has 4,145 bytes.'
+-- ---- the cards of eight and of sixteen packages
+-- 'The longest record has 4,145 bytes.' R-9: 'at most 15,564 bytes'
 pub small-longest : longestRecord small ≡ 4145
 small-longest = refl
+
+pub large-longest : longestRecord large ≡ 15564
+large-longest = refl
 
 -- two bytes hold the length of every record within its limits
 pub small-written-read : (q : Request) → Within small q → T (small .reads (kindOf (q .change))) → parse small (recordBytes small q) ≡ some q
 small-written-read q v on = written-read small small-ok q (within-writable small (lit≤ tt) q on v)
 
--- and a load of as many bytes is read: every list at its limit, every AID of 16 bytes
-each-same : {A : Type 0} (P : A → Type 0) (n : ℕ) (x : A) → P x → (y : A) → In y (replicate n x) → P y
-each-same P zero x h = λ y m. absurd (in-nil m)
-each-same P (suc n) x h = each-cons P x (replicate n x) h (each-same P n x h)
+pub large-written-read : (q : Request) → Within large q → T (large .reads (kindOf (q .change))) → parse large (recordBytes large q) ≡ some q
+large-written-read q v on = written-read large large-ok q (within-writable large (lit≤ tt) q on v)
 
-pub small-longest-read : (q : Request) × (length (recordBytes small q) ≡ longestRecord small) × (parse small (recordBytes small q) ≡ some q)
-small-longest-read =
-    let a : Aid = replicate 16 0 in
-    let r : Row = record { aid = a; tok = noTok } in
-    let rows = replicate 72 r in
-    let within : AtMost 72 (ValidRow small) rows = (lit≤ tt, each-same (ValidRow small) 72 r (tt, tt)) in
-    let q : Request = record { aid = a; change = load (replicate 8 noTok) rows rows rows } in
-    (q, refl, small-written-read q (tt, ((lit≤ tt, each-same (ValidTok small) 8 noTok tt), within, within, within)) tt)
+-- and a load of as many bytes is read: every list at its limit, every AID of 16 bytes
+module _ (L : Layout) where
+  abbrev longestAid : Aid
+  longestAid = replicate 16 0
+
+  abbrev longestRow : Row
+  longestRow = record { aid = longestAid; tok = noTok }
+
+  abbrev longestRows : List Row
+  longestRows = replicate (L .mostRows) longestRow
+
+  abbrev longestOf : Request
+  longestOf = record { aid = longestAid; change = load (replicate (L .services) noTok) longestRows longestRows longestRows }
+
+  longest-within : T (validTok L noTok) → Within L longestOf
+  longest-within v =
+      let rows : AtMost (L .mostRows) (ValidRow L) longestRows = same (ValidRow L) (L .mostRows) longestRow (tt, v) in
+      (tt, (same (ValidTok L) (L .services) noTok v, rows, rows, rows))
+    where
+      each-same : {A : Type 0} (P : A → Type 0) (n : ℕ) (x : A) → P x → (y : A) → In y (replicate n x) → P y
+      each-same P zero x h = λ y m. absurd (in-nil m)
+      each-same P (suc n) x h = each-cons P x (replicate n x) h (each-same P n x h)
+
+      same : {A : Type 0} (P : A → Type 0) (n : ℕ) (x : A) → P x → AtMost n P (replicate n x)
+      same P n x h = (let e = length-replicate n x in omega arith, each-same P n x h)
+
+pub small-longest-read : (length (recordBytes small (longestOf small)) ≡ longestRecord small) × (parse small (recordBytes small (longestOf small)) ≡ some (longestOf small))
+small-longest-read = (refl, small-written-read (longestOf small) (longest-within small tt) tt)
+
+pub large-longest-read : (length (recordBytes large (longestOf large)) ≡ longestRecord large) × (parse large (recordBytes large (longestOf large)) ≡ some (longestOf large))
+large-longest-read = (refl, large-written-read (longestOf large) (longest-within large tt) tt)

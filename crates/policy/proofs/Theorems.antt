@@ -1,4 +1,4 @@
--- The theorems of specs/Claims.antt, for every layout that is ok, and at the cards of eight packages.
+-- The theorems of specs/Claims.antt, for every layout that is ok, and at the cards of eight packages and of sixteen.
 use Prim.Native.Nat.{ℕ, zero, suc, _<_}
 use native.Mathlib.Omega.{arith}
 use mathlib.Core.Path.{_≡_, refl, sym, ap, _∙_, subst}
@@ -12,7 +12,7 @@ use lib.Dec.{T, leb, leb→le, le→leb, ltb, ltb→lt, lit≤}
 use lib.ListN.{length, getD, take, drop, length-append}
 use Rattle.policy.specs.Lists.{every, orElse}
 use Rattle.policy.specs.Contract.{Aid, eqAid, Tok, Contract, under, lawful, callsGranted, needsMet, unmetCalls, waitingGrants}
-use Rattle.policy.specs.Layout.{Layout, LayoutOk, eleven, nine, cardOf, base, narrow, ahead, renewed, retired, small, aidsAt, tokensAt, providesAt, callsAt, grantsAt, needsAt, unmetAt, waitingAt, size}
+use Rattle.policy.specs.Layout.{Layout, LayoutOk, eleven, nine, cardOf, base, narrow, ahead, renewed, retired, small, large, aidsAt, tokensAt, providesAt, callsAt, grantsAt, needsAt, unmetAt, waitingAt, size}
 use Rattle.policy.specs.Record.{Request, Change, load, remove, addService, removeService, addCall, removeCall, addGrant, removeGrant, addNeed, removeNeed, replace, validTok, parse, proper}
 use Rattle.policy.specs.Causes.{Cause, _when_, answer}
 use Rattle.policy.specs.Machine.{Held, held, effect, altered, causes4to7, causes8to11, causes3to11, machine}
@@ -22,8 +22,8 @@ use Rattle.policy.specs.Sound.{sound}
 use Rattle.policy.specs.Judge.{Out, refusal, judgeTables, judge, loadRecord}
 use Rattle.policy.specs.Records.{loadOf, requestOf}
 use Rattle.policy.specs.History.{SameContract, AllValid, AllAllowed, StandsFor, imageAfter, machineAnswers, contractsAfter}
-use Rattle.policy.specs.Marked.{Line, lineOf, linesFrom, removalOf, loadH, loadB, cases, CaseOver, providing128, calling128, holding127, casesConverted, casesRenewed, casesNeeds, casesRetired, replacing}
-use Rattle.policy.specs.Eras.{carried, Widens, SameBytes, Passes, answersOver, imageOver, machineAnswersOver, contractsOver, LeftOut, Stays, KindsChange, MarkedConverted, MarkedRenewed, MarkedRetired, imageThen, contractsThen, SoFar}
+use Rattle.policy.specs.Marked.{Line, lineOf, linesFrom, removalOf, loadH, loadB, cases, CaseOver, providing128, calling128, holding127, casesConverted, casesRenewed, casesNeeds, casesRetired, casesLarge, casesEnlarged, replacing}
+use Rattle.policy.specs.Eras.{carried, Widens, SameBytes, Passes, Era, AllPass, answersOver, imageOver, machineAnswersOver, contractsOver, LeftOut, Stays, KindsChange, Passing, MarkedConverted, MarkedRenewed, MarkedRetired, MarkedEnlarged, imageThen, contractsThen, erasSmall, SoFar, onLarge, Larger}
 use Rattle.policy.specs.Claims.{MarkedCases, MarkedOver, Agreement, History, FitsLimits, AcceptedExactly, IsFirst, FirstCause, SoundStands, ShortIsFull, ReadOutAgain, standing, ReplacingPlaces}
 use Rattle.policy.proofs.Sets.{and-l, and-r, and-i, test, not-e, cond-true, cond-false, every-in, exists-in, in-map, each-cons, each-one}
 use Rattle.policy.proofs.Answers.{ascends, answer-append-zero, first-is, ascends-front, none-of-four, four-none}
@@ -36,7 +36,7 @@ use Rattle.policy.proofs.Tests.{packages-fit, services-fit}
 use Rattle.policy.proofs.AllKinds.{kinds}
 use Rattle.policy.proofs.Step.{stands-of, image-stands, standing-allowed, unsound-refused, step}
 use Rattle.policy.proofs.Eras.{refused-all, passage, stays, carried-is, history-from}
-use Rattle.policy.proofs.KindsRead.{same-allowed, kinds-change, but-11, but-9-and-10, unread-malformed}
+use Rattle.policy.proofs.KindsRead.{same-allowed, kinds-change, but-11, but-9-and-10, unread-malformed, other-version}
 
 -- ---- 2. one record
 pub agreement : (L : Layout) → LayoutOk L → Agreement L
@@ -245,7 +245,7 @@ module _ (L : Layout) (lo : LayoutOk L) where
               one-not-zero : _≡_ {A = ℕ} 1 0 → ⊥
               one-not-zero e = omega arith
 
--- ---- the cards of eight packages
+-- ---- the cards of eight packages, and that of sixteen
 card-ok : {m : ℕ} {e : Bool} {r : ℕ → Bool} → T (r 1) → LayoutOk (cardOf m e r)
 card-ok {m} {e} {r} on = record
     { header-size = three e; packages-fit = lit≤ tt; services-fit = lit≤ tt; rows-fit = lit≤ tt; counts-fit = lit≤ tt; load-read = on; records-fit = lit≤ tt }
@@ -269,7 +269,11 @@ renewed-ok = card-ok tt
 pub small-ok : LayoutOk small
 small-ok = card-ok tt
 
--- where document 01 says that the parts stand, and its size; R-2: 'the image 1,110'
+pub large-ok : LayoutOk large
+large-ok = record
+    { header-size = refl; packages-fit = lit≤ tt; services-fit = lit≤ tt; rows-fit = lit≤ tt; counts-fit = lit≤ tt; load-read = tt; records-fit = lit≤ tt }
+
+-- where document 01 says that the parts stand, and its size; R-2: 'the image 1,110'; R-9: 'the same order of parts .. and 3,639 bytes'
 abbrev partsOf : Layout → List ℕ
 partsOf L = aidsAt L ∷ tokensAt L ∷ providesAt L ∷ callsAt L ∷ grantsAt L ∷ needsAt L ∷ unmetAt L ∷ waitingAt L ∷ size L ∷ []
 
@@ -278,6 +282,9 @@ base-parts = refl
 
 pub ahead-parts : partsOf ahead ≡ 4 ∷ 140 ∷ 268 ∷ 276 ∷ 340 ∷ 404 ∷ 468 ∷ 789 ∷ 1110 ∷ []
 ahead-parts = refl
+
+pub large-parts : partsOf large ≡ 5 ∷ 277 ∷ 789 ∷ 821 ∷ 1333 ∷ 1845 ∷ 2357 ∷ 2998 ∷ 3639 ∷ []
+large-parts = refl
 
 -- ---- 1. the marked cases: computed, but for soundness, which every image of a history has
 unfoldable linesOn : Layout → List ℕ → List (List ℕ) → List Line
@@ -339,12 +346,25 @@ renewal = kinds-change ahead eleven renewed-ok (11 ∷ []) but-11
 retirement : KindsChange renewed retired (9 ∷ 10 ∷ [])
 retirement = kinds-change renewed nine small-ok (9 ∷ 10 ∷ []) but-9-and-10
 
+-- R-9's: there is more room, and the rules are the same
+larger-passes : (cs : List Contract) → Passes small large cs
+larger-passes cs = record {
+  is-ok = large-ok;
+  widens = record { packages = lit≤ tt; services = lit≤ tt; capacity = lit≤ tt };
+  allowed = λ a c m. let v = a c m .tokens in record { tokens = record { provides = v .provides; calls = v .calls; grants = v .grants }; own = a c m .own };
+}
+
+-- every change so far, with the passages that follow
+all-pass : (ss ts us vs ws : List (List ℕ)) (es : List Era) → AllValid narrow (contractsThen ss)
+    → ((cs : List Contract) → AllPass retired cs ws es) → AllPass base [] ss (erasSmall ts us vs ws ++ es)
+all-pass ss ts us vs ws es v on = (
+  record { is-ok = narrow-ok; widens = same-room; allowed = narrow-allowed (contractsThen ss) v },
+  (early-passes tt _, (kinds-pass tt _, (kinds-pass tt _, on _))),
+)
+
 pub so-far : SoFar
 so-far = record {
-  history = λ ss ts us vs ws v. history-from base base-ok (emptyImage base) [] (empty-stands base base-ok) ss _ (
-    record { is-ok = narrow-ok; widens = same-room; allowed = narrow-allowed (contractsThen ss) v },
-    (early-passes tt _, (kinds-pass tt _, (kinds-pass tt _, tt))),
-  );
+  history = λ ss ts us vs ws v. history-from base base-ok (emptyImage base) [] (empty-stands base base-ok) ss _ (all-pass ss ts us vs ws [] v (λ cs. tt));
   same-image = λ ss. narrow-stays .same-image (imageThen ss) (then-stands ss .is-sound);
   told = λ ss ok c m. narrow-stays .told (imageThen ss) (contractsThen ss) (then-stands ss) ok c m .tokens;
   goes-on = λ ss v.
@@ -360,6 +380,16 @@ so-far = record {
   where
     sizes : _≡_ {A = ℕ} 1094 1110 → ⊥
     sizes e = omega arith
+
+pub larger : Larger
+larger = record {
+  history-empty = λ ss. history-from large large-ok (emptyImage large) [] (empty-stands large large-ok) ss [] tt;
+  history-on = λ img cs f ss us. history-from small small-ok img cs f ss (onLarge us) (larger-passes _, tt);
+  history-all = λ ss ts us vs ws xs v. history-from base base-ok (emptyImage base) [] (empty-stands base base-ok) ss _ (all-pass ss ts us vs ws (onLarge xs) v (λ cs. (larger-passes _, tt)));
+  enlarged = λ img cs f. passage small large img cs f (larger-passes cs);
+  other-small = other-version small;
+  other-large = other-version large;
+}
 
 -- ---- the cases over them: lines and images are computed but for soundness, and an image that is not sound refuses all
 unfoldable imageOn : Layout → List ℕ → List (List ℕ) → List ℕ
@@ -418,17 +448,24 @@ marked-over i =
     ∷ goes-on i
     ∷ []
 
+-- over a conversion
+across : (L M : Layout) → LayoutOk L → LayoutOk M → Passing L M → (c : CaseOver)
+    → linesFrom M (carried L M (imageAfter L (emptyImage L) (c .before))) (c .records) ≡ linesOn M (carried L M (imageOn L (emptyImage L) (c .before))) (c .records)
+across L M lo mo p c =
+    let img = imageAfter L (emptyImage L) (c .before) in
+    sound-lines M mo (c .records) (carried L M img) (contractsAfter L [] (c .before)) (p img _ (history L lo (c .before) .stands-for) .1)
+    ∙ ap (λ (z : List ℕ). linesOn M (carried L M z) (c .records)) (sound-image L lo (c .before) (emptyImage L) [] (empty-stands L lo))
+
 pub marked-converted : MarkedConverted
 unfolding linesOn imageOn carried emptyImage
-marked-converted = ap (λ (f : CaseOver → List Line). map f casesConverted) (λ i c. computed c i)
-  where
-    computed : (c : CaseOver) → linesFrom ahead (carried narrow ahead (imageAfter narrow (emptyImage narrow) (c .before))) (c .records)
-        ≡ linesOn ahead (carried narrow ahead (imageOn narrow (emptyImage narrow) (c .before))) (c .records)
-    computed c =
-        let img = imageAfter narrow (emptyImage narrow) (c .before) in
-        let f = history narrow narrow-ok (c .before) .stands-for in
-        sound-lines ahead ahead-ok (c .records) (carried narrow ahead img) (contractsAfter narrow [] (c .before)) (passage narrow ahead img _ f (early-passes tt _) .1)
-        ∙ ap (λ (z : List ℕ). linesOn ahead (carried narrow ahead z) (c .records)) (sound-image narrow narrow-ok (c .before) (emptyImage narrow) [] (empty-stands narrow narrow-ok))
+marked-converted = ap (λ (f : CaseOver → List Line). map f casesConverted) (λ i c. across narrow ahead narrow-ok ahead-ok (λ img cs f. passage narrow ahead img cs f (early-passes tt cs)) c i)
+
+pub marked-enlarged : MarkedEnlarged
+unfolding linesOn imageOn carried emptyImage
+marked-enlarged = (
+  ap (λ (f : List (List ℕ) → List Line). map (λ c. f (c .records)) casesLarge) (λ i ss. sound-lines large large-ok ss (emptyImage large) [] (empty-stands large large-ok) i),
+  ap (λ (f : CaseOver → List Line). map f casesEnlarged) (λ i c. across small large small-ok large-ok (larger .enlarged) c i),
+)
 
 -- over a change of the kinds
 over-kinds : {L M : Layout} {ks : List ℕ} → LayoutOk L → LayoutOk M → KindsChange L M ks → (c : CaseOver) → linesFrom M (imageAfter L (emptyImage L) (c .before)) (c .records)

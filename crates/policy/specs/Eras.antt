@@ -9,14 +9,15 @@ use mathlib.Core.Option.{none}
 use lib.Dec.{T, eqb}
 use lib.ListN.{length, getD}
 use Rattle.policy.specs.Contract.{Contract}
-use Rattle.policy.specs.Layout.{Layout, LayoutOk, base, narrow, ahead, renewed, retired, small, size}
+use Rattle.policy.specs.Layout.{Layout, LayoutOk, base, narrow, ahead, renewed, retired, small, large, size}
 use Rattle.policy.specs.Record.{parse}
 use Rattle.policy.specs.Machine.{machine}
 use Rattle.policy.specs.Tables.{decode, encode, emptyImage}
 use Rattle.policy.specs.Sound.{sound}
 use Rattle.policy.specs.Judge.{Out, refusal, judge, check, readOut}
 use Rattle.policy.specs.History.{AllValid, AllAllowed, StandsFor, answers, imageAfter, machineAnswers, contractsAfter}
-use Rattle.policy.specs.Marked.{linesFrom, casesConverted, casesRenewed, casesNeeds, casesRetired}
+use Rattle.policy.specs.Marked.{CaseOver, linesFrom, casesConverted, casesRenewed, casesNeeds, casesRetired}
+use Rattle.policy.specs.Marked.{casesLarge, casesEnlarged}
 use Rattle.policy.specs.Claims.{CallsGranted, NeedsPresent}
 
 -- ---- the passage from the rules L to the rules M
@@ -118,9 +119,15 @@ HistoryFrom L = (img : List ℕ) (cs : List Contract) → StandsFor L img cs
     → (ss : List (List ℕ)) (es : List Era) → AllPass L cs ss es → HistoryOver L img cs ss es
 
 -- a passage keeps numbers and list order, since it keeps the tables whole, and the contracts that they stand for
+abbrev pub Carries : Layout → Layout → List ℕ → List Contract → Type 0
+Carries L M img cs = (decode M (carried L M img) ≡ decode L img) × StandsFor M (carried L M img) cs
+
 abbrev pub Passage : Layout → Layout → Type 0
-Passage L M = (img : List ℕ) (cs : List Contract) → StandsFor L img cs → Passes L M cs
-    → (decode M (carried L M img) ≡ decode L img) × StandsFor M (carried L M img) cs
+Passage L M = (img : List ℕ) (cs : List Contract) → StandsFor L img cs → Passes L M cs → Carries L M img cs
+
+-- a conversion is a passage of every sound image
+abbrev pub Passing : Layout → Layout → Type 0
+Passing L M = (img : List ℕ) (cs : List Contract) → StandsFor L img cs → Carries L M img cs
 
 -- 'that card is unsound from then on': every record gets 1 with 255, and nothing changes
 pub record LeftOut (L : Layout) (img : List ℕ) : Type 0 where
@@ -169,17 +176,28 @@ pub record Malformed (L : Layout) (s : List ℕ) : Type 0 where
 abbrev pub UnreadMalformed : Layout → Type 0
 UnreadMalformed L = (s : List ℕ) → (T (L .reads (getD s 3 0)) → ⊥) → Malformed L s
 
+-- R-9: 'A record of the other card's version gets 2'
+abbrev pub OtherVersion : Layout → Type 0
+OtherVersion L = (s : List ℕ) → (getD s 2 0 ≡ L .version → ⊥) → Malformed L s
+
 -- a converter answers 0 with 0 and writes the carried image, or 1 with 255 and writes nothing
 pub record Converts (L M : Layout) (img b : List ℕ) : Type 0 where
   pub taken : T (sound L img) → length b ≡ size M → convert L M img b ≡ record { answered = 0; second = 0; bytes = carried L M img }
   pub not-sound : (T (sound L img) → ⊥) → convert L M img b ≡ refusal 1 255 b
   pub not-sized : (length b ≡ size M → ⊥) → convert L M img b ≡ refusal 1 255 b
 
--- the marked cases over R-2's conversion, and over R-1's change and R-13's
+-- the marked cases over a conversion: R-2's, and R-9's; and over R-1's change and R-13's
+abbrev pub MarkedAcross : Layout → Layout → List CaseOver → Type 0
+MarkedAcross L M cs =
+    map (λ c. linesFrom M (carried L M (imageAfter L (emptyImage L) (c .before))) (c .records)) cs ≡ map (λ c. c .lines) cs
+
 abbrev pub MarkedConverted : Type 0
-MarkedConverted =
-    map (λ c. linesFrom ahead (carried narrow ahead (imageAfter narrow (emptyImage narrow) (c .before))) (c .records)) casesConverted
-    ≡ map (λ c. c .lines) casesConverted
+MarkedConverted = MarkedAcross narrow ahead casesConverted
+
+abbrev pub MarkedEnlarged : Type 0
+MarkedEnlarged =
+    (map (λ c. linesFrom large (emptyImage large) (c .records)) casesLarge ≡ map (λ c. c .lines) casesLarge)
+    × MarkedAcross small large casesEnlarged
 
 abbrev pub MarkedRenewed : Type 0
 MarkedRenewed =
@@ -201,15 +219,19 @@ imageThen ss = imageAfter base (emptyImage base) ss
 abbrev pub contractsThen : List (List ℕ) → List Contract
 contractsThen ss = contractsAfter base [] ss
 
+-- its eras after document 01's
+abbrev pub erasSmall : List (List ℕ) → List (List ℕ) → List (List ℕ) → List (List ℕ) → List Era
+erasSmall ts us vs ws =
+    record { rules = narrow; records = ts }
+    ∷ record { rules = ahead; records = us }
+    ∷ record { rules = renewed; records = vs }
+    ∷ record { rules = retired; records = ws }
+    ∷ []
+
 pub record SoFar : Type 0 where
   -- demand 3, where the card at R-7's change holds no method token of 128 or more
   pub history : (ss ts us vs ws : List (List ℕ)) → AllValid narrow (contractsThen ss)
-      → HistoryOver base (emptyImage base) [] ss
-      (record { rules = narrow; records = ts }
-      ∷ record { rules = ahead; records = us }
-      ∷ record { rules = renewed; records = vs }
-      ∷ record { rules = retired; records = ws }
-      ∷ [])
+      → HistoryOver base (emptyImage base) [] ss (erasSmall ts us vs ws)
   -- R-7: nothing is converted, and the check tells whether it does
   pub same-image : (ss : List (List ℕ)) → carried base narrow (imageThen ss) ≡ imageThen ss
   pub told : (ss : List (List ℕ)) → T (sound narrow (imageThen ss)) → AllValid narrow (contractsThen ss)
@@ -217,8 +239,7 @@ pub record SoFar : Type 0 where
   -- where it holds one
   pub left-out : (ss : List (List ℕ)) → (AllValid narrow (contractsThen ss) → ⊥) → LeftOut narrow (imageThen ss)
   -- R-2: 'sound version 01 images, numbers and list order kept': the tables stay, and so do the contracts, by the rules in force;
-  pub converted : (img : List ℕ) (cs : List Contract) → StandsFor narrow img cs
-      → (decode small (carried narrow small img) ≡ decode narrow img) × StandsFor small (carried narrow small img) cs
+  pub converted : Passing narrow small
   -- 'the engine gives 1 for them'
   pub refused : (img : List ℕ) → T (sound narrow img) → RefusedAll small img
   -- R-1: kind 11 begins
@@ -226,3 +247,22 @@ pub record SoFar : Type 0 where
   -- R-13: kinds 9 and 10 end, 'and get 2'; 'Needs set by them stay in force', as every contract does
   pub retirement : KindsChange renewed retired (9 ∷ 10 ∷ [])
   pub retired-kinds : (s : List ℕ) → In (getD s 3 0) (9 ∷ 10 ∷ []) → Malformed retired s
+
+-- ---- the card of sixteen packages: a conversion, and records
+abbrev pub onLarge : List (List ℕ) → List Era
+onLarge ss = record { rules = large; records = ss } ∷ []
+
+pub record Larger : Type 0 where
+  -- R-9: 'A history may start on the empty large image'
+  pub history-empty : (ss : List (List ℕ)) → HistoryOver large (emptyImage large) [] ss []
+  -- 'or a converted one': on any card that is sound by the rules in force, records, the conversion, records
+  pub history-on : (img : List ℕ) (cs : List Contract) → StandsFor small img cs → (ss us : List (List ℕ))
+      → HistoryOver small img cs ss (onLarge us)
+  -- and from the first record by document 01's rules on
+  pub history-all : (ss ts us vs ws xs : List (List ℕ)) → AllValid narrow (contractsThen ss)
+      → HistoryOver base (emptyImage base) [] ss (erasSmall ts us vs ws ++ onLarge xs)
+  -- 'sound version 02 images over with contracts, numbers and list order kept'
+  pub enlarged : Passing small large
+  -- 'A record of the other card's version gets 2'
+  pub other-small : OtherVersion small
+  pub other-large : OtherVersion large

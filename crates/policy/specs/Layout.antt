@@ -80,6 +80,23 @@ retired = cardOf 128 true nine
 abbrev pub small : Layout
 small = retired
 
+-- R-9: 'a card with sixteen packages', by the rules in force, in an image of 3,639 bytes
+abbrev pub large : Layout
+large = record {
+  packages = 16;
+  services = 16;
+  width = 2;
+  capacity = 32;
+  header = 14 ∷ 55 ∷ 3 ∷ [];
+  version = 2;
+  countWidth = 2;
+  mostRows = 272;
+  mostCallers = 32;
+  methods = 128;
+  early = true;
+  reads = nine;
+}
+
 -- bytes of an AID's place and of a row of unmet calls
 abbrev pub aidSize : ℕ
 aidSize = 17

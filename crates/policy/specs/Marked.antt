@@ -51,9 +51,12 @@ pub record Case : Type 0 where
 abbrev pub aidOf : ℕ → List ℕ
 aidOf n = 5 ∷ 240 ∷ 0 ∷ 0 ∷ 0 ∷ n ∷ []
 
--- a record: its length, the version, the kind and what follows
+-- a record: its length, the version, the kind and what follows; of version 01
+abbrev pub recordIn : ℕ → ℕ → List ℕ → List ℕ
+recordIn v k body = (4 + length body) / 256 ∷ (4 + length body) % 256 ∷ v ∷ k ∷ body
+
 abbrev pub recordOf : ℕ → List ℕ → List ℕ
-recordOf k body = (4 + length body) / 256 ∷ (4 + length body) % 256 ∷ 1 ∷ k ∷ body
+recordOf = recordIn 1
 
 -- service m of package n: tokens 0 and m
 abbrev pub rowOf : ℕ → ℕ → List ℕ
@@ -334,6 +337,49 @@ casesRetired =
     }
     -- a need that kind 10 took before is gone
     ∷ record { before = needing ++ (rowChange 10 2 1 0 ∷ []); records = removalOf 1 ∷ []; lines = taken 2 0 ∷ [] }
+    ∷ []
+
+-- R-9: on the card of sixteen packages, 'two-byte counts, big-endian too .. for calls, grants and needs alone'
+abbrev pub rowsOf : List (List ℕ) → List ℕ
+rowsOf l = length l / 256 ∷ length l % 256 ∷ flat (λ r. r) l
+
+-- a load of version 02
+abbrev pub largeLoad : ℕ → List ℕ → List (List ℕ) → List (List ℕ) → List (List ℕ) → List ℕ
+largeLoad n toks calls grants needs =
+    recordIn 2 1 (aidOf n ++ (listOf (map (λ m. 0 ∷ m ∷ []) toks) ++ (rowsOf calls ++ (rowsOf grants ++ rowsOf needs))))
+
+-- the load of H, to the byte
+abbrev pub largeH : List ℕ
+largeH =
+    0x00 ∷ 0x1B ∷ 0x02 ∷ 0x01 ∷ 0x05 ∷ 0xF0 ∷ 0x00 ∷ 0x00 ∷ 0x00 ∷ 0x01
+    ∷ 0x01 ∷ 0x00 ∷ 0x00 ∷ 0x00 ∷ 0x00 ∷ 0x00 ∷ 0x01 ∷ 0x05 ∷ 0xF0 ∷ 0x00 ∷ 0x00 ∷ 0x00 ∷ 0x02 ∷ 0x00 ∷ 0x00 ∷ 0x00 ∷ 0x00 ∷ []
+
+-- from the empty large image
+abbrev pub casesLarge : List Case
+casesLarge =
+    -- 'A record of the other card's version gets 2', and so does one of its own version with one-byte counts
+    record {
+      records = loadH ∷ recordIn 2 1 (drop 4 loadH) ∷ largeH ∷ largeLoad 3 [] (rowOf 1 0 ∷ []) [] [] ∷ removeH ∷ [];
+      lines = refused 1 2 ∷ refused 1 2 ∷ taken 1 0 ∷ refused 1 8 ∷ refused 2 2 ∷ [];
+    }
+    -- 'up to 16 services': a 17th of a load, and a 17th number; kind 3's callers have one count byte
+    ∷ record {
+      records = largeLoad 1 (from 0 17) [] [] [] ∷ largeLoad 1 (from 0 15) [] [] [] ∷ recordIn 2 3 (aidOf 1 ++ (0 ∷ 15 ∷ 1 ∷ aidOf 2))
+          ∷ recordIn 2 3 (aidOf 1 ++ (0 ∷ 16 ∷ 0 ∷ [])) ∷ [];
+      lines = refused 1 2 ∷ taken 1 0 ∷ taken 3 0 ∷ refused 3 7 ∷ [];
+    }
+    ∷ []
+
+-- by the rules in force, enlarged, and on the large card: numbers, needs and grants are kept, and 'A record of the other card's version
+-- gets 2'
+abbrev pub casesEnlarged : List CaseOver
+casesEnlarged =
+    record {
+      before = loadH ∷ loadC ∷ recordIn 2 2 (aidOf 1) ∷ [];
+      records = removeH ∷ recordIn 2 2 (aidOf 1) ∷ largeLoad 3 (from 0 16) (rowOf 2 9 ∷ []) [] [] ∷ recordIn 2 2 (aidOf 2)
+          ∷ recordIn 2 2 (aidOf 1) ∷ [];
+      lines = refused 2 2 ∷ refused 2 9 ∷ taken 1 2 ∷ taken 2 1 ∷ taken 2 0 ∷ [];
+    }
     ∷ []
 
 -- ---- where things stand after some records: the places and the tokens of the services of package number 0, and the lists

@@ -19,7 +19,7 @@ use Rattle.policy.specs.Settled.{Gives}
 use Rattle.policy.proofs.Sets.{T-true, true-T, and-l, length-flat-le, length-from, upto-in, in-row}
 use Rattle.policy.proofs.Bits.{bit-rowOf, length-number}
 use Rattle.geometry.specs.declared.Card.{Card}
-use Rattle.geometry.specs.declared.Card.the-variants.{Small}
+use Rattle.geometry.specs.declared.Card.the-variants.{Small, Large}
 use Rattle.geometry.specs.declared.Table.{Table}
 use Rattle.geometry.specs.declared.Table.the-variants.{Needs}
 use Rattle.geometry.specs.declared.Kept.{Kept}
@@ -102,6 +102,7 @@ module _ (L : Layout) (t : Tables) (room : Room L t) (n : ℕ) where
 
 pub body-short : (c : Card) (img : List ℕ) → Laid (layoutOf c) img → (n : ℕ) → Short 4 (bodyBytes (layoutOf c) (decode (layoutOf c) img) n)
 body-short Small img h n = omega (arith, body-most (layoutOf Small) (decode (layoutOf Small) img) (h .room) n)
+body-short Large img h n = omega (arith, body-most (layoutOf Large) (decode (layoutOf Large) img) (h .room) n)
 
 module _ (c : Card) (img : List ℕ) (n : ℕ) where
   abbrev L : Layout

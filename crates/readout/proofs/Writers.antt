@@ -1,5 +1,5 @@
 -- Writers one after another, and what a slice of the image holds. Assumes nothing.
-use Prim.Native.Nat.{ℕ, suc, _+_, _-_, _%_, _≤_, _<_}
+use Prim.Native.Nat.{ℕ, suc, _+_, _-_, _/_, _%_, _≤_, _<_}
 use native.Mathlib.Omega.{arith}
 use native.Mathlib.Nat.{add-zero, add-sub-cancel-left}
 use native.Mathlib.Numerals.{add-one, one-add}
@@ -13,8 +13,8 @@ use Rattle.policy.specs.Judge.{aidBytes}
 use Rattle.rows.specs.Area.{over, part}
 use Rattle.rows.proofs.Over.{over-on}
 use Rattle.geometry.specs.declared.Card.{Card}
-use Rattle.geometry.specs.declared.Card.the-variants.{Small}
 use Rattle.geometry.specs.Geometry.{layoutOf}
+use Rattle.geometry.proofs.Bounds.{limits}
 use Rattle.image.specs.Read.{aidIn, tokensIn}
 use Rattle.readout.specs.Parts.{Put, Short}
 
@@ -72,9 +72,12 @@ module _ (at r : ℕ) (a b old new : List ℕ) (e : a ≡ b) where
   pub put-as : Put at a old r new → Put at b old r new
   put-as h = subst (λ (z : List ℕ). Put at z old r new) e h
 
--- a count takes one byte on this card
-pub count-is : (c : Card) (n : ℕ) → (n % 256) ∷ [] ≡ writeNumber (layoutOf c .countWidth) n []
-count-is Small n = refl
+-- a count takes one byte or two; r is how many
+pub count-one : (c : Card) (n : ℕ) {r : ℕ} → r ≡ layoutOf c .countWidth → r ≡ 1 → (n % 256) ∷ [] ≡ writeNumber (layoutOf c .countWidth) n []
+count-one c n e d = rw (← e, d)
+
+pub count-two : (c : Card) (n : ℕ) {r : ℕ} → r ≡ layoutOf c .countWidth → (r ≡ 1 → ⊥) → (n / 256 % 256) ∷ (n % 256) ∷ [] ≡ writeNumber (layoutOf c .countWidth) n []
+count-two c n {r} e d = let m = limits c in let q : layoutOf c .countWidth ≡ 2 = omega arith in rw q
 
 -- ---- two and three parts, which make up one: where each may start, and what they leave
 pub record Shorts (at : ℕ) (a b c : List ℕ) : Type 0 where

@@ -60,10 +60,12 @@ pub fn put_count(c: Card, n: usize, out: &mut [u8], at: usize) -> usize
     requires { ⌜ Short at (writeNumber (layoutOf c .countWidth) n []) ⌝ }
     ensures { λ r. ⌜ Put at (writeNumber (layoutOf c .countWidth) n []) (now (out .entry)) r (now (out .exit)) ⌝ }
 {
-    match c {
-        Card::Small => {
-            let count = [(n % 256) as u8];
-            put(&count, out, at)
-        }
+    let low = (n % 256) as u8;
+    if geometry::count_width(c) == 1 {
+        let count = [low];
+        return put(&count, out, at);
     }
+    let high = (n / 256 % 256) as u8;
+    let count = [high, low];
+    put(&count, out, at)
 }

@@ -10,10 +10,10 @@ use lib.Dec.{ltb}
 use lib.ListN.{length, drop, getD, drop-of-length-le}
 use lib.Seq.{drop-cons}
 use borrow.Author.Tests.{ltb-true, ltb-false, le-leb, lt-leb, ne-eqb}
-use Rattle.policy.specs.Layout.{Layout}
+use Rattle.policy.specs.Layout.{Layout, nine}
 use Rattle.policy.specs.Record.{Got, got, bad, Change, andThen, given, aid, tokens, validRow, tokenList, callerList, whole, change, kinds, aContract, aService}
 use Rattle.geometry.specs.declared.Card.{Card}
-use Rattle.geometry.specs.declared.Card.the-variants.{Small}
+use Rattle.geometry.specs.declared.Card.the-variants.{Small, Large}
 use Rattle.geometry.specs.declared.Tokens.{Tokens}
 use Rattle.geometry.specs.Geometry.{layoutOf}
 use Rattle.record.specs.Meaning.{Takes, Places, PlacesRows, Served, RowStands, rowIn, wholeOf, changeOf, kindOf, KindFits}
@@ -99,14 +99,18 @@ given-bad true t = refl
 given-bad false t = refl
 
 -- every card reads the kinds up to 8, and 11, and no other
+reads-nine : (c : Card) → layoutOf c .reads ≡ nine
+reads-nine Small = refl
+reads-nine Large = refl
+
 pub reads-8 : (c : Card) (k : ℕ) → k ≤ 8 → layoutOf c .reads k ≡ true
-reads-8 Small k h = rw (le-leb k 8 h)
+reads-8 c k h = rw (reads-nine c, le-leb k 8 h)
 
 reads-11 : (c : Card) → layoutOf c .reads 11 ≡ true
-reads-11 Small = refl
+reads-11 c = rw (reads-nine c)
 
 reads-none : (c : Card) (k : ℕ) → 8 < k → (k ≡ 11 → ⊥) → layoutOf c .reads k ≡ false
-reads-none Small k h n = rw (lt-leb k 8 h, ne-eqb k 11 n)
+reads-none c k h n = rw (reads-nine c, lt-leb k 8 h, ne-eqb k 11 n)
 
 -- ---- by kind
 module _ (c : Card) where

@@ -1,6 +1,6 @@
 -- What each reader reads at the front of a part, as the tests that the code makes. Assumes nothing.
-use Prim.Native.Nat.{ℕ, suc, zero, _+_, _-_, _≤_, _<_}
-use mathlib.Core.Path.{_≡_, refl, ap, sym, _∙_}
+use Prim.Native.Nat.{ℕ, suc, zero, _+_, _*_, _-_, _≤_, _<_}
+use mathlib.Core.Path.{_≡_, refl, ap, sym, _∙_, subst}
 use mathlib.Core.Bool.{Bool, true, false, _&&_}
 use mathlib.Core.List.{List, [], _∷_}
 use mathlib.Core.Option.{none, some}
@@ -13,10 +13,11 @@ use lib.Seq.{drop-drop, take-all, length-take-le}
 use borrow.Author.Tests.{le-leb, lt-leb, leb-true, lt-ltb}
 use Rattle.policy.specs.Contract.{Tok}
 use Rattle.policy.specs.Layout.{Layout}
-use Rattle.policy.specs.Record.{Got, got, bad, Reader, andThen, _>>=_, given, done, byte, bytes, number, aid, tokens, rowOf, validTok, validTokens, validRow, many, counted}
+use Rattle.policy.specs.Tables.{readNumber}
+use Rattle.policy.specs.Record.{Got, got, bad, Reader, andThen, _>>=_, given, done, byte, bytes, number, numberFrom, aid, tokens, rowOf, validTok, validTokens, validRow, many, counted}
 use Rattle.geometry.specs.declared.Card.{Card}
-use Rattle.geometry.specs.declared.Card.the-variants.{Small}
 use Rattle.geometry.specs.Geometry.{layoutOf}
+use Rattle.geometry.proofs.Bounds.{limits}
 use Rattle.record.specs.Meaning.{tokAt, after, valueOf, Takes, TokensTaken, reader, validReader, widthOf, Counts, Finds}
 use Rattle.record.specs.declared.Sort.{Sort}
 use Rattle.record.specs.declared.Sort.the-variants as sort
@@ -272,21 +273,34 @@ still-done {p = p} {s = s} {at} {k} h l =
     let e : k ≡ 0 = omega arith in
     record { fits = h .inside; same = rw e at (h .same) }
 
--- a count of one byte
-pub one-byte : (c : Card) (k : Sort) → widthOf (layoutOf c) k ≡ 1
-one-byte Small sort.Service = refl
-one-byte Small sort.Caller = refl
-one-byte Small sort.Row = refl
+-- a count of one byte or of two
+pub count-bytes : (c : Card) (k : Sort) → (0 < widthOf (layoutOf c) k) × (widthOf (layoutOf c) k ≤ 2)
+count-bytes c sort.Service = (omega arith, omega arith)
+count-bytes c sort.Caller = (omega arith, omega arith)
+count-bytes c sort.Row = (limits c .count-some, limits c .count-low)
 
-pub count-none : (s : List ℕ) → length s ≤ 0 → Counts 1 s count.Malformed
-unfolding number byte
-count-none [] h = record { fits = tt; same = refl }
-count-none (b ∷ s) h = absurd (omega arith)
+-- a number of w bytes
+number-none : (w n : ℕ) (s : List ℕ) → length s < w → numberFrom w n s ≡ bad
+unfolding byte
+number-none zero n s h = absurd (omega arith)
+number-none (suc w) n [] h = refl
+number-none (suc w) n (b ∷ s) h = number-none w (n * 256 + b) s (omega arith)
 
-pub count-one : (s : List ℕ) → 0 < length s → Counts 1 s (count.Found (getD s 0 0) 1)
-unfolding number byte
-count-one [] h = absurd (omega arith)
-count-one (b ∷ s) h = record { fits = omega arith; same = rw (zero-add b) }
+number-some : (w n : ℕ) (s : List ℕ) → w ≤ length s → numberFrom w n s ≡ got (readNumber n (take w s)) (drop w s)
+unfolding byte
+number-some zero n s h = refl
+number-some (suc w) n [] h = absurd (omega arith)
+number-some (suc w) n (b ∷ s) h = number-some w (n * 256 + b) s (omega arith)
+
+-- the code has the width as size
+module _ (w : ℕ) (s : List ℕ) {size : ℕ} (q : size ≡ w) where
+  pub count-none : length s < size → Counts w s count.Malformed
+  unfolding number
+  count-none h = subst (λ (z : ℕ). Counts z s count.Malformed) q (record { fits = tt; same = sym (number-none size 0 s h) })
+
+  pub count-some : {n : ℕ} → size ≤ length s → n ≡ readNumber 0 (take size (drop 0 s)) → Counts w s (count.Found n size)
+  unfolding number
+  count-some {n} h e = subst (λ (z : ℕ). Counts z s (count.Found n size)) q (record { fits = h; same = (λ i. got (e i) (drop size s)) ∙ sym (number-some size 0 s h) })
 
 -- a count, and as many things: v reads them, and p says what they are
 module _ {A : Type 0} (v p : Reader A) (w most : ℕ) where

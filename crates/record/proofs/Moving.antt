@@ -67,7 +67,7 @@ module _ {R : RattleType} (S : Shown R) (F : Card → ℕ → List ℕ → R .De
       pre : ent 𝓤 (⋆ 𝓤 H A (token κ q ∷ ‵ (Own κ d) ∷ [])) (MethodOf R F 𝓤 H A .pre to-method)
       pre =
           qed W (token κ q ∷ ‵ (Own κ d) ∷ []) ∵ says ! within $ frame ! $
-          nothing ! $ owned ! K.the-row (Is K.the-row) (EL.makes K.the-type (tt, tt) 𝓤 H A) c _ is-c $ fjoin ! $ move ! (1 ∷ 0 ∷ []) $ fjoin ! $ done !
+          nothing ! $ owned ! K.the-row (Is K.the-row) (EL.makes K.the-type _ 𝓤 H A) c _ is-c $ fjoin ! $ move ! (1 ∷ 0 ∷ []) $ fjoin ! $ done !
 
   -- of its `ensured`, the clause alone: it has no `&mut`, so what is said of last values is dropped
   said : (r : R .Denot) → ent 𝓤 (ensured 𝓤 H A (method R) (method-says R F 𝓤) (κ, tt) (d, (c, tt)) tt r) (fact 𝓤 (F c (d .at) (now (d .src)) r))
@@ -171,7 +171,7 @@ module _ {R₁ R₂ R : RattleType} (X : Stepped R₁) (S₂ : Shown R₂) (S : 
         exits r u e =
             qed W (‵ (R .own r (u ∷ [])) ∷ token κ q ∷ ‵ (Src κ s) ∷ []) ∵
             suffices ! _ (ends-at 𝓤 H A (under R) (stayed R) (under-says R G 𝓤) W (((κ, tt), (q, tt), tt, args s n c, vals s n c), tt) u r (tt, (tt, (tt, tt))) (tt, (tt, (tt, tt)))) $ says ! e $
-            move ! (1 ∷ []) $ frame ! $ nothing ! $ owned ! K.the-row (Is K.the-row) (EL.makes K.the-type (tt, tt) 𝓤 H A) c _ is-c $ fjoin ! $
+            move ! (1 ∷ []) $ frame ! $ nothing ! $ owned ! K.the-row (Is K.the-row) (EL.makes K.the-type _ 𝓤 H A) c _ is-c $ fjoin ! $
             owned ! usize (Is usize) (uint-makes 𝓤 H A W w64) n _ (refl, fits) $ fjoin ! $ move ! (2 ∷ 0 ∷ []) $ fjoin ! $ frame ! $ done !
 
         module _ (C : Calls 𝓤 H) (Λ : Loops 𝓤 H) (fm : FmC 𝓤 H (W .laws) C) (known₁ : Triple 𝓤 (C m₁) (MethodOf R₁ F₁ 𝓤 H A)) (known₂ : Triple 𝓤 (C m₂) (MethodOf R₂ F₂ 𝓤 H A)) (known : Triple 𝓤 (C j) (JoiningOf R₁ R₂ R J 𝓤 H A)) where

@@ -110,7 +110,7 @@ module _ {R : RattleType} (S : Shown R) (F : Card → ℕ → List ℕ → R .De
         goes : d .at ≤ length (now (d .src)) → ent 𝓤 (⋆ 𝓤 H A (token κ q ∷ ‵ (Src κ (d .src)) ∷ [])) (UnderOf R F 𝓤 H A .pre to)
         goes within =
             qed W (token κ q ∷ ‵ (Src κ (d .src)) ∷ []) ∵ says ! within $ frame ! $
-            nothing ! $ owned ! K.the-row (Is K.the-row) (EL.makes K.the-type (tt, tt) 𝓤 H A) c _ is-c $ fjoin ! $
+            nothing ! $ owned ! K.the-row (Is K.the-row) (EL.makes K.the-type _ 𝓤 H A) c _ is-c $ fjoin ! $
             owned ! usize (Is usize) (uint-makes 𝓤 H A W w64) (d .at) _ (refl, fits) $ fjoin ! $ move ! (1 ∷ 0 ∷ []) $ fjoin ! $ done !
 
         -- what the struct owns gives what the callee asks, and is kept
@@ -128,7 +128,7 @@ module _ {R : RattleType} (S : Shown R) (F : Card → ℕ → List ℕ → R .De
         exits r e =
             qed W (‵ (R .own r (S .val r ∷ [])) ∷ token κ q ∷ ‵ (Own κ d) ∷ []) ∵
             suffices ! _ (ends-at 𝓤 H A (method R) (stayed R) (method-says R F 𝓤) W (((κ, tt), (q, tt), tt, a, vals), tt) (S .val r) r (tt, (tt, tt)) (tt, (tt, tt))) $ says ! e $
-            move ! (1 ∷ []) $ frame ! $ nothing ! $ owned ! K.the-row (Is K.the-row) (EL.makes K.the-type (tt, tt) 𝓤 H A) c _ is-c $ fjoin ! $ move ! (2 ∷ 0 ∷ []) $ fjoin ! $ frame ! $ done !
+            move ! (1 ∷ []) $ frame ! $ nothing ! $ owned ! K.the-row (Is K.the-row) (EL.makes K.the-type _ 𝓤 H A) c _ is-c $ fjoin ! $ move ! (2 ∷ 0 ∷ []) $ fjoin ! $ frame ! $ done !
 
         module _ (C : Calls 𝓤 H) (Λ : Loops 𝓤 H) (fm : FmC 𝓤 H (W .laws) C) (known : Triple 𝓤 (C f) (UnderOf R F 𝓤 H A)) where
           walk : Holds (hasTy (T′.mir (named 0)) (mach d)) × WT (mach d) → d .at ≤ length (now (d .src)) → ent 𝓤 (onEntry 𝓤 H A (method R .signature) (κ, tt) (q, tt) a vals) (WpFn 𝓤 H C Λ thin (mach d ∷ card c ∷ []) Post)

@@ -231,19 +231,27 @@ fn items_end(part: &[u8], c: Card, sort: Sort, count: usize) -> Took
     Took::Bytes(at)
 }
 
+// The bytes of the count of a list of a sort.
+fn width(c: Card, sort: Sort) -> usize
+    ensures { λ r. ⌜ r ≡ widthOf (layoutOf c) sort ⌝ }
+{
+    match sort {
+        Sort::Service => 1,
+        Sort::Caller => 1,
+        Sort::Row => geometry::count_width(c),
+    }
+}
+
 // The count of a list of a sort.
 fn read_count(part: &[u8], c: Card, sort: Sort) -> Count
     ensures { λ r. ⌜ Counts (widthOf (layoutOf c) sort) (now (part .entry)) r ⌝ }
 {
-    match c {
-        Card::Small => {
-            if part.len() == 0 {
-                return Count::Malformed;
-            }
-            let count = part[0] as usize;
-            Count::Found { count, size: 1 }
-        }
+    let size = width(c, sort);
+    if part.len() < size {
+        return Count::Malformed;
     }
+    let count = geometry::number_at(part, 0, size) as usize;
+    Count::Found { count, size }
 }
 
 // The most things of a list of a sort.

@@ -1,9 +1,7 @@
 -- `geometry::aid_at` meets its contract. Assumes nothing.
-use mathlib.Core.Path.{ap}
 use native.Mathlib.Omega.{arith}
-use Rattle.geometry.specs.declared.Card.{Card}
-use Rattle.geometry.specs.Geometry.{layoutOf}
-use Rattle.geometry.proofs.Cards.{only}
+use borrow.Author.Needs.{needs}
+use Rattle.geometry.proofs.Bounds.{limits, aid-in}
 use Rattle.geometry.proofs.aid_at.Statement.{statement}
 use Rattle.geometry.proofs.aid_at.Tie as tie
 
@@ -11,6 +9,7 @@ pub aid-at-spec : {M : Type 1} → statement M
 aid-at-spec =
     tie.close
     (tie.spec
-    (λ c. omega (arith, ap (λ (k : Card). layoutOf k .packages) (only (c .args .c))))
-    (λ c. omega (arith, ap (λ (k : Card). layoutOf k .packages) (only (c .args .c))))
-    (λ c. rw (only (c .args .c))))
+    (λ c κs. search needs)
+    (λ c. omega (arith, limits (c .before .args .c)))
+    (λ c. let s = c .before in omega (arith, limits (s .args .c), aid-in (s .args .c) (s .args .n) (s .pre)))
+    (λ c. rw (c .aids-at .ensures)))

@@ -1,9 +1,7 @@
 -- `geometry::prov_at` meets its contract. Assumes nothing.
-use mathlib.Core.Path.{ap}
 use native.Mathlib.Omega.{arith}
-use Rattle.geometry.specs.declared.Card.{Card}
-use Rattle.geometry.specs.Geometry.{layoutOf}
-use Rattle.geometry.proofs.Cards.{only}
+use borrow.Author.Needs.{needs}
+use Rattle.geometry.proofs.Bounds.{limits, prov-sum}
 use Rattle.geometry.proofs.prov_at.Statement.{statement}
 use Rattle.geometry.proofs.prov_at.Tie as tie
 
@@ -11,5 +9,8 @@ pub prov-at-spec : {M : Type 1} → statement M
 prov-at-spec =
     tie.close
     (tie.spec
-    (λ c. omega (arith, ap (λ (k : Card). layoutOf k .packages) (only (c .args .c))))
-    (λ c. rw (only (c .args .c)) (omega arith)))
+    (λ c κs. search needs)
+    (λ c κs. search needs)
+    (λ c. let s = c .before .before in omega (arith, prov-sum (s .args .c) (s .args .j) _ (c .width .ensures) (s .pre)))
+    (λ c. let s = c .before .before in omega (arith, c .before .provides-at .ensures, prov-sum (s .args .c) (s .args .j) _ (c .width .ensures) (s .pre)))
+    (λ c. rw (c .before .provides-at .ensures, c .width .ensures)))

@@ -1,7 +1,13 @@
 -- `geometry::size` meets its contract. Assumes nothing.
-use Rattle.geometry.proofs.Cards.{only}
+use borrow.Author.Needs.{needs}
 use Rattle.geometry.proofs.size.Statement.{statement}
 use Rattle.geometry.proofs.size.Tie as tie
 
 pub size-spec : {M : Type 1} → statement M
-size-spec = tie.close (tie.spec (λ c. rw (only (c .args .c))))
+size-spec =
+    tie.close
+    (tie.spec
+    (λ c. search needs)
+    (λ c. search needs)
+    (λ c. rw (c .enum-told .given .1))
+    (λ c. rw (c .enum-told2 .given .1)))

@@ -1,35 +1,16 @@
 -- `image::read::find_service` meets its contract.
-use Prim.Native.Nat.{_-_, _≤_}
-use mathlib.Core.Path.{_≡_}
-use mathlib.Core.Bool.{_&&_}
-use mathlib.Core.Option.{none}
-use Rattle.policy.specs.Lists.{first, upto}
-use Rattle.policy.specs.Contract.{eqTok}
-use Rattle.policy.specs.Tables.{decode}
-use Rattle.policy.specs.Lookup.{serviceOf}
-use Rattle.bits.proofs.Loops.{early}
-use Rattle.geometry.specs.Geometry.{layoutOf, tokOf}
+use denote.Ref.{now}
+use Rattle.geometry.proofs.Bounds.{limits}
+use Rattle.image.proofs.Seen.{tokens-in, seen}
 use Rattle.image.proofs.read.find_service.Statement.{statement}
 use Rattle.image.proofs.read.find_service.Tie as tie
 
-abbrev Inv-loop : tie.InvT-loop
-Inv-loop img c j t n k₀ k = (k ≤ n) × (first (λ x. decode (layoutOf c) img .provides j x && eqTok (decode (layoutOf c) img .tok j x) (tokOf t)) (upto k) ≡ none)
-
-abbrev μ-loop : tie.MeasureT-loop
-μ-loop img c j t n k₀ k = n - k
-
 pub find-service-spec : {M : Type 1} → statement M
-unfolding serviceOf
 find-service-spec =
     tie.close
     (tie.spec
-    Inv-loop
-    μ-loop
-    (λ c κs. search early)
-    (λ c. search early)
-    (λ c κs. search early)
-    (λ c. search early)
-    (λ c. search early)
-    (λ c. search early)
-    (λ c. search early)
-    (λ c. search early))
+    (λ c κs. search seen)
+    (λ c κs. let s = c .before .before in (s .pre .1, limits (s .args .c) .services-some))
+    (λ c κs. search seen)
+    (λ c κs. let s = c .before .before .before .before in tokens-in (s .args .c) (now (s .args .img)) (s .pre .0) (s .args .j) _ _ (s .pre .1) (c .before .before .services .ensures) (c .before .tok-at .ensures))
+    (λ c. search seen))

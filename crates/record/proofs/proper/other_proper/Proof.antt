@@ -1,4 +1,4 @@
--- `record::proper::other_proper` meets its contract, alike for each of the six kinds.
+-- `record::proper::other_proper` meets its contract, alike for each of the four kinds.
 use borrow.Author.Needs.{needs}
 use Rattle.record.proofs.Improper.{row-proper}
 use Rattle.record.proofs.proper.other_proper.Statement.{statement}
