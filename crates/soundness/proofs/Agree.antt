@@ -20,10 +20,10 @@ use Rattle.policy.proofs.SoundFacts.{sound-formed, sound-ruled, sound-lawful, s
 use Rattle.bits.proofs.Row.{keep-row}
 use Rattle.geometry.specs.Geometry.{layoutOf}
 use Rattle.geometry.specs.declared.Card.{Card}
-use Rattle.geometry.specs.declared.Card.the-variants.{Small}
+use Rattle.geometry.specs.declared.Card.the-variants.{Small, Large}
 use Rattle.geometry.proofs.Bounds.{layout-ok, early, limits}
 use Rattle.geometry.specs.declared.Kept.the-variants.{UnmetCalls, WaitingGrants}
-use Rattle.soundness.specs.Check.{partAt, usedRow, numberAt, newTok, tokOk, toksOk, methodsOk, blankOk, packageOk, packagesOk, pairOk, lineOk, linesOk, tokenRowOk, numberRowOk, rowOk, listOk, checkBy, sizedOk, checkOk}
+use Rattle.soundness.specs.Check.{partAt, usedRow, numberAt, newTok, tokOk, toksOk, methodsOk, blankOk, packageOk, packagesOk, lineOk, linesOk, tokenRowOk, numberRowOk, rowOk, listOk, checkBy, sizedOk, checkOk}
 use Rattle.soundness.proofs.Parts.{part-length}
 use Rattle.soundness.proofs.Encoded.{Bytes, part-bytes, row-lt}
 use Rattle.soundness.proofs.Lookup.{used-is}
@@ -32,7 +32,11 @@ use Rattle.soundness.proofs.Checked.{check-formed, check-ruled, check-l
 use Rattle.soundness.proofs.Passes.{passes}
 
 pub full : (c : Card) → Full (layoutOf c)
-full Small = record { ok = layout-ok Small; packages-full = refl; services-full = refl; services-low = limits Small .services-low; some-methods = omega arith }
+full c = record { ok = layout-ok c; packages-full = rows-full c .0; services-full = rows-full c .1; services-low = limits c .services-low; some-methods = rows-full c .2 }
+  where
+    rows-full : (c : Card) → (2 ^ layoutOf c .packages ≡ 256 ^ layoutOf c .width) × (2 ^ layoutOf c .services ≡ 256 ^ layoutOf c .width) × (0 < layoutOf c .methods)
+    rows-full Small = (refl, refl, omega arith)
+    rows-full Large = (refl, refl, omega arith)
 
 old-full : Full narrow
 old-full = record { ok = narrow-ok; packages-full = refl; services-full = refl; services-low = omega arith; some-methods = omega arith }
@@ -97,7 +101,7 @@ pub sound-of : (c : Card) (l : List ℕ) → Bytes l → {n : ℕ} {h : List ℕ
 sound-of c l bytes p q e = e ∙ (λ i. sizedOk (layoutOf c) l (p i) (q i) (sym (early c) i)) ∙ check-is-sound (layoutOf c) (full c) l bytes
 
 old-check : (l : List ℕ) → sizedOk small l (size narrow) (narrow .header) false ≡ checkOk narrow l
-unfolding checkBy packagesOk packageOk numberAt methodsOk toksOk tokOk newTok blankOk linesOk lineOk pairOk listOk rowOk tokenRowOk numberRowOk
+unfolding checkBy packagesOk packageOk numberAt methodsOk toksOk tokOk newTok blankOk linesOk lineOk listOk rowOk tokenRowOk numberRowOk
 old-check l = refl
 
 pub old-sound-of : (l : List ℕ) → Bytes l → {n : ℕ} {h : List ℕ} {r : Bool} → n ≡ size narrow → h ≡ narrow .header → r ≡ sizedOk small l n h false → r ≡ sound narrow l

@@ -27,7 +27,7 @@ use Rattle.geometry.specs.declared.Table.the-variants.{Calls, Grants, Needs}
 use Rattle.geometry.specs.declared.Kept.{Kept}
 use Rattle.geometry.specs.declared.Kept.the-variants.{UnmetCalls, WaitingGrants}
 use Rattle.soundness.specs.Check.{byteAt, partAt, zerosAt, sameAt, aidOk, within, rowAt, usedRow, provRow, numberAt, isTok, newTok, tokOk, toksOk, methodOk, methodsOk, newAid, blankOk, packageOk, packagesOk}
-use Rattle.soundness.specs.Check.{grantOk, pairOk, lineOk, linesOk, isUsed, server, unserved, tokenRowOk, isProvided, numberRowOk, rowSize, placeAt, countOf, rowOk, newRow, placeOk, listOk}
+use Rattle.soundness.specs.Check.{rowsFit, lineOk, linesOk, isUsed, server, unserved, tokenRowOk, isProvided, numberRowOk, rowSize, placeAt, countOf, rowOk, newRow, rowsDiffer, placeOk, listOk}
 use Rattle.soundness.proofs.Parts.{part-length, part-same, zero-byte, zeros-part, Filled, filled-inj, ok-filled, zeros-blank}
 use Rattle.soundness.proofs.Decoded.{used-read, aid-read, aid-off, tok-read, tok-off, list-read}
 use Rattle.soundness.proofs.Encoded.{Bytes, tok-back, unmet-back, grant-back, Numbered, list-back, length-rows}
@@ -37,9 +37,6 @@ use Rattle.soundness.proofs.Lookup.{cond-then, cond-else, tok-bytes, me
 use Rattle.soundness.proofs.Lookup.{found-used, number-with}
 
 -- conjunctions as they stand in the tests
-two : (a b : Bool) → T (a && b) → T a × T b
-two a b h = (and-l a b h, and-r a b h)
-
 three : (a b c : Bool) → T (a && b && c) → T a × T b × T c
 three a b c h = let p = and-l (a && b) c h in (and-l a b p, and-r a b p, and-r (a && b) c h)
 
@@ -150,7 +147,7 @@ module _ (L : Layout) (lf : Full L) (l : List ℕ) (bytes : Bytes l) (len : leng
     zero-tok j k h p a b = tok-read L l j k h p ∙ tok-bytes l (tokAt L j k) ∙ λ i. record { itf = a i; mth = b i }
 
     tok-blank : (j k : ℕ) → (T (t .provides j k) → ⊥) → t .tok j k ≡ noTok
-    unfolding tokOk
+    unfolding tokOk newTok
     tok-blank j k f = go (in-or-off j n) (in-or-off k m)
       where
         at : j < n → k < m → T (t .used j) ⊎ (T (t .used j) → ⊥) → t .tok j k ≡ noTok
@@ -214,9 +211,17 @@ module _ (L : Layout) (lf : Full L) (l : List ℕ) (bytes : Bytes l) (len : leng
       abbrev need : ℕ → ℕ → ℕ
       need i j = rowAt L l (entryAt L Needs i j)
 
-      pair-ok : (i j : ℕ) → i < n → j < n → T (within (need i j) (call i j)) × T (within (call i j) (grant i j)) × T (grantOk L l (grant i j) i j)
-      unfolding linesOk lineOk pairOk
-      pair-ok i j h q = three (within (need i j) (call i j)) (within (call i j) (grant i j)) (grantOk L l (grant i j) i j) (below-in (pairOk L l i) n (below-in (lineOk L l) n lines i h) j q)
+      abbrev may : ℕ → ℕ → ℕ
+      may i j = cond (bit (usedRow L l) i) (provRow L l j) 0
+
+      line-ok : (i : ℕ) → i < n → T (every (λ j. rowsFit (need i j) (call i j) (grant i j) (may i j)) (upto n)) × T (eqb (grant i i) 0)
+      unfolding linesOk lineOk
+      line-ok i h = let o = below-in (lineOk L l) n lines i h in
+          let rows = every (λ j. rowsFit (need i j) (call i j) (grant i j) (may i j)) (upto n) in (and-l rows (eqb (grant i i) 0) o, and-r rows (eqb (grant i i) 0) o)
+
+      pair-ok : (i j : ℕ) → i < n → j < n → T (within (need i j) (call i j)) × T (within (call i j) (grant i j)) × T (within (grant i j) (may i j))
+      pair-ok i j h q = three (within (need i j) (call i j)) (within (call i j) (grant i j)) (within (grant i j) (may i j))
+          (below-in (λ j. rowsFit (need i j) (call i j) (grant i j) (may i j)) n (line-ok i h .0) j q)
 
       -- bit k of a row is one of a row that it is within
       within-bit : (a b k : ℕ) → T (within a b) → k < m → T (bit a k) → T (bit b k)
@@ -226,16 +231,19 @@ module _ (L : Layout) (lf : Full L) (l : List ℕ) (bytes : Bytes l) (len : leng
       Granted i j k = T (t .used i) × T (t .provides j k) × (i ≡ j → ⊥)
 
       grant-facts : (i j k : ℕ) → i < n → j < n → k < m → T (bit (grant i j) k) → Granted i j k
-      grant-facts i j k h q p s = go (or-e (eqb (grant i j) 0) (not (eqb i j) && bit (usedRow L l) i && within (grant i j) (provRow L l j)) (pair-ok i j h q .2))
+      grant-facts i j k h q p s =
+          let o = may-bit (bit (usedRow L l) i) (provRow L l j) (within-bit (grant i j) (may i j) k (pair-ok i j h q .2) p s) in (
+            subst T (sym (used-is L lf l bytes len i h)) (o .0),
+            subst T (sym (prov-is L lf l bytes len j k q p)) (o .1),
+            λ e. off (ap (grant i) (sym e) ∙ eqb→eq (grant i i) 0 (line-ok i h .1)) s,
+          )
         where
-          go : T (eqb (grant i j) 0) ⊎ T (not (eqb i j) && bit (usedRow L l) i && within (grant i j) (provRow L l j)) → Granted i j k
-          go (inl z) = absurd (false-T (bit-none k) (subst (λ (x : ℕ). T (bit x k)) (eqb→eq (grant i j) 0 z) s))
-          go (inr o) =
-              let a = three (not (eqb i j)) (bit (usedRow L l) i) (within (grant i j) (provRow L l j)) o in (
-                subst T (sym (used-is L lf l bytes len i h)) (a .1),
-                subst T (sym (prov-is L lf l bytes len j k q p)) (within-bit (grant i j) (provRow L l j) k (a .2) p s),
-                λ e. not-e (eqb i j) (a .0) (eqb-of e),
-              )
+          off : {x : ℕ} → x ≡ 0 → T (bit x k) → ⊥
+          off z b = false-T (bit-none k) (subst (λ (x : ℕ). T (bit x k)) z b)
+
+          may-bit : (b : Bool) (x : ℕ) → T (bit (cond b x 0) k) → T b × T (bit x k)
+          may-bit true x t = (tt, t)
+          may-bit false x t = absurd (off refl t)
 
       grants-facts : (i j k : ℕ) → T (grantBit t i j k) → Granted i j k
       grants-facts i j k s = let c = r .grants-in j i k s in grant-facts i j k (c .1) (c .0) (c .2) (subst T (grants-is L lf l bytes len j i k (c .0) (c .1) (c .2)) s)
@@ -273,14 +281,14 @@ module _ (L : Layout) (lf : Full L) (l : List ℕ) (bytes : Bytes l) (len : leng
     abbrev row : ℕ → List ℕ
     row q = partAt l (spot q) (w)
 
-    list-facts : (count ≤ L .capacity) × T (every (placeOk L l (L .early) k) (upto count)) × T (zerosAt l (spot count) ((L .capacity - count) * w))
+    list-facts : (count ≤ L .capacity) × T (every (placeOk L l (L .early) k) (upto count)) × T (rowsDiffer l (listAt L k) w count) × T (zerosAt l (spot count) ((L .capacity - count) * w))
     unfolding listOk
     list-facts =
-        let p = three (leb count (L .capacity)) (every (placeOk L l (L .early) k) (upto count)) (zerosAt l (spot count) ((L .capacity - count) * w)) ok in
-        (leb→le count (L .capacity) (p .0), p .1, p .2)
+        let p = four (leb count (L .capacity)) (every (placeOk L l (L .early) k) (upto count)) (rowsDiffer l (listAt L k) w count) (zerosAt l (spot count) ((L .capacity - count) * w)) ok in
+        (leb→le count (L .capacity) (p .0), p .1, p .2, p .3)
 
     row-ok : (q : ℕ) → q < count → T (rowOk L l (L .early) k (spot q)) × T (newRow l (listAt L k) (w) q)
-    row-ok q p = two (rowOk L l (L .early) k (spot q)) (newRow l (listAt L k) (w) q) (below-in (placeOk L l (L .early) k) count (list-facts .1) q p)
+    row-ok q p = (below-in (placeOk L l (L .early) k) count (list-facts .1) q p, below-in (newRow l (listAt L k) w) count (list-facts .2) q p)
 
     row-in : (q : ℕ) → q < count → spot q + w ≤ length l
     row-in q p = let a = list-end L l len k in let b = list-facts .0 in let c = row-ends q (L .capacity) (w) (omega arith) in omega arith
@@ -290,7 +298,7 @@ module _ (L : Layout) (lf : Full L) (l : List ℕ) (bytes : Bytes l) (len : leng
         let h = list-end L l len k in
         let q : L .capacity * w ≡ count * w + (L .capacity - count) * w =
         ap (λ (x : ℕ). x * w) (sym (add-sub-of-le (list-facts .0))) ∙ add-mul count (L .capacity - count) (w) in
-        zeros-part l (spot count) ((L .capacity - count) * w) (omega arith) (list-facts .2)
+        zeros-part l (spot count) ((L .capacity - count) * w) (omega arith) (list-facts .3)
 
     -- rows are read by f and written by g, back to themselves where they pass
     module _ {A : Type 0} (f : List ℕ → A) (g : A → List ℕ)

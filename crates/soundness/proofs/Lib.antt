@@ -8,3 +8,4 @@ pub mod Checked
 pub mod Passes
 pub mod Agree
 pub mod Tests
+pub mod Marks

@@ -26,7 +26,7 @@ use Rattle.geometry.specs.declared.Table.the-variants.{Calls, Grants, Needs}
 use Rattle.geometry.specs.declared.Kept.{Kept}
 use Rattle.geometry.specs.declared.Kept.the-variants.{UnmetCalls, WaitingGrants}
 use Rattle.soundness.specs.Check.{byteAt, partAt, zerosAt, sameAt, aidOk, within, rowAt, usedRow, provRow, numberAt, isTok, newTok, tokOk, toksOk, methodOk, methodsOk, newAid, blankOk, packageOk, packagesOk}
-use Rattle.soundness.specs.Check.{grantOk, pairOk, lineOk, linesOk, isUsed, isAid, server, unserved, tokenRowOk, isProvided, numberRowOk, rowSize, placeAt, countOf, rowOk, newRow, placeOk, listOk}
+use Rattle.soundness.specs.Check.{rowsFit, lineOk, linesOk, isUsed, isAid, server, unserved, tokenRowOk, isProvided, numberRowOk, rowSize, placeAt, countOf, rowOk, newRow, rowsDiffer, placeOk, listOk}
 use Rattle.soundness.proofs.Parts.{same-part, byte-zeros, part-zeros, Filled, filled-ok, blank-zeros}
 use Rattle.soundness.proofs.Decoded.{used-read, aid-read, tok-read, list-read}
 use Rattle.soundness.proofs.Encoded.{Bytes, writeGrant, list-parts, length-rows}
@@ -173,27 +173,28 @@ module _ (L : Layout) (lf : Full L) (l : List ℕ) (bytes : Bytes l) (len : leng
     granted : (k : ℕ) → k < m → T (bit grant k) → T (grantBit t i j k)
     granted k p s = subst T (sym (grants-is L lf l bytes len j i k q h p)) s
 
-    grant-ok : T (grantOk L l grant i j)
-    grant-ok = go (test (eqb i j)) (test (bit (usedRow L l) i))
-      where
-        rest : Bool
-        rest = not (eqb i j) && bit (usedRow L l) i && within grant (provRow L l j)
+    abbrev may : ℕ
+    may = cond (bit (usedRow L l) i) (provRow L l j) 0
 
-        none : ((k : ℕ) → k < m → T (bit grant k) → ⊥) → T (eqb grant 0 || rest)
-        none f = or-l (eqb grant 0) rest (eqb-of (row-zero grant grant-small f))
+    may-bit : (b : Bool) (x k : ℕ) → T b → T (bit x k) → T (bit (cond b x 0) k)
+    may-bit true x k u s = s
 
-        go : T (eqb i j) ⊎ (T (eqb i j) → ⊥) → T (bit (usedRow L l) i) ⊎ (T (bit (usedRow L l) i) → ⊥) → T (eqb grant 0 || rest)
-        go (inl e) _ = none (λ k p s. fo .grants .other i j k (granted k p s) (eqb→eq i j e))
-        go (inr f) (inl u) = or-r (eqb grant 0) rest (three-i (not (eqb i j)) (bit (usedRow L l) i) (within grant (provRow L l j)) (not-i (eqb i j) f) u
-            (within-all grant (provRow L l j) grant-small (λ k p s. subst T (prov-is L lf l bytes len j k q p) (fo .grants .of-prov i j k (granted k p s)))))
-        go (inr f) (inr g) = none (λ k p s. g (subst T (used-is L lf l bytes len i h) (fo .grants .by-used i j k (granted k p s))))
-
-    pair-ok : T (pairOk L l i j)
-    unfolding pairOk
-    pair-ok = three-i (within need call) (within call grant) (grantOk L l grant i j)
+    pair-ok : T (rowsFit need call grant may)
+    pair-ok = three-i (within need call) (within call grant) (within grant may)
         (within-all need call need-small (λ k p s. subst T (calls-is L lf l bytes len i j k h q p) (fo .need-call i j k (subst T (sym (needs-is L lf l bytes len i j k h q p)) s))))
         (within-all call grant call-small (λ k p s. subst T (grants-is L lf l bytes len j i k q h p) (la i j k (subst T (sym (calls-is L lf l bytes len i j k h q p)) s))))
-        grant-ok
+        (within-all grant may grant-small (λ k p s. may-bit (bit (usedRow L l) i) (provRow L l j) k (subst T (used-is L lf l bytes len i h) (fo .grants .by-used i j k (granted k p s)))
+        (subst T (prov-is L lf l bytes len j k q p) (fo .grants .of-prov i j k (granted k p s)))))
+
+    diagonal : i ≡ j → T (eqb grant 0)
+    diagonal e = eqb-of (row-zero grant grant-small (λ k p s. fo .grants .other i j k (granted k p s) e))
+
+  line-ok : (i : ℕ) → i < n → T (lineOk L l i)
+  unfolding lineOk
+  line-ok i h = and-i (every fits (upto n)) (eqb (rowAt L l (entryAt L Grants i i)) 0) (in-below fits n (λ j q. pair-ok i j h q)) (diagonal i i h h refl)
+    where
+      fits : ℕ → Bool
+      fits j = rowsFit (rowAt L l (entryAt L Needs i j)) (rowAt L l (entryAt L Calls i j)) (rowAt L l (entryAt L Grants j i)) (cond (bit (usedRow L l) i) (provRow L l j) 0)
 
   -- ---- lists
   -- a list's rows are read by f, and each is written as its AID and the rest
@@ -265,9 +266,10 @@ module _ (L : Layout) (lf : Full L) (l : List ℕ) (bytes : Bytes l) (len : leng
       list-ok : ((at : ℕ) → In (f (partAt l at w)) listed → write (f (partAt l at w)) ≡ partAt l at w → Filled (partAt l at 17) → T (aidOk l at) → T (rowOk L l (L .early) k at)) → T (listOk L l (L .early) k)
       unfolding listOk
       list-ok ok =
-          three-i (leb count (L .capacity)) (every (placeOk L l (L .early) k) (upto count)) (zerosAt l (spot count) ((L .capacity - count) * w))
+          four-i (leb count (L .capacity)) (every (placeOk L l (L .early) k) (upto count)) (rowsDiffer l (listAt L k) w count) (zerosAt l (spot count) ((L .capacity - count) * w))
           (le→leb count (L .capacity) count-fits)
-          (in-below (placeOk L l (L .early) k) count (λ q p. and-i (rowOk L l (L .early) k (spot q)) (newRow l (listAt L k) w q) (ok (spot q) (in-list q p) (rows-back .0 q p) (row-filled q p) (row-aid q p)) (new-row q p)))
+          (in-below (placeOk L l (L .early) k) count (λ q p. ok (spot q) (in-list q p) (rows-back .0 q p) (row-filled q p) (row-aid q p)))
+          (in-below (newRow l (listAt L k) w) count new-row)
           (part-zeros l (spot count) ((L .capacity - count) * w) (rows-back .1))
 
   -- ---- a row with tokens
@@ -381,10 +383,10 @@ module _ (L : Layout) (lf : Full L) (l : List ℕ) (bytes : Bytes l) (len : leng
       waiting-ok at fill ok (L .early) i (ap (writeGrant L (t .provides) (t .tok) (L .early)) (sym e) ∙ back) (λ late. ru .own late (grant-row at fill ok (L .early)) i))
 
   pub passes : T (packagesOk L l) × T (linesOk L l) × T (listOk L l (L .early) UnmetCalls) × T (listOk L l (L .early) WaitingGrants)
-  unfolding packagesOk linesOk lineOk
+  unfolding packagesOk linesOk
   passes = (
     in-below (packageOk L l) n package-ok,
-    in-below (lineOk L l) n (λ i h. in-below (pairOk L l i) n (λ j q. pair-ok i j h q)),
+    in-below (lineOk L l) n line-ok,
     unmets-ok,
     waitings-ok,
   )

@@ -1,29 +1,32 @@
 -- What the code's loops and branches have shown, as tests: `search tests` at each need.
 use Prim.Native.Nat.{ℕ, _+_, _*_, _-_, _^_, _≤_, _<_}
 use native.Mathlib.Omega.{arith}
-use native.Mathlib.Nat.{add-sub-cancel-left, add-sub-of-le, add-mul}
+use native.Mathlib.Nat.{add-sub-cancel-left, add-sub-of-le, add-mul, mul-le-mul-right}
 use native.Mathlib.Numerals.{add-one}
 use mathlib.Core.Path.{_≡_, refl, sym, ap, ap₂, _∙_, subst}
 use mathlib.Core.Logic.{inl, inr}
 use mathlib.Core.Bool.{Bool, true, false, not, _&&_, _||_, cond, and-true}
 use mathlib.Core.List.{List, [], _∷_, _++_}
-use lib.Dec.{T, eqb, leb, ltb, ltb→lt}
+use mathlib.Core.Option.{Option}
+use lib.Bits.{bitOr, or-add-and, and-le-l, and-le-r}
+use lib.Dec.{T, eqb, eqb→eq, leb, ltb, ltb→lt}
 use lib.ListN.{length, getD, take, drop}
 use lib.Seq.{take-suc, take-all}
 use borrow.Author.Tests.{not-true, not-false, lt-ltb, le-ltb, le-leb, lt-leb, eq-eqb, ne-eqb}
-use Rattle.policy.specs.Lists.{every, upto, eqBytes}
+use Rattle.policy.specs.Lists.{every, upto, orElse, eqBytes}
 use Rattle.policy.specs.Layout.{Layout, narrow, waitingAt, size}
 use Rattle.policy.specs.Tables.{bit}
-use Rattle.policy.proofs.Sets.{false-T, and-l}
+use Rattle.policy.proofs.Sets.{T-eq, false-T, and-l, and-r, and-i}
+use Rattle.policy.proofs.Equal.{eqb-of}
 use Rattle.policy.proofs.Pieces.{row-ends}
-use Rattle.bits.proofs.Loops.{every-append, early}
+use Rattle.bits.proofs.Loops.{every-append, early, first-ext}
 use Rattle.geometry.specs.declared.Card.{Card}
-use Rattle.geometry.specs.declared.Card.the-variants.{Small}
-use Rattle.geometry.specs.Geometry.{layoutOf, tokAt, listAt, rowSize as rowSizeOf, numberIn, tokensIn}
-use Rattle.geometry.proofs.Bounds.{row-wide, front}
+use Rattle.geometry.specs.declared.Card.the-variants.{Small, Large}
+use Rattle.geometry.specs.Geometry.{layoutOf, aidAt, tokAt, listAt, rowSize as rowSizeOf, numberIn, tokensIn}
+use Rattle.geometry.proofs.Bounds.{early as early-card, limits, row-wide, front}
 use Rattle.geometry.specs.declared.Kept.{Kept}
 use Rattle.geometry.specs.declared.Kept.the-variants.{UnmetCalls, WaitingGrants}
-use Rattle.soundness.specs.Check.{isZero, zerosAt, rowSize, listEnd, numbered, usedRow, numberAt, isUsed}
+use Rattle.soundness.specs.Check.{isZero, zerosAt, sameAt, rowSize, listEnd, numbered, usedRow, lowestAid, isAid, numberAt, isUsed}
 use Rattle.soundness.proofs.Lookup.{number-is, NumberIs}
 
 -- ---- what a branch tells of r, which a call ensures to be b
@@ -93,32 +96,66 @@ eqb-fell a b h = sym (ne-eqb a b h)
 pub eqb-is : {r p : ℕ} (m n : ℕ) → r ≡ m → p ≡ n → eqb r p ≡ eqb m n
 eqb-is m n e q = λ i. eqb (e i) (q i)
 
--- ---- a loop over a list's elements that gathers a flag
+-- ---- a loop over a list's elements that gathers its elements in one number: no bit is set where all are zero
+or-zero : (a b : ℕ) → eqb (bitOr a b) 0 ≡ eqb a 0 && eqb b 0
+or-zero a b = T-eq (eqb (bitOr a b) 0) (eqb a 0 && eqb b 0)
+    (λ t. let h = eqb→eq (bitOr a b) 0 t in
+    let p : a ≡ 0 = omega (arith, or-add-and a b, and-le-r a b) in
+    let q : b ≡ 0 = omega (arith, or-add-and a b, and-le-l a b) in and-i (eqb a 0) (eqb b 0) (eqb-of p) (eqb-of q))
+    (λ t. let h = eqb→eq a 0 (and-l (eqb a 0) (eqb b 0) t) in
+    let i = eqb→eq b 0 (and-r (eqb a 0) (eqb b 0) t) in
+    let p : bitOr a b ≡ 0 = omega (arith, or-add-and a b) in eqb-of p)
+
 module _ (f : ℕ → Bool) (l : List ℕ) where
   every-snoc : (p : List ℕ) (x : ℕ) → every f (p ++ (x ∷ [])) ≡ every f p && f x
   every-snoc p x = every-append f p (x ∷ []) ∙ ap (λ (b : Bool). every f p && b) (and-true (f x))
 
-  pub each-turn : (k : ℕ) {b r : Bool} → b ≡ every f (take k l) → k < length l → r ≡ f (getD l k 0) → b && r ≡ every f (take (k + 1) l)
+  each-turn : (k : ℕ) {b r : Bool} → b ≡ every f (take k l) → k < length l → r ≡ f (getD l k 0) → b && r ≡ every f (take (k + 1) l)
   each-turn k p h q = rw (add-one, take-suc l k 0) (ap₂ _&&_ p q ∙ sym (every-snoc (take k l) (getD l k 0)))
 
   pub each-end : (k : ℕ) {b : Bool} → b ≡ every f (take k l) → length l ≤ k → b ≡ every f l
   each-end k p h = p ∙ ap (every f) (take-all k l h)
+
+pub or-turn : (l : List ℕ) (k a : ℕ) → eqb a 0 ≡ every isZero (take k l) → k < length l → eqb (bitOr a (getD l k 0)) 0 ≡ every isZero (take (k + 1) l)
+or-turn l k a p h = or-zero a (getD l k 0) ∙ each-turn isZero l k p h refl
 
 -- the part from at to at + n
 pub zeros-of : (l : List ℕ) (at n : ℕ) {r : Bool} → r ≡ every isZero (take (at + n - at) (drop at l)) → r ≡ zerosAt l at n
 unfolding zerosAt
 zeros-of l at n e = rw (add-sub-cancel-left at n) at e
 
+-- ---- the AIDs of the packages stand one after another
+pub one-package : (c : Card) → 0 < layoutOf c .packages
+one-package Small = omega arith
+one-package Large = omega arith
+
+pub aids-len : (c : Card) (n m a : ℕ) → waitingAt (layoutOf c) ≤ n → a ≡ aidAt (layoutOf c) 0 → m ≡ layoutOf c .packages → (a + m * 17 ≤ n) × (m ≤ 16)
+aids-len c n m a e p q = (omega arith, omega (arith, limits c))
+
+pub number-from : (c : Card) (l : List ℕ) (at : ℕ) {a m r : ℕ} → a ≡ aidAt (layoutOf c) 0 → m ≡ layoutOf c .packages → r ≡ lowestAid l a m at → r ≡ numberAt (layoutOf c) l at
+unfolding numberAt
+number-from c l at p q e =
+    e ∙ (λ i. lowestAid l (p i) (q i) at)
+    ∙ ap (λ (o : Option ℕ). orElse o (layoutOf c .packages) (λ m. m)) (first-ext (λ m. sameAt l at (aidAt (layoutOf c) 0 + m * 17) 17) (isAid (layoutOf c) l at) (upto (layoutOf c .packages)) (λ m _. ap (λ (x : ℕ). sameAt l at x 17) (place m)))
+  where
+    place : (m : ℕ) → aidAt (layoutOf c) 0 + m * 17 ≡ aidAt (layoutOf c) m
+    place m = omega arith
+
 -- ---- the tokens of a package
 pub one-service : (c : Card) → 0 < layoutOf c .services
-one-service Small = omega arith
+one-service c = limits c .services-some
 
 -- the card's limit of method tokens, as the high byte of two
 pub methods-top : (c : Card) → 256 * layoutOf c .methods ≡ 2 ^ 15
 methods-top Small = refl
+methods-top Large = refl
 
 pub toks-len : (c : Card) (j n a s : ℕ) → waitingAt (layoutOf c) ≤ n → a ≡ tokAt (layoutOf c) j 0 → s ≡ layoutOf c .services → j < layoutOf c .packages → a + s * 2 ≤ n
 toks-len c j n a s e p q h = rw (q) (let i = row-ends j (layoutOf c .packages) (layoutOf c .services * 2) h in omega arith)
+
+-- ---- an entry of a table of n lines of n rows ends in it
+pub entry-ends : (n w i j : ℕ) → i < n → j < n → i * (n * w) + j * w + w ≤ n * (n * w)
+entry-ends n w i j h l = let a = row-ends i n (n * w) h in let b = row-ends j n w l in omega arith
 
 -- ---- rows of the lists
 pub row-low : (early : Bool) (k : Kept) → (19 ≤ rowSize early k) × (rowSize early k ≤ 20)
@@ -174,6 +211,11 @@ pub row-len : (c : Card) (early : Bool) (k : Kept) (r n a w : ℕ) → listEnd (
     → a + (1 + r * w) + w ≤ n
 row-len c early k r n a w e p q h = rw (q) (let i = row-ends r (layoutOf c .capacity) (rowSize early k) h in omega arith)
 
+-- the first n rows lie in it
+pub rows-len : (c : Card) (early : Bool) (k : Kept) (m n a w : ℕ) → listEnd (layoutOf c) early k ≤ n → a ≡ listAt (layoutOf c) k → w ≡ rowSize early k → m ≤ layoutOf c .capacity
+    → a + (1 + m * w) ≤ n
+rows-len c early k m n a w e p q h = rw (q) (let i = mul-le-mul-right (rowSize early k) h in omega arith)
+
 -- what is left of a list past row r
 pub rest-len : (c : Card) (early : Bool) (k : Kept) (r n a m w : ℕ) → listEnd (layoutOf c) early k ≤ n → a ≡ listAt (layoutOf c) k → m ≡ layoutOf c .capacity → w ≡ rowSize early k
     → r ≤ layoutOf c .capacity → a + (1 + r * w) + (m - r) * w ≤ n
@@ -184,7 +226,7 @@ rest-len c early k r n a m w e p q s h =
 
 -- an image ends with its waiting grants
 pub end-is : (c : Card) {n : ℕ} → n ≡ size (layoutOf c) → n ≡ listEnd (layoutOf c) true WaitingGrants
-end-is Small e = e
+end-is c e = rw (early-card c) at e
 
 -- ---- what is used is a package; what was found is one, or the number of packages
 pub used-in : (L : Layout) (l : List ℕ) (n : ℕ) {r : Bool} → r ≡ isUsed L l n → not r ≡ false → n < L .packages
@@ -214,7 +256,7 @@ head-is (a ∷ b ∷ c ∷ l) (x ∷ []) i e = absurd (omega arith)
 head-is (a ∷ b ∷ c ∷ l) (x ∷ y ∷ []) i e = absurd (omega arith)
 head-is (a ∷ b ∷ c ∷ l) (x ∷ y ∷ z ∷ w ∷ h) i e = absurd (omega arith)
 
-pub ruleset places = (toks-len, row-least, row-most, aid-len, number-len, tokens-len, front-len, count-len, row-len, rest-len, front)
+pub ruleset places = (toks-len, row-least, row-most, aid-len, number-len, tokens-len, front-len, count-len, row-len, rows-len, rest-len, front)
 
 pub ruleset tests = (and-fell, and-rest, and-held, or-held, or-rest, cond-held, cond-fell, not-held, not-fell, not-is, leb-held, leb-fell, ltb-held, ltb-fell, eqb-held, eqb-fell, eqb-is, fell, held, took, left)
 

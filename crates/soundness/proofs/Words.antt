@@ -3,7 +3,7 @@ use Prim.Native.Nat.{ℕ, zero, suc, _+_, _*_, _-_, _^_, _≤_, _<_}
 use native.Mathlib.Omega.{arith}
 use native.Mathlib.Nat.{pow-suc, pow-le-pow-right, lt-of-lt-of-le, zero-lt-suc}
 use mathlib.Core.Path.{_≡_, refl, sym, ap, ap₂, _∙_, subst}
-use mathlib.Core.Bool.{Bool, true, false, _&&_}
+use mathlib.Core.Bool.{Bool, true, false, not, _&&_}
 use mathlib.Core.List.{List, [], _∷_, _++_}
 use lib.Bits.{bitOr, or-lt, or-add-and, and-le-l, and-le-r}
 use lib.Dec.{eqb, eqb→eq, ltb, ltb→lt, lt→ltb}
@@ -11,6 +11,7 @@ use lib.ListN.{length, take, drop}
 use lib.Seq.{take-take}
 use Rattle.policy.specs.Lists.{every, upto, eqBytes}
 use Rattle.policy.specs.Layout.{Layout}
+use Rattle.policy.specs.Tables.{bit}
 use Rattle.policy.proofs.Sets.{T-eq, and-l, and-r, and-i, eqBytes→}
 use Rattle.policy.proofs.Equal.{eqAid-of, eqb-of}
 use Rattle.bits.proofs.Loops.{every-snoc}
@@ -112,6 +113,11 @@ module _ (l : List ℕ) (bytes : Bytes l) where
   unfolding sameAt
   same-number a b n h i e f =
       (λ z. eqb (e z) (f z)) ∙ little-eq (partAt l a n) (partAt l b n) (part-bytes l bytes a n) (part-bytes l bytes b n) (part-length l a n h ∙ sym (part-length l b n i))
+
+  -- the code's test of one service's tokens, of which t are others as a number
+  pub tok-same : (prov k a b : ℕ) → a + 2 ≤ length l → b + 2 ≤ length l → {t : ℕ} {r : Bool} → t ≡ little (partAt l a 2) → r ≡ bit prov k && eqb t (little (partAt l b 2))
+      → not r ≡ not (bit prov k && sameAt l a b 2)
+  tok-same prov k a b h i e f = ap not (f ∙ ap (λ (x : Bool). bit prov k && x) (same-number a b 2 h i e refl))
 
   -- two words, two words and a byte, and two words with a last four bytes that may begin in them
   module _ (a b : ℕ) {p q r s : ℕ} (ep : p ≡ little (partAt l a 8)) (eq : q ≡ little (partAt l b 8)) (er : r ≡ little (partAt l (a + 8) 8)) (es : s ≡ little (partAt l (b + 8) 8)) where

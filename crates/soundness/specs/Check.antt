@@ -1,14 +1,15 @@
 -- The check of an image, as code makes it: tests of its bytes, for the items of document 01, 'An image is sound when'.
-use Prim.Native.Nat.{ℕ, _+_, _*_, _-_}
-use mathlib.Core.Bool.{Bool, false, not, _&&_, _||_, cond}
+use Prim.Native.Nat.{ℕ, _+_, _*_, _-_, _%_}
+use mathlib.Core.Bool.{Bool, true, false, not, _&&_, _||_, cond}
 use mathlib.Core.List.{List, [], _∷_}
+use lib.Bits.{bitXor}
 use lib.Dec.{eqb, leb, ltb}
 use lib.ListN.{length, getD, take, drop}
 use Rattle.policy.specs.Lists.{implies, every, first, upto, orElse, eqBytes}
-use Rattle.policy.specs.Layout.{Layout, narrow, ahead, aidSize, unmetSize, waitingSize, usedAt, size}
+use Rattle.policy.specs.Layout.{Layout, narrow, ahead, aidSize, unmetSize, waitingSize, size}
+use Rattle.policy.specs.Layout.{usedAt, aidsAt, tokensAt, providesAt, callsAt, grantsAt, needsAt}
 use Rattle.policy.specs.Tables.{bit, readNumber}
-use Rattle.geometry.specs.Geometry.{aidAt, tokAt, provAt, entryAt, listAt, numberIn, tokensIn}
-use Rattle.geometry.specs.declared.Table.the-variants.{Calls, Grants, Needs}
+use Rattle.geometry.specs.Geometry.{aidAt, tokAt, provAt, listAt, numberIn, tokensIn}
 use Rattle.geometry.specs.declared.Kept.{Kept}
 use Rattle.geometry.specs.declared.Kept.the-variants.{UnmetCalls, WaitingGrants}
 
@@ -33,6 +34,13 @@ sameAt l a b n = eqBytes (partAt l a n) (partAt l b n)
 abbrev pub little : List ℕ → ℕ
 little [] = 0
 little (b ∷ bs) = b + 256 * little bs
+
+-- numbers below 64 by which code tells most tokens and most rows apart: of tokens as a number, and of the n bytes at at, by their last 16
+abbrev pub tokMark : ℕ → ℕ
+tokMark t = t % 61
+
+abbrev pub rowMark : List ℕ → ℕ → ℕ → ℕ
+rowMark l at n = bitXor (little (partAt l (at + (n - 16)) 8)) (little (partAt l (at + (n - 8)) 8)) % 59
 
 -- a valid AID, and zeros to the end of its place
 unfoldable pub aidOk : List ℕ → ℕ → Bool
@@ -59,6 +67,9 @@ otherRow l at w r q = not (sameAt l (placeOf at w r) (placeOf at w q) w)
 unfoldable pub newRow : List ℕ → ℕ → ℕ → ℕ → Bool
 newRow l at w r = every (otherRow l at w r) (upto r)
 
+abbrev pub rowsDiffer : List ℕ → ℕ → ℕ → ℕ → Bool
+rowsDiffer l at w n = every (newRow l at w) (upto n)
+
 -- row r of a card's list, and where its last place ends
 abbrev pub placeAt : Layout → Bool → Kept → ℕ → ℕ
 placeAt L early k r = placeOf (listAt L k) (rowSize early k) r
@@ -71,14 +82,58 @@ abbrev pub server : Kept → ℕ → ℕ → ℕ
 server UnmetCalls n own = n
 server WaitingGrants n own = own
 
+-- the lowest of the n AIDs from aids on that is the one at at; n where none is
+abbrev pub lowestAid : List ℕ → ℕ → ℕ → ℕ → ℕ
+lowestAid l aids n at = orElse (first (λ m. sameAt l at (aids + m * aidSize) aidSize) (upto n)) n (λ m. m)
+
+-- services of which the row prov has those provided, and whose tokens stand in the line of the table toks
+module _ (l : List ℕ) (toks line prov : ℕ) where
+  abbrev pub tokPlace : ℕ → ℕ
+  tokPlace k = toks + (line + k * 2)
+
+  -- service k has the tokens at at
+  abbrev pub hasTok : ℕ → ℕ → Bool
+  hasTok at k = bit prov k && sameAt l at (tokPlace k) 2
+
+  -- none of the first n has
+  abbrev pub noTok : ℕ → ℕ → Bool
+  noTok n at = every (λ k. not (hasTok at k)) (upto n)
+
+  -- the tokens of service k differ from those before it, if their mark was met, and are zero where it is not provided
+  abbrev pub tokFits : Bool → ℕ → Bool
+  tokFits met k = cond (bit prov k) (implies met (noTok k (tokPlace k))) (zerosAt l (tokPlace k) 2)
+
 -- each bit of row a is one of row b
 abbrev pub within : ℕ → ℕ → Bool
 within a b = every (λ k. implies (bit a k) (bit b k)) (upto 16)
 
+-- the row of bits in the w bytes at at
+abbrev pub rowIn : ℕ → List ℕ → ℕ → ℕ
+rowIn w l at = readNumber 0 (partAt l at w)
+
+-- needs are among the calls, calls among the grants, and grants among those that may be
+abbrev pub rowsFit : ℕ → ℕ → ℕ → ℕ → Bool
+rowsFit need call grant may = within need call && within call grant && within grant may
+
+-- the tables of n packages, with rows of w bytes, by where they stand
+module _ (l : List ℕ) (w n provs calls grants needs : ℕ) where
+  -- what callee j may grant to a caller: what it provides, if the caller is used
+  abbrev pub mayGrant : Bool → ℕ → ℕ
+  mayGrant used j = cond used (rowIn w l (provs + j * w)) 0
+
+  -- of a caller i, which is used or not, and callee j
+  abbrev pub pairFits : ℕ → Bool → ℕ → Bool
+  pairFits i used j = rowsFit (rowIn w l (needs + (i * (n * w) + j * w))) (rowIn w l (calls + (i * (n * w) + j * w)))
+      (rowIn w l (grants + (j * (n * w) + i * w))) (mayGrant used j)
+
+  -- and the diagonal is zero
+  abbrev pub lineFits : ℕ → Bool → Bool
+  lineFits i used = every (pairFits i used) (upto n) && eqb (rowIn w l (grants + (i * (n * w) + i * w))) 0
+
 module _ (L : Layout) (l : List ℕ) where
   -- a row of bits
   abbrev pub rowAt : ℕ → ℕ
-  rowAt at = readNumber 0 (partAt l at (L .width))
+  rowAt at = rowIn (L .width) l at
 
   abbrev pub usedRow : ℕ
   usedRow = rowAt (usedAt L)
@@ -92,21 +147,18 @@ module _ (L : Layout) (l : List ℕ) where
 
   -- the lowest package that has the AID at at; the number of packages where none has
   unfoldable pub numberAt : ℕ → ℕ
-  numberAt at = orElse (first (isAid at) (upto (L .packages))) (L .packages) (λ m. m)
+  numberAt at = lowestAid l (aidsAt L) (L .packages) at
 
   abbrev pub isTok : ℕ → ℕ → ℕ → Bool
-  isTok at j k = bit (provRow j) k && sameAt l at (tokAt L j k) 2
-
-  abbrev pub otherTok : ℕ → ℕ → ℕ → Bool
-  otherTok at j k = not (isTok at j k)
+  isTok at j k = hasTok l (tokensAt L) (j * (L .services * 2)) (provRow j) at k
 
   -- none of the first n services of package j has the tokens at at
   unfoldable pub newTok : ℕ → ℕ → ℕ → Bool
-  newTok n at j = every (otherTok at j) (upto n)
+  newTok n at j = noTok l (tokensAt L) (j * (L .services * 2)) (provRow j) n at
 
   -- ---- 'used AIDs are valid and differ; tokens provided by one package differ; every unused place, fill byte .. is zero'
   unfoldable pub tokOk : ℕ → ℕ → Bool
-  tokOk j k = cond (bit (provRow j) k) (newTok k (tokAt L j k) j) (zerosAt l (tokAt L j k) 2)
+  tokOk j k = tokFits l (tokensAt L) (j * (L .services * 2)) (provRow j) true k
 
   unfoldable pub toksOk : ℕ → Bool
   toksOk j = every (tokOk j) (upto (L .services))
@@ -135,17 +187,8 @@ module _ (L : Layout) (l : List ℕ) where
   -- ---- caller i, callee j: 'every unused .. row and column is zero; diagonals are zero; call and grant bits name provided services;
   -- needs are among call bits; the card is lawful'. Needs are among the calls, calls among the grants,
   -- and grants among the provided services, of which an unused callee has none
-  abbrev pub grantOk : ℕ → ℕ → ℕ → Bool
-  grantOk g i j = eqb g 0 || (not (eqb i j) && bit usedRow i && within g (provRow j))
-
-  unfoldable pub pairOk : ℕ → ℕ → Bool
-  pairOk i j =
-      let call = rowAt (entryAt L Calls i j) in
-      let grant = rowAt (entryAt L Grants j i) in
-      within (rowAt (entryAt L Needs i j)) call && within call grant && grantOk grant i j
-
   unfoldable pub lineOk : ℕ → Bool
-  lineOk i = every (pairOk i) (upto (L .packages))
+  lineOk i = lineFits l (L .width) (L .packages) (providesAt L) (callsAt L) (grantsAt L) (needsAt L) i (bit usedRow i)
 
   unfoldable pub linesOk : Bool
   linesOk = every lineOk (upto (L .packages))
@@ -182,11 +225,11 @@ module _ (L : Layout) (l : List ℕ) where
 
   module _ (early : Bool) (k : Kept) where
     abbrev pub placeOk : ℕ → Bool
-    placeOk r = rowOk early k (placeAt L early k r) && newRow l (listAt L k) (rowSize early k) r
+    placeOk r = rowOk early k (placeAt L early k r)
 
     unfoldable pub listOk : Bool
     listOk =
-        leb (countOf k) (L .capacity) && every placeOk (upto (countOf k))
+        leb (countOf k) (L .capacity) && every placeOk (upto (countOf k)) && rowsDiffer l (listAt L k) (rowSize early k) (countOf k)
         && zerosAt l (placeAt L early k (countOf k)) ((L .capacity - countOf k) * rowSize early k)
 
   -- ---- the whole, by its version's first bytes and rules; its length too; and by those of L

@@ -1,19 +1,22 @@
 // Bytes of an image: zeros, the same bytes, and the place of an AID.
 ghost use mathlib.Core.Path.{_≡_};
 ghost use Prim.Native.Nat.{_+_, _≤_, _<_};
+ghost use mathlib.Core.Bool.{_||_};
+ghost use lib.Dec.{eqb};
 ghost use lib.ListN.{length};
+ghost use Rattle.policy.specs.Tables.{bit, rowOf};
 ghost use Rattle.policy.specs.Lists.{every};
-ghost use Rattle.soundness.specs.Check.{partAt, isZero, zerosAt, sameAt, little, aidOk};
+ghost use Rattle.soundness.specs.Check.{partAt, isZero, zerosAt, sameAt, little, rowMark, aidOk};
 
 // Every byte is zero.
 fn zeros(part: &[u8]) -> bool
     ensures { λ r. ⌜ r ≡ every isZero (now (part .entry)) ⌝ }
 {
-    let mut ok = true;
+    let mut all: u8 = 0;
     for k in 0..part.len() {
-        ok = ok & (part[k] == 0);
+        all = all | part[k];
     }
-    ok
+    all == 0
 }
 
 // The n bytes from at on are zero.
@@ -90,4 +93,28 @@ pub fn aid_ok(img: &[u8], at: usize) -> bool
     }
     let rest = 16 - n;
     zeros_at(img, at + (1 + n), rest)
+}
+
+// The mark of the n bytes at at.
+pub fn row_mark(img: &[u8], at: usize, n: usize) -> usize
+    requires { ⌜ (16 ≤ n) × (at + n ≤ length (now img)) ⌝ }
+    ensures { λ r. ⌜ r ≡ rowMark (now (img .entry)) at n ⌝ }
+{
+    ((word(img, at + (n - 16)) ^ word(img, at + (n - 8))) % 59) as usize
+}
+
+// Mark h is among those in seen.
+pub fn has_mark(seen: u64, h: usize) -> bool
+    requires { ⌜ h < 64 ⌝ }
+    ensures { λ r. ⌜ r ≡ bit seen h ⌝ }
+{
+    (seen >> h) & 1 == 1
+}
+
+// Those in seen, and mark h.
+pub fn with_mark(seen: u64, h: usize) -> u64
+    requires { ⌜ h < 64 ⌝ }
+    ensures { λ r. ⌜ r ≡ rowOf 64 (λ j. eqb j h || bit seen j) ⌝ }
+{
+    seen | (1 << h)
 }

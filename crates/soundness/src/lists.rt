@@ -3,12 +3,12 @@ ghost use mathlib.Core.Path.{_≡_};
 ghost use mathlib.Core.Bool.{true, false};
 ghost use Prim.Native.Nat.{_+_, _*_, _-_, _≤_, _<_};
 ghost use lib.ListN.{length, getD};
-ghost use Rattle.policy.specs.Lists.{every, upto};
+ghost use Rattle.policy.specs.Lists.{implies, every, upto};
 ghost use Rattle.policy.specs.Layout.{waitingAt};
-ghost use Rattle.geometry.specs.Geometry.{layoutOf};
+ghost use Rattle.geometry.specs.Geometry.{layoutOf, listAt};
 ghost use Rattle.geometry.specs.declared.Kept.the-variants.{WaitingGrants};
 ghost use Rattle.soundness.specs.Check.{zerosAt, rowSize, numbered as isNumbered, placeAt, listEnd, isUsed, unserved as unservedBy};
-ghost use Rattle.soundness.specs.Check.{tokenRowOk, isProvided, numberRowOk, rowOk, newRow, placeOk, listOk};
+ghost use Rattle.soundness.specs.Check.{tokenRowOk, isProvided, numberRowOk, rowOk, newRow, rowsDiffer, placeOk, listOk};
 use crate::bytes;
 use crate::packages;
 use geometry::Card;
@@ -44,10 +44,9 @@ fn unserved(img: &[u8], c: Card, k: Kept, at: usize, own: usize, n: usize) -> bo
     if n == own {
         return false;
     }
-    let m = geometry::services(c);
     match k {
-        Kept::UnmetCalls => packages::new_tok(img, c, m, at, n),
-        Kept::WaitingGrants => packages::new_tok(img, c, m, at, own),
+        Kept::UnmetCalls => packages::new_tok(img, c, at, n),
+        Kept::WaitingGrants => packages::new_tok(img, c, at, own),
     }
 }
 
@@ -146,16 +145,49 @@ fn new_row(img: &[u8], at: usize, w: usize, r: usize) -> bool
     true
 }
 
+// The same where the mark of row r was met; a row with a new mark is new.
+fn row_new(img: &[u8], at: usize, w: usize, r: usize, met: bool) -> bool
+    requires { ⌜ (16 ≤ w) × (w ≤ 20) × (at + (1 + r * w) + w ≤ length (now img)) ⌝ }
+    ensures { λ x. ⌜ x ≡ implies met (newRow (now (img .entry)) at w r) ⌝ }
+{
+    if !met {
+        return true;
+    }
+    new_row(img, at, w, r)
+}
+
+// No two of the first n rows of w bytes after the count at at are the same: compared only where a mark was met.
+fn rows_differ(img: &[u8], at: usize, w: usize, n: usize) -> bool
+    requires { ⌜ (16 ≤ w) × (w ≤ 20) × (at + (1 + n * w) ≤ length (now img)) ⌝ }
+    ensures { λ x. ⌜ x ≡ rowsDiffer (now (img .entry)) at w n ⌝ }
+{
+    let mut seen: u64 = 0;
+    for r in 0..n {
+        let h = bytes::row_mark(img, at + (1 + r * w), w);
+        if !row_new(img, at, w, r, bytes::has_mark(seen, h)) {
+            return false;
+        }
+        seen = bytes::with_mark(seen, h);
+    }
+    true
+}
+
+fn differ_ok(img: &[u8], c: Card, k: Kept, early: bool, n: usize) -> bool
+    requires { ⌜ (listEnd (layoutOf c) early k ≤ length (now img)) × (n ≤ layoutOf c .capacity) ⌝ }
+    ensures { λ x. ⌜ x ≡ rowsDiffer (now (img .entry)) (listAt (layoutOf c) k) (rowSize early k) n ⌝ }
+{
+    let at = geometry::list_at(c, k);
+    let w = row_size(c, k, early);
+    rows_differ(img, at, w, n)
+}
+
 fn place_ok(img: &[u8], c: Card, k: Kept, early: bool, r: usize) -> bool
     requires { ⌜ (listEnd (layoutOf c) early k ≤ length (now img)) × (r < layoutOf c .capacity) ⌝ }
     ensures { λ x. ⌜ x ≡ placeOk (layoutOf c) (now (img .entry)) early k r ⌝ }
 {
     let at = geometry::list_at(c, k);
     let w = row_size(c, k, early);
-    if !row_ok(img, c, k, early, at + (1 + r * w)) {
-        return false;
-    }
-    new_row(img, at, w, r)
+    row_ok(img, c, k, early, at + (1 + r * w))
 }
 
 // Each of the first n rows.
@@ -191,6 +223,9 @@ pub fn list_ok(img: &[u8], c: Card, k: Kept, early: bool) -> bool
         return false;
     }
     if !places_ok(img, c, k, early, n) {
+        return false;
+    }
+    if !differ_ok(img, c, k, early, n) {
         return false;
     }
     rest_ok(img, c, k, early, n)

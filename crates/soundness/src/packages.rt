@@ -1,11 +1,15 @@
 // Packages: AIDs that are valid and differ, tokens that are in range and differ, and zeros where no package or service stands.
 ghost use mathlib.Core.Path.{_≡_};
-ghost use Prim.Native.Nat.{_+_, _≤_, _<_};
+ghost use Prim.Native.Nat.{_+_, _*_, _≤_, _<_};
+ghost use mathlib.Core.Bool.{true, _&&_};
+ghost use lib.Dec.{eqb};
 ghost use lib.ListN.{length};
+ghost use Rattle.policy.specs.Lists.{every, upto};
 ghost use Rattle.policy.specs.Layout.{waitingAt};
 ghost use Rattle.policy.specs.Tables.{bit};
 ghost use Rattle.geometry.specs.Geometry.{layoutOf};
-ghost use Rattle.soundness.specs.Check.{otherTok, numberAt, newTok, methodsOk, tokOk, toksOk};
+ghost use Rattle.soundness.specs.Check.{partAt, little, tokMark, lowestAid, noTok, tokFits};
+ghost use Rattle.soundness.specs.Check.{numberAt, newTok, methodsOk, toksOk};
 ghost use Rattle.soundness.specs.Check.{blankOk, packageOk, packagesOk, usedRow, provRow};
 use crate::bytes;
 use geometry::Card;
@@ -34,69 +38,114 @@ pub fn provides(img: &[u8], c: Card, j: usize, k: usize) -> bool
     bits::has_bit(prov_row(img, c, j), k)
 }
 
-// The lowest package that has the AID at at; the number of packages where none has.
-pub fn number_of(img: &[u8], c: Card, at: usize) -> usize
-    requires { ⌜ (waitingAt (layoutOf c) ≤ length (now img)) × (at + 17 ≤ length (now img)) ⌝ }
-    ensures { λ r. ⌜ r ≡ numberAt (layoutOf c) (now (img .entry)) at ⌝ }
+// The lowest of the n AIDs from aids on that is the one at at; n where none is.
+fn lowest_aid(img: &[u8], aids: usize, n: usize, at: usize) -> usize
+    requires { ⌜ (at + 17 ≤ length (now img)) × (aids + n * 17 ≤ length (now img)) × (n ≤ 16) ⌝ }
+    ensures { λ r. ⌜ r ≡ lowestAid (now (img .entry)) aids n at ⌝ }
 {
-    let n = geometry::packages(c);
     for m in 0..n {
-        if bytes::same_aid(img, at, geometry::aid_at(c, m)) {
+        if bytes::same_aid(img, at, aids + m * 17) {
             return m;
         }
     }
     n
 }
 
-// Service k of package j has not the tokens at at.
-fn other_tok(img: &[u8], c: Card, at: usize, j: usize, k: usize) -> bool
-    requires { ⌜ (waitingAt (layoutOf c) ≤ length (now img)) × (at + 2 ≤ length (now img))
-        × (j < layoutOf c .packages) × (k < layoutOf c .services) ⌝ }
-    ensures { λ r. ⌜ r ≡ otherTok (layoutOf c) (now (img .entry)) at j k ⌝ }
+// The lowest package that has the AID at at; the number of packages where none has.
+pub fn number_of(img: &[u8], c: Card, at: usize) -> usize
+    requires { ⌜ (waitingAt (layoutOf c) ≤ length (now img)) × (at + 17 ≤ length (now img)) ⌝ }
+    ensures { λ r. ⌜ r ≡ numberAt (layoutOf c) (now (img .entry)) at ⌝ }
 {
-    if !provides(img, c, j, k) {
-        return true;
-    }
-    bytes::pair(img, at) != bytes::pair(img, geometry::tok_at(c, j, k))
+    let aids = geometry::aid_at(c, 0);
+    let n = geometry::packages(c);
+    lowest_aid(img, aids, n, at)
 }
 
-// None of the first n services of package j has the tokens at at.
-pub fn new_tok(img: &[u8], c: Card, n: usize, at: usize, j: usize) -> bool
-    requires { ⌜ (waitingAt (layoutOf c) ≤ length (now img)) × (n ≤ layoutOf c .services)
-        × (at + 2 ≤ length (now img)) × (j < layoutOf c .packages) ⌝ }
-    ensures { λ r. ⌜ r ≡ newTok (layoutOf c) (now (img .entry)) n at j ⌝ }
+// Service k is among those in prov, and the tokens t, as a number, stand at at.
+fn has_tok(img: &[u8], prov: u16, k: usize, t: u16, at: usize) -> bool
+    requires { ⌜ (k < 16) × (at + 2 ≤ length (now img)) ⌝ }
+    ensures { λ r. ⌜ r ≡ bit prov k && eqb t (little (partAt (now (img .entry)) at 2)) ⌝ }
 {
+    if !bits::has_bit(prov, k) {
+        return false;
+    }
+    t == bytes::pair(img, at)
+}
+
+// None of the first n services of those in prov, whose tokens stand in the line of the table toks, has the tokens at at.
+fn no_tok(img: &[u8], toks: usize, line: usize, prov: u16, n: usize, at: usize) -> bool
+    requires { ⌜ (toks + (line + n * 2) ≤ length (now img)) × (n ≤ 16) × (at + 2 ≤ length (now img)) ⌝ }
+    ensures { λ r. ⌜ r ≡ noTok (now (img .entry)) toks line prov n at ⌝ }
+{
+    let t = bytes::pair(img, at);
     for k in 0..n {
-        if !other_tok(img, c, at, j, k) {
+        if has_tok(img, prov, k, t, toks + (line + k * 2)) {
             return false;
         }
     }
     true
 }
 
-// Tokens are new where the service is provided, and zero where it is not.
-fn tok_ok(img: &[u8], c: Card, j: usize, k: usize) -> bool
-    requires { ⌜ (waitingAt (layoutOf c) ≤ length (now img)) × (j < layoutOf c .packages) × (k < layoutOf c .services) ⌝ }
-    ensures { λ r. ⌜ r ≡ tokOk (layoutOf c) (now (img .entry)) j k ⌝ }
+// None of the services of package j has the tokens at at.
+pub fn new_tok(img: &[u8], c: Card, at: usize, j: usize) -> bool
+    requires { ⌜ (waitingAt (layoutOf c) ≤ length (now img)) × (at + 2 ≤ length (now img)) × (j < layoutOf c .packages) ⌝ }
+    ensures { λ r. ⌜ r ≡ newTok (layoutOf c) (now (img .entry)) (layoutOf c .services) at j ⌝ }
 {
-    let at = geometry::tok_at(c, j, k);
-    if provides(img, c, j, k) {
-        return new_tok(img, c, k, at, j);
+    let prov = prov_row(img, c, j);
+    match c {
+        Card::Small => no_tok(img, 140, j * 16, prov, 8, at),
+        Card::Large => no_tok(img, 277, j * 32, prov, 16, at),
     }
-    bytes::zeros_at(img, at, 2)
+}
+
+// The tokens of service k differ from those before it, if their mark was met, and are zero where it is not provided.
+fn tok_fits(img: &[u8], toks: usize, line: usize, prov: u16, k: usize, met: bool) -> bool
+    requires { ⌜ (k < 16) × (toks + (line + (k + 1) * 2) ≤ length (now img)) ⌝ }
+    ensures { λ r. ⌜ r ≡ tokFits (now (img .entry)) toks line prov met k ⌝ }
+{
+    let at = toks + (line + k * 2);
+    if !bits::has_bit(prov, k) {
+        return bytes::zeros_at(img, at, 2);
+    }
+    if !met {
+        return true;
+    }
+    no_tok(img, toks, line, prov, k, at)
+}
+
+// The mark of the tokens at at.
+fn tok_mark(img: &[u8], at: usize) -> usize
+    requires { ⌜ at + 2 ≤ length (now img) ⌝ }
+    ensures { λ r. ⌜ r ≡ tokMark (little (partAt (now (img .entry)) at 2)) ⌝ }
+{
+    bytes::pair(img, at) as usize % 61
+}
+
+// The tokens of the first n services, with the marks of those before in seen: only tokens whose mark was met are compared.
+fn toks_fit(img: &[u8], toks: usize, line: usize, prov: u16, n: usize) -> bool
+    requires { ⌜ (toks + (line + n * 2) ≤ length (now img)) × (n ≤ 16) ⌝ }
+    ensures { λ r. ⌜ r ≡ every (tokFits (now (img .entry)) toks line prov true) (upto n) ⌝ }
+{
+    let mut seen: u64 = 0;
+    for k in 0..n {
+        let h = tok_mark(img, toks + (line + k * 2));
+        if !tok_fits(img, toks, line, prov, k, bytes::has_mark(seen, h)) {
+            return false;
+        }
+        seen = bytes::with_mark(seen, h);
+    }
+    true
 }
 
 fn toks_ok(img: &[u8], c: Card, j: usize) -> bool
     requires { ⌜ (waitingAt (layoutOf c) ≤ length (now img)) × (j < layoutOf c .packages) ⌝ }
     ensures { λ r. ⌜ r ≡ toksOk (layoutOf c) (now (img .entry)) j ⌝ }
 {
-    let n = geometry::services(c);
-    for k in 0..n {
-        if !tok_ok(img, c, j, k) {
-            return false;
-        }
+    let prov = prov_row(img, c, j);
+    match c {
+        Card::Small => toks_fit(img, 140, j * 16, prov, 8),
+        Card::Large => toks_fit(img, 277, j * 32, prov, 16),
     }
-    true
 }
 
 // The method tokens of package j are below the card's limit. The limit is a power of 2,

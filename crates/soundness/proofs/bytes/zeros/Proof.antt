@@ -1,19 +1,20 @@
 -- `bytes::zeros` meets its contract.
 use mathlib.Core.Path.{_≡_}
 use Prim.Native.Nat.{_≤_, _-_}
+use lib.Dec.{eqb}
 use lib.ListN.{length, take}
 use borrow.Author.Needs.{needs}
 use Rattle.policy.specs.Lists.{every}
 use Rattle.soundness.specs.Check.{isZero}
-use Rattle.soundness.proofs.Tests.{each-turn, each-end}
+use Rattle.soundness.proofs.Tests.{or-turn, each-end}
 use Rattle.soundness.proofs.bytes.zeros.Statement.{statement}
 use Rattle.soundness.proofs.bytes.zeros.Tie as tie
 
 abbrev Inv-loop : tie.InvT-loop
-Inv-loop part ok₀ k₀ k-end ok k = (k ≤ length part) × (ok ≡ every isZero (take k part))
+Inv-loop part all₀ k₀ k-end all k = (k ≤ length part) × (eqb all 0 ≡ every isZero (take k part))
 
 abbrev μ-loop : tie.MeasureT-loop
-μ-loop part ok₀ k₀ k-end ok k = length part - k
+μ-loop part all₀ k₀ k-end all k = length part - k
 
 pub zeros-spec : {M : Type 1} → statement M
 zeros-spec =
@@ -23,5 +24,5 @@ zeros-spec =
     (λ c. search needs)
     (λ c. search needs)
     (λ c. search needs)
-    (λ c. search (each-turn, needs))
+    (λ c. search (or-turn, needs))
     (λ c. search (each-end, needs)))

@@ -1,20 +1,14 @@
 -- `lines::pair_ok` meets its contract.
-use Rattle.soundness.specs.Check.{pairOk}
-use Rattle.soundness.proofs.Tests.{places, tests}
+use borrow.Author.Needs.{needs}
 use Rattle.soundness.proofs.lines.pair_ok.Statement.{statement}
 use Rattle.soundness.proofs.lines.pair_ok.Tie as tie
 
 pub pair-ok-spec : {M : Type 1} → statement M
-unfolding pairOk
 pair-ok-spec =
     tie.close
     (tie.spec
-    (λ c κs. search places)
-    (λ c κs. search places)
-    (λ c κs. search places)
-    (λ c κs. search places)
-    (λ c. rw (← c .before .before .before .before .entry .ensures, ← c .before .before .before .entry2 .ensures, ← c .before .before .entry3 .ensures) (search tests))
-    (λ c κs. search places)
-    (λ c. rw (← c .before .before .before .before .before .before .entry .ensures, ← c .before .before .before .before .before .entry2 .ensures, ← c .before .before .before .before .entry3 .ensures) (search tests))
-    (λ c κs. search places)
-    (λ c. rw (← c .before .before .before .before .before .before .before .entry .ensures, ← c .before .before .before .before .before .before .entry2 .ensures, ← c .before .before .before .before .before .entry3 .ensures) (search tests)))
+    (λ c κs. search needs)
+    (λ c κs. search needs)
+    (λ c κs. search needs)
+    (λ c κs. search needs)
+    (λ c. rw (← c .before .before .before .number-at .ensures, ← c .before .before .number-at2 .ensures, ← c .before .number-at3 .ensures) (c .rows-fit .ensures)))

@@ -21,6 +21,8 @@ list-ok-spec =
     (λ c κs. search places)
     (λ c. let p = rw (c .before .before .before .before .before .list-at .ensures) at (c .before .before .before .before .byte .ensures) in rw (← p) (search tests))
     (λ c κs. search places)
-    (λ c. let p = rw (c .before .before .before .before .before .before .list-at .ensures) at (c .before .before .before .before .before .byte .ensures) in
-    let h : c .before .before .before .before .before .byte .result ≤ layoutOf (c .before .before .before .before .before .before .before .before .args .c) .capacity = omega arith in
+    (λ c. let p = rw (c .before .before .before .before .before .before .before .list-at .ensures) at (c .before .before .before .before .before .before .byte .ensures) in rw (← p) (search tests))
+    (λ c κs. search places)
+    (λ c. let p = rw (c .before .before .before .before .before .before .before .before .list-at .ensures) at (c .before .before .before .before .before .before .before .byte .ensures) in
+    let h : c .before .before .before .before .before .before .before .byte .result ≤ layoutOf (c .before .before .before .before .before .before .before .before .before .before .args .c) .capacity = omega arith in
     rw (← p) (search tests)))

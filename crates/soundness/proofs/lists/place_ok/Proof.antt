@@ -1,6 +1,6 @@
 -- `lists::place_ok` meets its contract.
 use lib.ListN.{length}
-use Rattle.soundness.proofs.Tests.{places, tests, row-len}
+use Rattle.soundness.proofs.Tests.{places, row-len}
 use Rattle.soundness.proofs.lists.place_ok.Statement.{statement}
 use Rattle.soundness.proofs.lists.place_ok.Tie as tie
 
@@ -22,6 +22,4 @@ place-ok-spec =
     (λ c κs. let s = c .before .before .before in let a = s .args in
     let h = row-len (a .c) (a .early) (a .k) (a .r) (length (a .img .now)) (c .before .list-at .result) (c .row-size .result) (s .pre .0) (c .before .list-at .ensures) (c .row-size .ensures) (s .pre .1) in
     search places)
-    (λ c. rw (← c .before .before .before .list-at .ensures, ← c .before .before .row-size .ensures) (search tests))
-    (λ c κs. search places)
-    (λ c. rw (← c .before .before .before .before .list-at .ensures, ← c .before .before .before .row-size .ensures) (search tests)))
+    (λ c. rw (← c .before .before .list-at .ensures, ← c .before .row-size .ensures) (c .row-ok .ensures)))

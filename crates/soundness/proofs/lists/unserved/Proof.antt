@@ -15,16 +15,13 @@ unserved-spec =
     let h : a .n ≡ layoutOf (a .c) .packages = omega arith in search tests)
     (λ c. let a = c .before .before .before .before .args in
     let h : a .n ≡ layoutOf (a .c) .packages → ⊥ = λ e. c .before .if1 .left (e ∙ sym (c .before .before .packages .ensures)) in search tests)
-    (λ c κs. search places)
     (λ c. search places)
     (λ c κs. search places)
     (λ c. search places)
     (λ c κs. search places)
-    (λ c. let a = c .before .before .before .before .before .before .before .before .args in
-    let h : a .n ≡ layoutOf (a .c) .packages → ⊥ = λ e. c .before .before .before .before .before .if1 .left (e ∙ sym (c .before .before .before .before .before .before .packages .ensures)) in
-    let e = rw (c .before .before .before .services .ensures) at (c .new-tok .ensures) in
+    (λ c. let a = c .before .before .before .before .before .before .before .args in
+    let h : a .n ≡ layoutOf (a .c) .packages → ⊥ = λ e. c .before .before .before .before .if1 .left (e ∙ sym (c .before .before .before .before .before .packages .ensures)) in
     rw (c .before .enum-told .given .1) (search tests))
-    (λ c. let a = c .before .before .before .before .before .before .before .before .args in
-    let h : a .n ≡ layoutOf (a .c) .packages → ⊥ = λ e. c .before .before .before .before .before .if1 .left (e ∙ sym (c .before .before .before .before .before .before .packages .ensures)) in
-    let e = rw (c .before .before .before .services .ensures) at (c .new-tok2 .ensures) in
+    (λ c. let a = c .before .before .before .before .before .before .before .args in
+    let h : a .n ≡ layoutOf (a .c) .packages → ⊥ = λ e. c .before .before .before .before .if1 .left (e ∙ sym (c .before .before .before .before .before .packages .ensures)) in
     rw (c .before .enum-told2 .given .1) (search tests)))

@@ -1,32 +1,16 @@
 -- `packages::number_of` meets its contract.
-use mathlib.Core.Path.{_≡_}
-use mathlib.Core.Option.{none}
-use Prim.Native.Nat.{_≤_, _-_}
-use Rattle.policy.specs.Lists.{first, upto}
-use Rattle.bits.proofs.Loops.{early}
-use Rattle.geometry.specs.Geometry.{layoutOf}
-use Rattle.geometry.proofs.Bounds.{front}
-use Rattle.soundness.specs.Check.{isAid, numberAt}
+use lib.ListN.{length}
+use borrow.Author.Needs.{needs}
+use Rattle.soundness.proofs.Tests.{one-package, aids-len, number-from}
 use Rattle.soundness.proofs.packages.number_of.Statement.{statement}
 use Rattle.soundness.proofs.packages.number_of.Tie as tie
 
-abbrev Inv-loop : tie.InvT-loop
-Inv-loop img c at n m₀ m = (m ≤ n) × (first (isAid (layoutOf c) img at) (upto m) ≡ none)
-
-abbrev μ-loop : tie.MeasureT-loop
-μ-loop img c at n m₀ m = n - m
-
 pub number-of-spec : {M : Type 1} → statement M
-unfolding numberAt
 number-of-spec =
     tie.close
-    (tie.spec Inv-loop μ-loop
-    (λ c κs. search (early, front))
-    (λ c. search (early, front))
-    (λ c κs. search (early, front))
-    (λ c κs. search (early, front))
-    (λ c. let e = rw (c .before .before .aid-at .ensures) at (c .before .same-aid .ensures) in search (early, front))
-    (λ c. search (early, front))
-    (λ c. search (early, front))
-    (λ c. let e = rw (c .before .before .aid-at .ensures) at (c .before .same-aid .ensures) in search (early, front))
-    (λ c. search (early, front)))
+    (tie.spec
+    (λ c κs. one-package (c .before .args .c))
+    (λ c κs. search needs)
+    (λ c κs. let s = c .before .before .before in let a = s .args in
+    let h = aids-len (a .c) (length (a .img .now)) (c .packages .result) (c .before .aid-at .result) (s .pre .0) (c .before .aid-at .ensures) (c .packages .ensures) in (s .pre .1, h .0, h .1))
+    (λ c. let a = c .before .before .before .before .args in number-from (a .c) (a .img .now) (a .at) (c .before .before .aid-at .ensures) (c .before .packages .ensures) (c .lowest-aid .ensures)))
