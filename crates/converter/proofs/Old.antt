@@ -1,42 +1,34 @@
 -- A sound image of version 01: where its waiting grants stand, and its image in version 02, byte for byte.
 use Prim.Native.Nat.{ℕ, _+_, _*_, _-_, _≤_, _<_}
 use native.Mathlib.Omega.{arith}
-use mathlib.Core.Path.{_≡_, refl, sym, ap, ap₂, _∙_, subst}
+use mathlib.Core.Path.{_≡_, sym, ap, ap₂, _∙_, subst}
 use mathlib.Core.Bool.{Bool, _&&_}
 use mathlib.Core.Option.{Option, none, some}
 use mathlib.Core.List.{List, [], _∷_, _++_, map, append-assoc}
 use mathlib.Core.List.{List·Memᴰ as In}
 use lib.Dec.{T}
 use lib.ListN.{length, getD, take, drop, replicate, length-append, length-map, length-drop}
-use lib.Seq.{take-at, drop-at, drop-drop, take-suc, take-take, getD-drop, getD-append-add}
+use lib.Seq.{take-at, drop-drop, take-suc, take-take, getD-drop, getD-append-add}
 use Rattle.policy.specs.Lists.{flat, upto, first, orElse}
 use Rattle.policy.specs.Contract.{eqTok}
-use Rattle.policy.specs.Layout.{narrow, small, size}
-use Rattle.policy.specs.Tables.{Tables, Waiting, writeAid, readTok, writeTok, numberWith, readWaiting, writeWaiting, writeList, decode}
+use Rattle.policy.specs.Layout.{narrow, small}
+use Rattle.policy.specs.Tables.{Tables, Waiting, writeAid, writeTok, numberWith, readWaiting, writeWaiting, writeList, decode}
 use Rattle.policy.specs.Sound.{sound}
 use Rattle.policy.specs.Eras.{carried}
 use Rattle.policy.proofs.Sets.{Found, found, in-map, in-upto, upto-in, length-from, flat-ext, flat-map}
 use Rattle.policy.proofs.Pieces.{piece-part, piece-at, valid-short, length-aid, length-waiting}
-use Rattle.policy.proofs.RoundTrip.{formed-room, front, front-encode, length-front}
-use Rattle.policy.proofs.SoundFacts.{sound-sized, sound-written, sound-formed, sound-ruled, sound-fitting}
+use Rattle.policy.proofs.SoundFacts.{sound-sized, sound-formed, sound-fitting}
 use Rattle.policy.proofs.Theorems.{narrow-ok, converted-bytes}
-use Rattle.geometry.specs.Geometry.{layoutOf, placeAt}
-use Rattle.geometry.specs.declared.Card.{Card}
-use Rattle.geometry.specs.declared.Card.the-variants.{Small}
+use Rattle.geometry.specs.Geometry.{placeAt}
 use Rattle.geometry.specs.declared.Kept.the-variants.{WaitingGrants}
 use Rattle.rows.specs.Area.{part}
 use Rattle.rows.proofs.Over.{length-part, getD-part}
 use Rattle.soundness.proofs.Decoded.{list-read, tok-read}
+use Rattle.soundness.proofs.Encoded.{tok-back}
 use Rattle.converter.specs.Converted.{oldAt, oldCount, namedAt, frontOf, newRow}
+use Rattle.converter.proofs.Parts.{parts}
 
 -- ---- bytes
--- two bytes are the tokens that they read as
-tok-bytes : (p : List ℕ) → length p ≡ 2 → writeTok (readTok p) ≡ p
-tok-bytes [] e = absurd (omega arith)
-tok-bytes (x ∷ []) e = absurd (omega arith)
-tok-bytes (x ∷ y ∷ []) e = refl
-tok-bytes (x ∷ y ∷ z ∷ p) e = absurd (omega arith)
-
 -- a row of 19 bytes that is an AID's place, a callee and a service number
 module _ (aid p : List ℕ) (j k : ℕ) (long : length aid ≡ 17) (e : p ≡ aid ++ (j ∷ k ∷ [])) where
   row-head : take 18 p ≡ aid ++ (j ∷ [])
@@ -89,10 +81,7 @@ module _ (old : List ℕ) (ok : T (sound narrow old)) where
   waits = writeList narrow write 19 (t .waiting)
 
   at-waiting : drop 789 old ≡ waits
-  at-waiting =
-      let f = length-front narrow narrow-ok t (formed-room narrow t (sound-formed narrow old ok) (sound-ruled narrow old ok) (sound-fitting narrow old ok)) in
-      ap (drop 789) (sym (sound-written narrow old ok) ∙ front-encode narrow t) ∙ sym (drop-drop 786 3 (narrow .header ++ (front narrow t ++ waits)))
-      ∙ drop-at (front narrow t) waits 786 f
+  at-waiting = sym (parts narrow narrow-ok old ok .waiting)
 
   rows-after : drop 790 old ≡ flat (λ r. write (read r)) (upto n) ++ replicate ((16 - length (t .waiting)) * 19) 0
   rows-after = sym (drop-drop 1 789 old) ∙ ap (drop 1) at-waiting
@@ -166,7 +155,7 @@ module _ (old : List ℕ) (ok : T (sound narrow old)) where
         sym (take-take 18 19 (drop (oldAt r) old) (omega arith)) ∙ row-head (writeAid (w .caller)) (row r) (w .callee) number aid-long row-written in
         let toks : writeTok (w .tok) ≡ part (namedAt old (oldAt r)) 2 old =
         ap₂ (λ (j k : ℕ). writeTok (t .tok j k)) callee-is service-read ∙ ap writeTok (tok-read narrow old callee service callee-lt service-lt)
-        ∙ tok-bytes (part (namedAt old (oldAt r)) 2 old) (length-part (namedAt old (oldAt r)) 2 old (omega (arith, old-size, tokens-in))) in
+        ∙ tok-back (part (namedAt old (oldAt r)) 2 old) (length-part (namedAt old (oldAt r)) 2 old (omega (arith, old-size, tokens-in))) in
         sym (append-assoc (writeAid (w .caller)) (w .callee ∷ []) (writeTok (w .tok))) ∙ (λ i. sym head i ++ toks i)
 
   rows-are : flat (writeWaiting small (t .provides) (t .tok)) (t .waiting) ≡ flat (newRow old) (upto n)
@@ -175,9 +164,8 @@ module _ (old : List ℕ) (ok : T (sound narrow old)) where
       ap (flat g) waiting-read ∙ flat-map g read (upto n) ∙ flat-ext (λ r. g (read r)) (newRow old) (upto n) (λ r m. new-is r (upto-in n m))
 
   -- the whole: what is copied, the new rows, and zeros to the end
-  pub carried-bytes : (c : Card) → carried narrow (layoutOf c) old
-      ≡ (layoutOf c .header ++ frontOf old) ++ (flat (newRow old) (upto n) ++ replicate (size (layoutOf c) - placeAt (layoutOf c) WaitingGrants n) 0)
-  carried-bytes Small =
+  pub carried-bytes : carried narrow small old ≡ (small .header ++ frontOf old) ++ (flat (newRow old) (upto n) ++ replicate (1110 - placeAt small WaitingGrants n) 0)
+  carried-bytes =
       let h = small .header in
       let front = part 3 786 old in
       let rows = flat (newRow old) (upto n) in

@@ -1,15 +1,15 @@
--- What it leaves: R-2, 'A converter takes sound version 01 images, numbers and list order kept, into a buffer of that size, else 1'.
+-- What a converter leaves. R-2: 'takes sound version 01 images, numbers and list order kept, into a buffer of that size, else 1'.
+-- R-9: 'carries sound version 02 images over with contracts, numbers and list order kept, into a buffer of that size, else 1'.
 use Prim.Native.Nat.{ℕ, _+_}
 use mathlib.Core.Path.{_≡_}
 use mathlib.Core.Bool.{Bool, _&&_, cond}
 use mathlib.Core.List.{List, _++_}
 use lib.Dec.{eqb}
 use lib.ListN.{length, getD}
-use Rattle.policy.specs.Layout.{narrow, size, waitingAt}
+use Rattle.policy.specs.Layout.{Layout, narrow, size, waitingAt}
 use Rattle.policy.specs.Sound.{sound}
 use Rattle.policy.specs.Eras.{carried}
-use Rattle.geometry.specs.Geometry.{layoutOf, tokAt, placeAt}
-use Rattle.geometry.specs.declared.Card.{Card}
+use Rattle.geometry.specs.Geometry.{tokAt, placeAt}
 use Rattle.geometry.specs.declared.Kept.the-variants.{WaitingGrants}
 use Rattle.rows.specs.Area.{part}
 
@@ -33,7 +33,7 @@ frontOf old = part 3 787 old
 unfoldable pub newRow : List ℕ → ℕ → List ℕ
 newRow old r = part (oldAt r) 18 old ++ part (namedAt old (oldAt r)) 2 old
 
--- the answer, and the bytes of the buffer afterwards
-pub record Converted (c : Card) (old lent : List ℕ) (taken : Bool) (left : List ℕ) : Type 0 where
-  pub answer : taken ≡ sound narrow old && eqb (length lent) (size (layoutOf c))
-  pub bytes : left ≡ cond taken (carried narrow (layoutOf c) old) lent
+-- the contract of both converters, from images of L to images of M: the answer, and the bytes of the buffer afterwards
+pub record Converted (L M : Layout) (old lent : List ℕ) (taken : Bool) (left : List ℕ) : Type 0 where
+  pub answer : taken ≡ sound L old && eqb (length lent) (size M)
+  pub bytes : left ≡ cond taken (carried L M old) lent

@@ -2,6 +2,7 @@
 use native.Mathlib.Omega.{arith}
 use borrow.Author.Needs.{needs}
 use denote.Ref.{now}
+use Rattle.policy.specs.Layout.{narrow, small}
 use Rattle.converter.proofs.Written.{is-sound, unsound, unsized, taken}
 use Rattle.converter.proofs.convert.Statement.{statement}
 use Rattle.converter.proofs.convert.Tie as tie
@@ -13,7 +14,7 @@ convert-spec =
     (λ c κs. search needs)
     (λ c. search (unsound, needs))
     (λ c κs. search needs)
-    (λ c. let a = c .before .before .before .before .before .before .args in unsized (a .c) (now (a .old)) (now (a .out)) _ (c .before .size .ensures) (λ e. omega arith))
+    (λ c. let a = c .before .before .before .before .before .before .args in unsized narrow small (now (a .old)) (now (a .out)) _ (c .before .size .ensures) (λ e. omega arith))
     (λ c κs. search (is-sound, needs))
     (λ c. search needs)
     (λ c. search (taken, needs)))

@@ -5,7 +5,7 @@ use Prim.Native.Nat.{ℕ}
 use borrow.Author.Needs.{needs}
 use denote.Ref.{now}
 use Rattle.rows.specs.Area.{over}
-use Rattle.converter.proofs.Written.{part-end}
+use Rattle.converter.proofs.Laid.{part-end}
 use Rattle.converter.proofs.copy.Statement.{statement}
 use Rattle.converter.proofs.copy.Tie as tie
 

@@ -1,9 +1,7 @@
 -- `converter::named_at` meets its contract. Assumes nothing.
 use Prim.Native.Nat.{_+_}
 use native.Mathlib.Omega.{arith}
-use mathlib.Core.Path.{_∙_}
 use borrow.Author.Needs.{needs}
-use Rattle.converter.proofs.Written.{same-tok}
 use Rattle.converter.proofs.named_at.Statement.{statement}
 use Rattle.converter.proofs.named_at.Tie as tie
 
@@ -18,4 +16,4 @@ named-at-spec =
     (λ c. search needs)
     (λ c. omega (arith, c .shared-slice-known3 .given (c .before .before .before .args .at + 18)))
     (λ c κs. search needs)
-    (λ c. c .tok-at .ensures ∙ same-tok (c .before .before .before .before .args .c) _ _))
+    (λ c. search needs))
