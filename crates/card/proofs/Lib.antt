@@ -1,3 +1,4 @@
+pub mod Cards
 pub mod Packs
 pub mod Tells
 pub mod Demands

@@ -8,14 +8,14 @@ use mathlib.Core.Option.{Option, none, some}
 use lib.Dec.{leb, leb→le}
 use lib.ListN.{length}
 use Rattle.policy.specs.Contract.{Aid}
-use Rattle.policy.specs.Layout.{Layout, narrow, small}
+use Rattle.policy.specs.Layout.{Layout}
 use Rattle.policy.specs.Record.{Request, parse, firstAid}
 use Rattle.policy.specs.Judge.{Out}
 use Rattle.policy.specs.Settled.{Gives}
 use Rattle.policy.specs.Eras.{convert}
 use Rattle.policy.proofs.Sets.{and-r}
 use Rattle.policy.proofs.ParseFacts.{first-aid-part}
-use Rattle.geometry.specs.declared.Card.the-variants.{Small}
+use Rattle.geometry.specs.declared.Card.{Card}
 use Rattle.converter.specs.Converted.{Converted}
 use Rattle.converter.proofs.Written.{convert-is}
 use Rattle.card.specs.Packed.{joined, packed, aidPlace}
@@ -24,11 +24,15 @@ use Rattle.card.specs.Calls.{Returned}
 pub packs : {o : Out} {number second r : ℕ} {left : List ℕ} → Gives o number second left → r ≡ joined number second → Returned o r left
 packs g e = record { result = e ∙ (λ i. joined (sym (g .answered) i) (sym (g .second-is) i)); left-is = sym (g .bytes-are) }
 
+-- the same of the card that was found for what was lent
+pub packs-on : (f : Card → Out) {c d : Card} → c ≡ d → {number second r : ℕ} {left : List ℕ} → Gives (f c) number second left → r ≡ joined number second → Returned (f d) r left
+packs-on f e {r = r} {left} g p = subst (λ (k : Card). Returned (f k) r left) e (packs g p)
+
 -- ---- a conversion that was made, or was not
-pub conversion : {old lent left : List ℕ} {taken : Bool} → Converted Small old lent taken left → (b : Bool) → taken ≡ b → {r : ℕ} → r ≡ joined (cond b 0 1) (cond b 0 255)
-    → Returned (convert narrow small old lent) r left
-conversion {old} {lent} {left} h b e p =
-    let o = convert-is Small old lent b left (subst (λ (x : Bool). Converted Small old lent x left) e h) in
+pub conversion : (L M : Layout) {old lent left : List ℕ} {b : Bool} → Converted L M old lent b left → {r : ℕ} → r ≡ joined (cond b 0 1) (cond b 0 255)
+    → Returned (convert L M old lent) r left
+conversion L M {old} {lent} {left} {b} h p =
+    let o = convert-is L M old lent b left h in
     record { result = p ∙ sym (ap packed o); left-is = sym (ap (λ (z : Out). z .bytes) o) }
 
 -- ---- the place of an AID

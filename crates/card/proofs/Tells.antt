@@ -8,7 +8,7 @@ use mathlib.Core.List.{List, [], _∷_, _++_}
 use mathlib.Core.List.{List·Memᴰ·head as here, List·Memᴰ·tail as there}
 use lib.Dec.{T, eqb, leb, ltb}
 use lib.ListN.{length, drop}
-use Rattle.policy.specs.Layout.{narrow, small}
+use Rattle.policy.specs.Layout.{Layout, size}
 use Rattle.policy.specs.Causes.{_when_, answer}
 use Rattle.policy.specs.Tables.{decode}
 use Rattle.policy.specs.Lookup.{contractAt}
@@ -17,11 +17,11 @@ use Rattle.policy.specs.Judge.{Out, refusal, judge, check, writeEmpty, loadReco
 use Rattle.policy.specs.Eras.{carried, convert}
 use Rattle.policy.specs.Claims.{RefusesWith}
 use Rattle.policy.proofs.Entries.{answers-always}
-use Rattle.geometry.specs.declared.Card.the-variants.{Small}
+use Rattle.geometry.proofs.Bounds.{limits}
 use Rattle.image.proofs.Laid.{sound-laid}
 use Rattle.readout.proofs.Records.{measured}
 use Rattle.card.specs.Packed.{answerOf, secondOf}
-use Rattle.card.specs.Calls.{Returned, Checked, Emptied, Converted, Judged, ReadInto}
+use Rattle.card.specs.Calls.{sized, on, Returned, Checked, Emptied, Carried, Judged, ReadInto}
 
 pub record Tells (o : Out) (r : ℕ) : Type 0 where
   pub answer : answerOf r ≡ o .answered
@@ -35,39 +35,39 @@ module _ {o : Out} {r : ℕ} {left : List ℕ} (c : Returned o r left) where
   tells-either : {A : Type 0} {ns : List ℕ} {second : ℕ} {lent : List ℕ} → second < 65536 → (A → o .second < 65536) → A ⊎ RefusesWith ns second lent o → Tells o r
   tells-either h f w = tells (⊎-elim f (λ (n, m, e). let q = ap (λ (z : Out). z .second) e in omega arith) w)
 
-pub checked-tells : (image : List ℕ) {r : ℕ} → Checked image r → Tells (check small image) r
-checked-tells image c = tells-either c (omega arith) (λ h. omega arith) (answers-always small .checking image)
+pub checked-tells : (image : List ℕ) {r : ℕ} → Checked image r → Tells (check (on image) image) r
+checked-tells image c = tells-either c (omega arith) (λ h. omega (arith, limits (sized (length image)))) (answers-always (on image) .checking image)
 
-pub emptied-tells : (lent : List ℕ) {r : ℕ} {left : List ℕ} → Emptied lent r left → Tells (writeEmpty small lent) r
-emptied-tells lent c = tells-either c (omega arith) (λ h. let e = ap (λ (z : Out). z .second) (h .0) in omega arith) (answers-always small .emptying lent)
+pub emptied-tells : (lent : List ℕ) {r : ℕ} {left : List ℕ} → Emptied lent r left → Tells (writeEmpty (on lent) lent) r
+emptied-tells lent c = tells-either c (omega arith) (λ h. let e = ap (λ (z : Out). z .second) (h .0) in omega arith) (answers-always (on lent) .emptying lent)
 
 -- ---- converting, by its two tests: the image is carried over, or the call is refused
-module _ (old lent : List ℕ) where
+module _ (L M : Layout) (old lent : List ℕ) where
   abbrev pub carry : Out
-  carry = record { answered = 0; second = 0; bytes = carried narrow small old }
+  carry = record { answered = 0; second = 0; bytes = carried L M old }
 
-  abbrev pub Carried : Bool → Bool → Out → Type 0
-  Carried a b o = (o .answered ≡ answer (1 when not (a && b) ∷ [])) × ((T a × T b × (o ≡ carry)) ⊎ RefusesWith (1 ∷ []) 255 lent o)
+  abbrev pub Carry : Bool → Bool → Out → Type 0
+  Carry a b o = (o .answered ≡ answer (1 when not (a && b) ∷ [])) × ((T a × T b × (o ≡ carry)) ⊎ RefusesWith (1 ∷ []) 255 lent o)
 
-  carried-by : (a b : Bool) → Carried a b (cond (a && b) carry (refusal 1 255 lent))
+  carried-by : (a b : Bool) → Carry a b (cond (a && b) carry (refusal 1 255 lent))
   carried-by true true = (refl, inl (tt, tt, refl))
   carried-by true false = (refl, inr (1, here refl, refl))
   carried-by false b = (refl, inr (1, here refl, refl))
 
-  pub converted : Carried (sound narrow old) (eqb (length lent) 1110) (convert narrow small old lent)
+  pub converted : Carry (sound L old) (eqb (length lent) (size M)) (convert L M old lent)
   unfolding convert
-  converted = carried-by (sound narrow old) (eqb (length lent) 1110)
+  converted = carried-by (sound L old) (eqb (length lent) (size M))
 
-  pub converted-tells : {r : ℕ} {left : List ℕ} → Converted old lent r left → Tells (convert narrow small old lent) r
+  pub converted-tells : {r : ℕ} {left : List ℕ} → Carried L M old lent r left → Tells (convert L M old lent) r
   converted-tells c = tells-either c (omega arith) (λ (ok, long, e). let q = ap (λ (z : Out). z .second) e in omega arith) (converted .1)
 
-pub judged-tells : (image rec : List ℕ) {r : ℕ} {left : List ℕ} → Judged image rec r left → Tells (judge small image rec) r
-judged-tells image rec c = tells-either c (omega arith) (λ h. omega arith) (answers-always small .judging image rec)
+pub judged-tells : (image rec : List ℕ) {r : ℕ} {left : List ℕ} → Judged image rec r left → Tells (judge (on image) image rec) r
+judged-tells image rec c = tells-either c (omega arith) (λ h. omega (arith, limits (sized (length image)))) (answers-always (on image) .judging image rec)
 
 -- ---- reading out, by its three tests: the record is written, or the call is refused for the first that fails
 module _ (image : List ℕ) (n : ℕ) (lent : List ℕ) where
   abbrev pub rec : List ℕ
-  rec = loadRecord small (contractAt small (decode small image) n)
+  rec = loadRecord (on image) (contractAt (on image) (decode (on image) image) n)
 
   abbrev pub written : Out
   written = record { answered = 0; second = length rec; bytes = rec ++ drop (length rec) lent }
@@ -83,9 +83,9 @@ module _ (image : List ℕ) (n : ℕ) (lent : List ℕ) where
   wrote-by true false c = (refl, inr (5, there (here refl), refl))
   wrote-by false b c = (refl, inr (1, here refl, refl))
 
-  pub wrote : Wrote (sound small image) (ltb n 8 && decode small image .used n) (leb (length rec) (length lent)) (readOut small image n lent)
+  pub wrote : Wrote (sound (on image) image) (ltb n (on image .packages) && decode (on image) image .used n) (leb (length rec) (length lent)) (readOut (on image) image n lent)
   unfolding readOut
-  wrote = wrote-by (sound small image) (ltb n 8 && decode small image .used n) (leb (length rec) (length lent))
+  wrote = wrote-by (sound (on image) image) (ltb n (on image .packages) && decode (on image) image .used n) (leb (length rec) (length lent))
 
-  pub read-tells : {r : ℕ} {left : List ℕ} → ReadInto image n lent r left → Tells (readOut small image n lent) r
-  read-tells c = tells-either c (omega arith) (λ (ok, un, e). let low = measured Small image n (sound-laid small ok) _ refl in let q = ap (λ (z : Out). z .second) e in omega (arith, low .0, low .1)) (wrote .1)
+  pub read-tells : {r : ℕ} {left : List ℕ} → ReadInto image n lent r left → Tells (readOut (on image) image n lent) r
+  read-tells c = tells-either c (omega arith) (λ (ok, un, e). let low = measured (sized (length image)) image n (sound-laid (on image) ok) _ refl in let q = ap (λ (z : Out). z .second) e in omega (arith, low .0, low .1)) (wrote .1)

@@ -1,5 +1,6 @@
-use mathlib.Core.Bool.{true, false}
+-- `card::card_convert` meets its contract.
 use borrow.Author.Needs.{needs}
+use Rattle.policy.specs.Layout.{narrow, small}
 use Rattle.card.proofs.Packs.{conversion}
 use Rattle.card.proofs.card_convert.Statement.{statement}
 use Rattle.card.proofs.card_convert.Tie as tie
@@ -11,7 +12,4 @@ card-convert-spec =
     (λ c κs. search needs)
     (λ c κs. search needs)
     (λ c. search needs)
-    (λ c. conversion (c .before .before .before .before .convert .ensures) true (c .before .if1 .taken) (c .join .ensures))
-    (λ c κs. search needs)
-    (λ c. search needs)
-    (λ c. conversion (c .before .before .before .before .convert .ensures) false (c .before .if1 .left) (c .join2 .ensures)))
+    (λ c. conversion narrow small (c .before .before .before .convert .ensures) (c .taken .ensures)))

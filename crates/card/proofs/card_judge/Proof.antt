@@ -1,22 +1,26 @@
+-- `card::card_judge` meets its contract.
+use denote.Ref.{now}
 use borrow.Author.Needs.{needs}
-use Rattle.card.proofs.Packs.{packs}
+use Rattle.geometry.specs.declared.Card.{Card}
+use Rattle.geometry.specs.Geometry.{layoutOf}
+use Rattle.policy.specs.Judge.{judge}
+use Rattle.card.proofs.Packs.{packs-on}
 use Rattle.card.proofs.card_judge.Statement.{statement}
 use Rattle.card.proofs.card_judge.Tie as tie
 
 judge-requires : tie.Need-judge-requires
 judge-requires c κs = search needs
 
-cast-join : tie.Need-cast-join
-cast-join c = search needs
-
-join-requires : tie.Need-join-requires
-join-requires c κs = search needs
-
-same-length : tie.Need-same-length
-same-length c = search needs
-
-returns : tie.Need-returns
-returns c = packs (c .before .before .before .before .judge .ensures) (c .join .ensures)
-
 pub card-judge-spec : {M : Type 1} → statement M
-card-judge-spec = tie.close (tie.spec judge-requires cast-join join-requires same-length returns)
+card-judge-spec =
+    tie.close
+    (tie.spec
+    (λ c κs. search needs)
+    judge-requires
+    (λ c. search needs)
+    (λ c κs. search needs)
+    (λ c. search needs)
+    (λ c. let judged = c .before .before .before .before in
+    let found = judged .before .before in
+    let a = found .before .before .before .args in
+    packs-on (λ (k : Card). judge (layoutOf k) (now (a .image)) (now (a .rec))) (found .card-of .ensures) (judged .judge .ensures) (c .join .ensures)))
