@@ -1,4 +1,4 @@
-//! The six entries of a card engine, so that engines can be compared and timed alike.
+//! The seven entries of a card engine, so that engines can be compared and timed alike.
 
 use crate::bytes;
 use crate::machine::Aid;
@@ -6,15 +6,20 @@ use crate::rules::{Rules, Sizes};
 use crate::tables::Form;
 use std::fmt;
 
-/// The bytes of an image.
+/// The rules in force on the large card.
+pub const ON_LARGE: Rules = Rules::IN_FORCE.on(&Sizes::LARGE);
+
+/// The bytes of an image, and of one of the large card.
 pub const IMAGE: usize = Form::of(Rules::IN_FORCE).size;
+pub const LARGE_IMAGE: usize = Form::of(ON_LARGE).size;
 /// The bytes of an image of version 01, which a converter takes over.
 pub const OLD_IMAGE: usize = Form::of(Rules::R_7).size;
-/// The bytes of the longest record.
-pub const LONGEST_RECORD: usize = longest_record(Rules::IN_FORCE.sizes);
+/// The bytes of the longest record, and of the large card's longest.
+pub const LONGEST_RECORD: usize = longest_record(&Sizes::SMALL);
+pub const LONGEST_LARGE_RECORD: usize = longest_record(&Sizes::LARGE);
 
 /// A load whose AIDs have as many bytes as they may, and its lists as many rows.
-const fn longest_record(sizes: &Sizes) -> usize {
+pub const fn longest_record(sizes: &Sizes) -> usize {
     let aid = 1 + *Aid::LENGTHS.end();
     let provides = 1 + 2 * sizes.services;
     let rows = sizes.count_bytes + sizes.rows * (aid + 2);
@@ -55,6 +60,7 @@ pub trait Card {
     fn check(&self, image: &[u8]) -> Verdict;
     fn empty(&self, image: &mut [u8]) -> Verdict;
     fn convert(&self, old: &[u8], image: &mut [u8]) -> Verdict;
+    fn enlarge(&self, image: &[u8], large: &mut [u8]) -> Verdict;
     fn judge(&self, image: &mut [u8], record: &[u8]) -> Verdict;
     fn read_out(&self, image: &[u8], number: u32, out: &mut [u8]) -> Verdict;
     fn aid<'a>(&self, record: &'a [u8]) -> &'a [u8];
@@ -89,6 +95,10 @@ impl Card for Bytes {
 
     fn convert(&self, old: &[u8], image: &mut [u8]) -> Verdict {
         verdict(bytes::convert(old, image))
+    }
+
+    fn enlarge(&self, image: &[u8], large: &mut [u8]) -> Verdict {
+        verdict(bytes::enlarge(image, large))
     }
 
     fn judge(&self, image: &mut [u8], record: &[u8]) -> Verdict {
@@ -141,6 +151,10 @@ impl Card for Engine {
         card::exact::convert(old, image).into()
     }
 
+    fn enlarge(&self, image: &[u8], large: &mut [u8]) -> Verdict {
+        card::exact::enlarge(image, large).into()
+    }
+
     fn judge(&self, image: &mut [u8], record: &[u8]) -> Verdict {
         card::exact::judge(image, record).into()
     }
@@ -175,12 +189,13 @@ mod tests {
     #[test]
     fn the_sizes_are_the_papers() {
         assert_eq!((OLD_IMAGE, IMAGE, LONGEST_RECORD), (1094, 1110, 4145));
+        assert_eq!((LARGE_IMAGE, LONGEST_LARGE_RECORD), (3639, 15_564));
     }
 
-    /// "Up to 16 services, two-byte counts, up to 272, and at most 15,564 bytes."
+    /// The wrapper's own numbers for the large card.
+    #[cfg(feature = "engine")]
     #[test]
-    fn the_sizes_of_r_9_make_its_longest_record() {
-        let sizes = Sizes { services: 16, rows: 272, count_bytes: 2, ..Sizes::SMALL };
-        assert_eq!(longest_record(&sizes), 15_564);
+    fn the_wrapper_has_the_same_sizes() {
+        assert_eq!((card::LARGE_IMAGE_SIZE, card::LARGE_RECORD_SIZE), (LARGE_IMAGE, LONGEST_LARGE_RECORD));
     }
 }

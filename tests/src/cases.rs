@@ -1,9 +1,11 @@
 //! One table: every case of the paper's "At the edges", its misreadings of the report, the report's worked example, and
-//! the edges of the requests that have landed. Each case starts on the empty image.
+//! the edges of the requests that have landed. Each case starts on the empty image of the small card; one that is on the large
+//! card from the start has it enlarged first.
 
 pub mod conditions;
 pub mod early;
 mod edges;
+pub mod large;
 mod misread;
 pub mod replace;
 pub mod retired;
@@ -31,7 +33,10 @@ pub struct Case {
     pub marked: bool,
     /// What is judged by the rules before each change that the case goes over, the earliest first.
     pub before: Vec<Vec<Step>>,
+    /// What is judged on the small card by the rules in force.
     pub steps: Vec<Step>,
+    /// What is judged on the large card, where the case has the card enlarged behind the steps.
+    pub large: Option<Vec<Step>>,
 }
 
 /// A record, and what judging it gives.
@@ -49,8 +54,15 @@ pub fn all() -> Vec<Case> {
 
 /// Those of the requests, in the order in which they landed.
 pub fn requests() -> impl Iterator<Item = Case> {
-    let landed =
-        [tokens::cases(), early::cases(), replace::cases(), retired::cases(), conditions::cases(), watched::cases()];
+    let landed = [
+        tokens::cases(),
+        early::cases(),
+        replace::cases(),
+        retired::cases(),
+        conditions::cases(),
+        watched::cases(),
+        large::cases(),
+    ];
     landed.into_iter().flatten()
 }
 
@@ -66,6 +78,10 @@ impl Case {
             let (mut compare, mut tally) = (Compare::before(cards, 0, self.changes())?, Tally::default());
             let mut verdicts = self.begin(&mut compare, &mut tally)?;
             verdicts.extend(judge(&self.steps, &mut compare, &mut tally)?);
+            if let Some(steps) = &self.large {
+                compare.enlarge(&mut tally)?;
+                verdicts.extend(judge(steps, &mut compare, &mut tally)?);
+            }
             Ok(verdicts)
         });
         let verdicts = judged.map_err(|difference| difference.to_string())?;
@@ -93,19 +109,25 @@ impl Case {
         compare.image
     }
 
-    /// The line that the program prints for the case. A bar stands where the rules change.
+    /// The line that the program prints for the case: the card, and what its records got there. A bar stands where the rules change,
+    /// or where the card is enlarged.
     pub fn line(&self, verdicts: &[Verdict]) -> String {
         let mut left = verdicts.iter();
-        let times = self.before.iter().chain([&self.steps]);
-        let times: Vec<String> = times.map(|steps| words(left.by_ref().take(steps.len()))).collect();
-        format!("{}{}: {}", if self.marked { "M " } else { "" }, self.name, times.join(" | "))
+        let mut got = |steps: &Vec<Step>| words(left.by_ref().take(steps.len()));
+        let on_small = self.before.iter().chain([&self.steps]).map(&mut got).collect::<Vec<_>>().join(" | ");
+        let on_large = self.large.as_ref().map(|steps| format!("large card {}", got(steps)));
+        let from_the_start = self.large.is_some() && self.before.is_empty() && self.steps.is_empty();
+        let on_small = (!from_the_start).then(|| format!("small card {on_small}"));
+        let cards: Vec<String> = on_small.into_iter().chain(on_large).collect();
+        format!("{}{}: {}", if self.marked { "M " } else { "" }, self.name, cards.join(" | "))
     }
 
-    /// The records, and a change of the rules behind those before it.
+    /// The records, a change of the rules behind those before it, and where the card is enlarged.
     pub fn history(&self) -> Vec<Event> {
         let records = |steps: &[Step]| steps.iter().map(|step| Event::Record(step.record.clone())).collect::<Vec<_>>();
         let before = self.before.iter().flat_map(|steps| [records(steps), vec![Event::Change]].concat());
-        before.chain(records(&self.steps)).collect()
+        let large = self.large.iter().flat_map(|steps| [vec![Event::Enlarge], records(steps)].concat());
+        before.chain(records(&self.steps)).chain(large).collect()
     }
 
     /// How often the rules change in the case.
@@ -114,7 +136,8 @@ impl Case {
     }
 
     fn expected(&self) -> impl Iterator<Item = &Verdict> {
-        self.before.iter().flatten().chain(&self.steps).map(|step| &step.verdict)
+        let steps = self.before.iter().flatten().chain(&self.steps).chain(self.large.iter().flatten());
+        steps.map(|step| &step.verdict)
     }
 }
 
@@ -127,7 +150,7 @@ fn words<'a>(verdicts: impl IntoIterator<Item = &'a Verdict>) -> String {
 }
 
 fn marked(name: &'static str, steps: Vec<Step>) -> Case {
-    Case { name, marked: true, before: Vec::new(), steps }
+    Case { name, marked: true, before: Vec::new(), steps, large: None }
 }
 
 fn case(name: &'static str, steps: Vec<Step>) -> Case {
@@ -138,7 +161,19 @@ fn case(name: &'static str, steps: Vec<Step>) -> Case {
 fn over(name: &'static str, from: Rules, mut before: Vec<Vec<Step>>, steps: Vec<Step>) -> Case {
     assert!(before.len() <= from.changes_since(), "{name}");
     before.resize_with(from.changes_since(), Vec::new);
-    Case { name, marked: false, before, steps }
+    Case { name, marked: false, before, steps, large: None }
+}
+
+/// A case on the large card from the start.
+fn on_large(name: &'static str, steps: Vec<Step>) -> Case {
+    case(name, Vec::new()).enlarged(steps)
+}
+
+impl Case {
+    /// The card is enlarged behind the steps, and goes on with these.
+    fn enlarged(self, steps: Vec<Step>) -> Case {
+        Case { large: Some(steps), ..self }
+    }
 }
 
 /// A record that is accepted, with the package's number.

@@ -1,11 +1,13 @@
 //! What is compared after each record: the plain machine, the byte engine, and every other engine.
 
-use crate::card::{Card, Verdict, IMAGE, LONGEST_RECORD, OLD_IMAGE};
+use crate::card::{longest_record, Card, Verdict, IMAGE, LARGE_IMAGE, LONGEST_LARGE_RECORD, OLD_IMAGE, ON_LARGE};
 use crate::conditions::{Conditions, Outcome};
 use crate::damage::Damage;
 use crate::early::Early;
+use crate::encode;
 use crate::hex::to_hex;
 use crate::history::Event;
+use crate::large::Large;
 use crate::machine::record::{self, Lists};
 use crate::machine::{Change, Contract, Machine, Record};
 use crate::methods::{self, Held, Place};
@@ -13,10 +15,10 @@ use crate::pairs::{possible, Kind, Pairs};
 use crate::random::Random;
 use crate::replace::Replaced;
 use crate::retired::{OldNeeds, Retired};
-use crate::rules::Rules;
+use crate::rules::{Rules, Sizes};
 use crate::tables::{self, Tables};
 use crate::watched::{turns, Seen};
-use crate::write;
+use crate::write::{self, Writer};
 use std::collections::{BTreeMap, BTreeSet};
 use std::fmt;
 use std::hint::black_box;
@@ -51,14 +53,16 @@ macro_rules! expect {
 }
 
 /// What a buffer holds before an engine gets it.
-const FILL: [u8; LONGEST_RECORD] = [0xA5; LONGEST_RECORD];
+const FILL: [u8; LONGEST_LARGE_RECORD] = [0xA5; LONGEST_LARGE_RECORD];
 
 /// Of the records that are judged by the rules in force, so many in a hundred are followed by a pair of cards, by R-6.
 const WATCHED: usize = 5;
 
-/// What a run has seen.
+/// What a run has seen on the small card.
 #[derive(Default)]
 pub struct Tally {
+    /// The same of the large card.
+    pub large: Option<Box<Tally>>,
     pub records: u64,
     pub pairs: Pairs,
     /// By the rules before the last change.
@@ -82,6 +86,13 @@ pub struct Tally {
     /// Images of version 01, damaged or not: those that are converted, and those that are refused.
     pub converted: u64,
     pub not_converted: u64,
+    /// Images of version 02 and of earlier ones, damaged or not: those that are enlarged, and those that are refused.
+    pub enlarged: u64,
+    pub not_enlarged: u64,
+    /// Records of the other card's version, which that card reads.
+    pub of_other: u64,
+    /// What R-9 has on the large card.
+    pub on_large: BTreeMap<Large, u64>,
     /// What R-2 brought about in accepted records, and what R-1 did.
     pub early: BTreeMap<Early, u64>,
     pub replaced: BTreeMap<Replaced, u64>,
@@ -99,7 +110,15 @@ pub struct Tally {
     pub methods_held: BTreeMap<Held, [u64; 2]>,
 }
 
+impl Tally {
+    /// What is seen of the large card.
+    pub fn of_large(&mut self) -> &mut Tally {
+        self.large.get_or_insert_default()
+    }
+}
+
 /// One card in every engine, and the machine beside them.
+#[derive(Clone)]
 pub struct Compare<'a> {
     /// The engines that judge by the rules in force.
     linked: &'a [&'a dyn Card],
@@ -107,6 +126,10 @@ pub struct Compare<'a> {
     cards: Vec<&'a dyn Card>,
     /// How many changes of the rules are to come.
     ahead: usize,
+    /// The sizes of the card.
+    sizes: &'static Sizes,
+    /// Whether the card was enlarged with contracts on it.
+    carried_over: bool,
     /// Whether the card held, at a change, what the new rules exclude. It is unsound from then on.
     pub left_out: bool,
     /// Whether the card ever held, before a change, what the rules in force exclude.
@@ -133,16 +156,12 @@ impl<'a> Compare<'a> {
         expect!(changes <= most, "a history has at most {most} changes of the rules, here are {changes}");
         let cards = engines(linked, changes);
         let image = Tables::empty(Rules::before(changes)).write(Rules::before(changes));
-        for card in &cards {
-            let mut written = FILL[..image.len()].to_vec();
-            let verdict = card.empty(&mut written);
-            expect!(verdict == Verdict::new(0, 0), "{}: writing the empty image gives {verdict:?}", card.name());
-            expect!(written == image, "{}: the empty image is {}", card.name(), to_hex(&written));
-        }
-        Ok(Compare {
+        let compare = Compare {
             linked,
             cards,
             ahead: changes,
+            sizes: &Sizes::SMALL,
+            carried_over: false,
             left_out: false,
             held_excluded: false,
             old_needs: OldNeeds::default(),
@@ -150,12 +169,24 @@ impl<'a> Compare<'a> {
             image,
             seed,
             watched: WATCHED,
-        })
+        };
+        compare.emptied_alike()?;
+        Ok(compare)
     }
 
-    /// The rules of the time.
+    /// The rules of the time, on the card.
     fn rules(&self) -> Rules {
-        Rules::before(self.ahead)
+        Rules::before(self.ahead).on(self.sizes)
+    }
+
+    /// Whether the card is the large one.
+    pub fn is_large(&self) -> bool {
+        *self.sizes == Sizes::LARGE
+    }
+
+    /// The bytes of the card's longest record.
+    fn longest_record(&self) -> usize {
+        longest_record(self.sizes)
     }
 
     /// How many package numbers there are.
@@ -172,7 +203,49 @@ impl<'a> Compare<'a> {
         match event {
             Event::Record(bytes) => self.step(bytes, tally).map(|_| ()),
             Event::Change => self.change(tally),
+            Event::Enlarge => self.enlarge(tally),
         }
+    }
+
+    /// R-9's converter takes the card over: every engine has the same large image, which stands for the machine's contracts. A card
+    /// that is left out stays as it is. That of no contracts is the empty large image.
+    pub fn enlarge(&mut self, tally: &mut Tally) -> Result<(), Difference> {
+        if !self.in_force() || self.is_large() {
+            return Err("a card is enlarged once, by the rules in force".to_string().into());
+        }
+        let tables = Tables::of(self.rules(), &self.image);
+        let enlarged = self.enlarged_alike(&self.image, tables.as_ref(), tally)?;
+        if enlarged.is_none() != self.left_out {
+            return Err("the tests' own reader takes another card over than the rules do".to_string().into());
+        }
+        let Some(image) = enlarged else { return Ok(()) };
+        self.sizes = &Sizes::LARGE;
+        self.image = image;
+        self.carried_over = !self.machine.contracts.is_empty();
+        if !self.carried_over {
+            self.emptied_alike()?;
+        }
+        self.gone_over(tally.of_large())
+    }
+
+    /// Every engine writes the image into a buffer of its size, as the empty one.
+    fn emptied_alike(&self) -> Result<(), String> {
+        for card in &self.cards {
+            let mut written = FILL[..self.image.len()].to_vec();
+            let verdict = card.empty(&mut written);
+            expect!(verdict == Verdict::new(0, 0), "{}: writing the empty image gives {verdict:?}", card.name());
+            expect!(written == self.image, "{}: the empty image is {}", card.name(), to_hex(&written));
+        }
+        Ok(())
+    }
+
+    /// After a change or a conversion the image is sound and stands for the machine's contracts.
+    fn gone_over(&self, tally: &mut Tally) -> Result<(), Difference> {
+        if tables::contracts(self.rules(), &self.image).as_ref() != Some(&self.machine) {
+            return Err("the image stands for other contracts after the change".to_string().into());
+        }
+        self.check_alike()?;
+        Ok(self.read_out_alike(&mut Random::of_bytes(self.seed, &self.image), tally)?)
     }
 
     /// The next rules come into force: their engines get the image's bytes as they are, or as they are converted where the
@@ -192,12 +265,7 @@ impl<'a> Compare<'a> {
         if self.left_out {
             self.refused_alike(&[], &mut Pairs::default())?;
         } else {
-            let stands_for = tables::contracts(self.rules(), &self.image);
-            if stands_for.as_ref() != Some(&self.machine) {
-                return Err("the image stands for other contracts after the change".to_string().into());
-            }
-            self.check_alike()?;
-            self.read_out_alike(&mut Random::of_bytes(self.seed, &self.image), tally)?;
+            self.gone_over(tally)?;
         }
         if self.in_force() {
             *(if self.left_out { &mut tally.left_out } else { &mut tally.gone_on }) += 1;
@@ -209,6 +277,7 @@ impl<'a> Compare<'a> {
     /// Judges a record and compares all that the paper determines. Before the last change, judging is compared, also on damaged
     /// images, and what the engines in force make of an image of an earlier version.
     pub fn step(&mut self, bytes: &[u8], tally: &mut Tally) -> Result<Verdict, Difference> {
+        let tally = if self.is_large() { tally.of_large() } else { tally };
         let (held, found) = (self.machine.clone(), self.image.clone());
         let pairs = if self.in_force() { &mut tally.pairs } else { &mut tally.pairs_before };
         let verdict = match self.left_out {
@@ -222,9 +291,9 @@ impl<'a> Compare<'a> {
             let replaces = |record: Record| matches!(record.change, Change::Replace(_));
             tally.too_early += u64::from(record::read(Rules::IN_FORCE, bytes).is_some_and(replaces));
             self.held_excluded |= !self.machine.keeps_to(Rules::IN_FORCE);
-            self.damaged_alike(&Damage::default(), bytes, tally)?;
+            self.damaged(&Damage::default(), bytes, tally)?;
             for draw in [Damage::one_byte, Damage::two_bytes] {
-                self.damaged_alike(&draw(&self.image, &mut random), bytes, tally)?;
+                self.damaged(&draw(&self.image, &mut random), bytes, tally)?;
             }
             return Ok(verdict);
         }
@@ -239,11 +308,14 @@ impl<'a> Compare<'a> {
             self.read_out_alike(&mut random, tally)?;
         }
         self.aid_alike(bytes)?;
+        self.other_version_alike(bytes, tally)?;
+        let tables = self.small_tables(&self.image);
+        self.carried_alike(&self.image, tables.as_ref(), tally)?;
         if *black_box(&self.image) != before {
             return Err("an image that was lent to be read is changed".to_string().into());
         }
         for draw in [Damage::one_byte, Damage::two_bytes, Damage::one_byte, Damage::two_bytes] {
-            self.damaged_alike(&draw(&self.image, &mut random), bytes, tally)?;
+            self.damaged(&draw(&self.image, &mut random), bytes, tally)?;
         }
         self.count(&held, &found, bytes, verdict, tally);
         Ok(verdict)
@@ -256,12 +328,37 @@ impl<'a> Compare<'a> {
         *(if converted.is_some() { &mut tally.converted } else { &mut tally.not_converted }) += 1;
         for card in self.linked {
             unsound(*card, old, bytes)?;
-            match &converted {
-                Some(image) => converts(*card, old, IMAGE, Verdict::new(0, 0), image)?,
-                None => converts(*card, old, IMAGE, Verdict::new(1, 255), &FILL[..IMAGE])?,
-            }
+            Converter::Old.takes(*card, old, converted.as_deref())?;
         }
+        self.enlarged_alike(old, None, tally)?;
         Ok(converted)
+    }
+
+    /// Every engine in force enlarges an image that has these tables by the rules in force; one that has none it refuses.
+    fn enlarged_alike(
+        &self,
+        image: &[u8],
+        tables: Option<&Tables>,
+        tally: &mut Tally,
+    ) -> Result<Option<Vec<u8>>, String> {
+        let enlarged = tables.map(|tables| tables.write(ON_LARGE));
+        *(if enlarged.is_some() { &mut tally.enlarged } else { &mut tally.not_enlarged }) += 1;
+        for card in self.linked {
+            Converter::Small.takes(*card, image, enlarged.as_deref())?;
+        }
+        Ok(enlarged)
+    }
+
+    /// What both converters of every engine in force make of an image in the version of its rules: that of the small card is
+    /// enlarged, if it has these tables, and else it is refused.
+    fn carried_alike(&self, image: &[u8], tables: Option<&Tables>, tally: &mut Tally) -> Result<(), String> {
+        self.enlarged_alike(image, tables, tally)?;
+        self.linked.iter().try_for_each(|card| Converter::Old.takes(*card, image, None))
+    }
+
+    /// The tables of a sound image of the small card, in the version of the rules.
+    fn small_tables(&self, image: &[u8]) -> Option<Tables> {
+        (image.len() == IMAGE).then(|| Tables::of(self.rules(), image)).flatten()
     }
 
     /// A card that holds what the rules exclude is refused by every entry, whatever the record is, and left as it was.
@@ -272,9 +369,9 @@ impl<'a> Compare<'a> {
         for card in &self.cards {
             unsound(*card, &self.image, bytes)?;
             for number in (0..=self.packages()).chain([255, u32::MAX]) {
-                let mut buffer = FILL;
+                let mut buffer = FILL[..self.longest_record()].to_vec();
                 let read = card.read_out(&self.image, number, &mut buffer);
-                let refused = read == Verdict::new(1, 0) && buffer == FILL;
+                let refused = read == Verdict::new(1, 0) && FILL.starts_with(&buffer);
                 expect!(refused, "{}: reading {number} of the unsound image out gives {read:?}", card.name());
             }
         }
@@ -361,9 +458,9 @@ impl<'a> Compare<'a> {
     fn contracts_alike(&self, tally: &mut Tally) -> Result<(), String> {
         for number in 0..self.packages() {
             let used = tables::aid_at(self.rules(), &self.image, number).is_some();
-            let first = self.read_out_one(self.cards[0], number, LONGEST_RECORD)?;
+            let first = self.read_out_one(self.cards[0], number, self.longest_record())?;
             for card in &self.cards[1..] {
-                let other = self.read_out_one(*card, number, LONGEST_RECORD)?;
+                let other = self.read_out_one(*card, number, self.longest_record())?;
                 expect!(other == first, "{}: package {number} reads out as {}", card.name(), to_hex(&other));
             }
             tally.contracts_read += u64::from(used);
@@ -377,13 +474,13 @@ impl<'a> Compare<'a> {
         self.contracts_alike(tally)?;
         let packages = self.packages();
         let number = random.below(packages as usize) as u32;
-        let whole = self.read_out_one(self.cards[0], number, LONGEST_RECORD)?;
+        let whole = self.read_out_one(self.cards[0], number, self.longest_record())?;
         let unused = [packages, packages + 1, 255, 256 + number, 65_536 + number, u32::MAX][random.below(6)];
         let shorter = random.below(whole.len().max(1));
         for card in &self.cards {
             let exact = self.read_out_one(*card, number, whole.len())?;
             expect!(exact == whole, "{}: package {number} reads out into {} bytes", card.name(), whole.len());
-            self.read_out_one(*card, unused, LONGEST_RECORD)?;
+            self.read_out_one(*card, unused, self.longest_record())?;
             if !whole.is_empty() {
                 for size in [whole.len() - 1, shorter] {
                     let mut buffer = FILL[..size].to_vec();
@@ -421,9 +518,32 @@ impl<'a> Compare<'a> {
         Ok(buffer)
     }
 
-    /// The first AID's part of the record is where the machine reads it, or empty.
+    /// "A record of the other card's version gets 2; the AID entry takes both." The record as that card has it; of a malformed one,
+    /// the same with the other version.
+    fn other_version_alike(&self, bytes: &[u8], tally: &mut Tally) -> Result<(), String> {
+        let other = if self.is_large() { &Sizes::SMALL } else { &Sizes::LARGE };
+        let of_other = match record::read(self.rules(), bytes) {
+            Some(record) => encode::bytes(other, &record),
+            None => {
+                let mut bytes = bytes.to_vec();
+                bytes.iter_mut().skip(2).take(1).for_each(|version| *version = other.record_version);
+                bytes
+            }
+        };
+        tally.of_other += u64::from(record::read(self.rules().on(other), &of_other).is_some());
+        let expected = Verdict::new(if self.left_out { 1 } else { 2 }, 255);
+        for card in &self.cards {
+            let mut own = self.image.clone();
+            let verdict = card.judge(&mut own, &of_other);
+            let place = || format!("{}: judging the other card's {}", card.name(), to_hex(&of_other));
+            expect!(verdict == expected && own == self.image, "{} gives {verdict:?}", place());
+        }
+        self.aid_alike(&of_other)
+    }
+
+    /// The first AID's part of the record is where the machine reads it, for either card, or empty.
     fn aid_alike(&self, bytes: &[u8]) -> Result<(), String> {
-        let read = record::read(self.rules(), bytes);
+        let read = Sizes::ALL.into_iter().find_map(|sizes| record::read(self.rules().on(sizes), bytes));
         for card in &self.cards {
             let part = card.aid(bytes);
             let same = match &read {
@@ -437,6 +557,11 @@ impl<'a> Compare<'a> {
 
     /// Engines agree on a damaged image, with the tests' own reader and with the machine.
     pub fn damaged_alike(&self, damage: &Damage, bytes: &[u8], tally: &mut Tally) -> Result<(), Difference> {
+        self.damaged(damage, bytes, if self.is_large() { tally.of_large() } else { tally })
+    }
+
+    /// The same, with what is seen of the card.
+    fn damaged(&self, damage: &Damage, bytes: &[u8], tally: &mut Tally) -> Result<(), Difference> {
         let image = damage.done_to(&self.image);
         let outcome = match image.len() {
             OLD_IMAGE => self.converted_alike(&image, bytes, tally).map(|_| ()),
@@ -449,11 +574,13 @@ impl<'a> Compare<'a> {
     fn judged_alike(&self, image: Vec<u8>, damage: &Damage, bytes: &[u8], tally: &mut Tally) -> Result<(), String> {
         let mut before = Tally::default();
         let tally = if self.in_force() { tally } else { &mut before };
-        let stands_for = tables::contracts(self.rules(), &image);
+        let tables = Tables::of(self.rules(), &image);
         let held = self.held_at(damage);
-        count_damage(damage, held, stands_for.is_some(), tally);
-        match stands_for {
-            Some(machine) => {
+        count_damage(damage, held, tables.is_some(), tally);
+        self.carried_alike(&image, tables.as_ref().filter(|_| !self.is_large()), tally)?;
+        match tables {
+            Some(tables) => {
+                let machine = tables.machine();
                 let (cards, old_needs) = (self.cards.clone(), OldNeeds::default());
                 let mut damaged = Compare { machine, image, cards, old_needs, left_out: false, ..*self };
                 let read = if held.is_some() { damaged.contracts_alike(tally) } else { Ok(()) };
@@ -500,8 +627,11 @@ impl<'a> Compare<'a> {
                 _ => {}
             }
         }
+        if self.is_large() {
+            self.count_large(held, bytes, verdict, tally);
+        }
         let (unmet, waiting) = (self.machine.unmet().count(), self.machine.waiting().count());
-        let sizes = self.rules().sizes;
+        let sizes = self.sizes;
         for (n, count) in [sizes.listed - 1, sizes.listed].into_iter().enumerate() {
             tally.unmet[n] += u64::from(unmet == count);
             tally.waiting[n] += u64::from(waiting == count);
@@ -510,6 +640,15 @@ impl<'a> Compare<'a> {
         let all_services = |contract: &Contract| contract.provides.len() == sizes.services;
         tally.all_packages += u64::from(contracts.len() == sizes.packages);
         tally.all_services += u64::from(contracts.values().any(all_services));
+    }
+
+    /// What a record has shown on the large card.
+    fn count_large(&self, held: &Machine, bytes: &[u8], verdict: Verdict, tally: &mut Tally) {
+        let Some(left) = Tables::of(self.rules(), &self.image) else { return };
+        let gone_on = (verdict.answer == 0 && self.carried_over).then_some(Large::GoneOn);
+        for shown in Large::of(self.rules(), held, bytes, verdict.answer, &left).into_iter().chain(gone_on) {
+            *tally.on_large.entry(shown).or_default() += 1;
+        }
     }
 
     /// What becomes of the needs that kind 9 set, and since R-13 of the kind itself and of kind 10.
@@ -530,7 +669,7 @@ impl<'a> Compare<'a> {
         let Change::Replace(lists) = &record.change else { return Vec::new() };
         let [before, after] = [found, &self.image].map(|image| Tables::of(self.rules(), image));
         let (Some(before), Some(after)) = (before, after) else { return Vec::new() };
-        Replaced::of(record.aid, &lists.provides, verdict.second as usize, &before, &after)
+        Replaced::of(record.aid, &lists.provides, verdict.second as usize, [&before, &after], self.sizes.listed)
     }
 }
 
@@ -581,55 +720,104 @@ fn unsound(card: &dyn Card, image: &[u8], bytes: &[u8]) -> Result<(), String> {
     Ok(())
 }
 
-/// Converting gives this verdict, and leaves this in a buffer of the size; the old image is only read.
-fn converts(card: &dyn Card, old: &[u8], size: usize, expected: Verdict, left: &[u8]) -> Result<(), String> {
-    let (lent, mut buffer) = (old.to_vec(), vec![FILL[0]; size]);
-    let verdict = card.convert(&lent, &mut buffer);
-    let place = || format!("{}: converting {} bytes into {size} gives {verdict:?}", card.name(), old.len());
-    expect!(*black_box(&lent) == *old, "{} and changes the old image", place());
-    expect!(verdict == expected, "{}, not {expected:?}", place());
-    let at = (0..size).find(|at| buffer[*at] != left[*at]);
-    expect!(at.is_none(), "{} and another byte {}", place(), at.unwrap_or(0));
-    Ok(())
+/// The two converters of an engine.
+#[derive(Clone, Copy)]
+enum Converter {
+    /// R-2's, of images of version 01.
+    Old,
+    /// R-9's, of the small card's.
+    Small,
 }
 
-/// Images, buffers and records of lengths that no card and no record has.
+impl Converter {
+    /// The bytes of the images that it takes, and of those that it writes.
+    fn sizes(self) -> [usize; 2] {
+        match self {
+            Converter::Old => [OLD_IMAGE, IMAGE],
+            Converter::Small => [IMAGE, LARGE_IMAGE],
+        }
+    }
+
+    /// Into a buffer of the size it takes an image over as these bytes; or it refuses it.
+    fn takes(self, card: &dyn Card, image: &[u8], taken: Option<&[u8]>) -> Result<(), String> {
+        self.takes_into(card, image, self.sizes()[1], taken)
+    }
+
+    /// Into a buffer of some size. The image is only read, and a refusal leaves the buffer as it was.
+    fn takes_into(self, card: &dyn Card, image: &[u8], size: usize, taken: Option<&[u8]>) -> Result<(), String> {
+        let (lent, mut buffer) = (image.to_vec(), vec![FILL[0]; size]);
+        let (name, verdict) = match self {
+            Converter::Old => ("converting", card.convert(&lent, &mut buffer)),
+            Converter::Small => ("enlarging", card.enlarge(&lent, &mut buffer)),
+        };
+        let place = || format!("{}: {name} {} bytes into {size} gives {verdict:?}", card.name(), image.len());
+        let expected = if taken.is_some() { Verdict::new(0, 0) } else { Verdict::new(1, 255) };
+        expect!(*black_box(&lent) == *image, "{} and changes the image", place());
+        expect!(verdict == expected, "{}, not {expected:?}", place());
+        let at = (0..size).find(|at| buffer[*at] != taken.map_or(FILL[0], |taken| taken[*at]));
+        expect!(at.is_none(), "{} and another byte {}", place(), at.unwrap_or(0));
+        Ok(())
+    }
+}
+
+/// Images, buffers and records of lengths that no card and no record has, or that another card has.
 pub fn lengths_alike(cards: &[&dyn Card]) -> Result<(), String> {
-    let removal = write::remove(&[0xF0, 0, 0, 0, 1]);
-    let [old, new] = [Rules::R_7, Rules::R_2].map(|rules| Tables::empty(rules).write(rules));
+    let own = [0xF0, 0, 0, 0, 1];
+    let removal = write::remove(&own);
+    let empties = [Rules::R_7, Rules::IN_FORCE, ON_LARGE].map(|rules| Tables::empty(rules).write(rules));
+    let [old, small, large] = &empties;
     let sized = |empty: &[u8], length: usize| {
         let mut image = empty.to_vec();
         image.resize(length, 0);
         image
     };
+    let around = |size: usize| [size - 1, size, size + 1, 2 * size, 65_536 + size];
+    let sizes = [around(OLD_IMAGE), around(IMAGE), around(LARGE_IMAGE)].concat();
+    let lengths = [&[0, 1, 3, 4], &sizes[..]].concat();
     for card in cards {
         let name = card.name();
-        for length in [0, 1, 3, 4, OLD_IMAGE, IMAGE - 1, IMAGE + 1, 2 * IMAGE, 65_536 + IMAGE] {
-            for empty in [&old, &new] {
-                unsound(*card, &sized(empty, length), &removal).map_err(|words| format!("{length} bytes: {words}"))?;
+        for &length in &lengths {
+            for empty in &empties {
+                let image = sized(empty, length);
+                if [small, large].contains(&&image) {
+                    continue;
+                }
+                unsound(*card, &image, &removal).map_err(|words| format!("{length} bytes: {words}"))?;
             }
-            let mut buffer = vec![0xA5; length];
-            let written = card.empty(&mut buffer);
-            let left = buffer == vec![0xA5; length];
-            expect!(written == Verdict::new(1, 255) && left, "{name}: empty image into {length} bytes: {written:?}");
-            converts(*card, &old, length, Verdict::new(1, 255), &vec![0xA5; length])?;
-        }
-        for length in [0, 1, 3, 4, OLD_IMAGE - 1, OLD_IMAGE + 1, IMAGE, 2 * OLD_IMAGE, 65_536 + OLD_IMAGE] {
-            for empty in [&old, &new] {
-                converts(*card, &sized(empty, length), IMAGE, Verdict::new(1, 255), &FILL[..IMAGE])?;
+            if ![IMAGE, LARGE_IMAGE].contains(&length) {
+                let mut buffer = vec![0xA5; length];
+                let written = card.empty(&mut buffer);
+                let left = buffer == vec![0xA5; length];
+                expect!(
+                    written == Verdict::new(1, 255) && left,
+                    "{name}: empty image into {length} bytes: {written:?}"
+                );
+            }
+            for (converter, from, to) in [(Converter::Old, old, small), (Converter::Small, small, large)] {
+                let [taken, written] = converter.sizes();
+                if length != written {
+                    converter.takes_into(*card, from, length, None)?;
+                }
+                for empty in &empties {
+                    let image = sized(empty, length);
+                    let right = length == taken && image == *from;
+                    converter.takes(*card, &image, right.then_some(&to[..]))?;
+                }
             }
         }
-        converts(*card, &old, IMAGE, Verdict::new(0, 0), &new)?;
-        let mut image = vec![0; IMAGE];
-        card.empty(&mut image);
-        for length in [removal.len(), 65_536 + removal.len()] {
-            let mut record = vec![0; length];
-            record[..removal.len()].copy_from_slice(&removal);
-            let expected = if length == removal.len() { 5 } else { 2 };
-            let judged = card.judge(&mut image, &record);
-            expect!(judged == Verdict::new(expected, 255), "{name}: a record of {length} bytes: {judged:?}");
-            let part = card.aid(&record).len();
-            expect!(part == if expected == 5 { 5 } else { 0 }, "{name}: the AID of {length} bytes has {part}");
+        for (sizes, empty) in [(&Sizes::SMALL, small), (&Sizes::LARGE, large)] {
+            let mut image = vec![0; empty.len()];
+            card.empty(&mut image);
+            expect!(image == *empty, "{name}: the empty image is {}", to_hex(&image));
+            let removal = Writer(sizes).remove(&own);
+            for length in [removal.len(), 65_536 + removal.len()] {
+                let record = sized(&removal, length);
+                let expected = if length == removal.len() { 5 } else { 2 };
+                let judged = card.judge(&mut image, &record);
+                expect!(judged == Verdict::new(expected, 255), "{name}: a record of {length} bytes: {judged:?}");
+                let part = card.aid(&record).len();
+                expect!(part == if expected == 5 { 5 } else { 0 }, "{name}: the AID of {length} bytes has {part}");
+            }
         }
     }
     Ok(())

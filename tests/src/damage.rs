@@ -1,6 +1,6 @@
 //! Damage to images: one or two bytes, where they are likely to tell.
 
-use crate::card::IMAGE;
+use crate::card::LARGE_IMAGE;
 use crate::methods;
 use crate::random::Random;
 use crate::tables::{Bit, Form};
@@ -40,7 +40,7 @@ impl Damage {
     pub fn done_to(&self, image: &[u8]) -> Vec<u8> {
         let mut image = image.to_vec();
         for (at, byte) in &self.0 {
-            // An image of version 01 ends before some places of version 02.
+            // An image of an earlier version ends before some places of a later one.
             if let Some(place) = image.get_mut(*at) {
                 *place = *byte;
             }
@@ -58,7 +58,7 @@ impl Damage {
         let places = text.split(',').map(|place| {
             let (at, byte) = place.split_once('=')?;
             let at: usize = at.parse().ok()?;
-            (at < IMAGE).then_some((at, u8::from_str_radix(byte, 16).ok()?))
+            (at < LARGE_IMAGE).then_some((at, u8::from_str_radix(byte, 16).ok()?))
         });
         places.collect::<Option<Vec<_>>>().map(Damage)
     }
@@ -101,12 +101,12 @@ fn place(image: &[u8], random: &mut Random) -> usize {
 #[cfg(test)]
 mod tests {
     use super::*;
-    use crate::card::OLD_IMAGE;
+    use crate::card::{IMAGE, OLD_IMAGE};
 
     #[test]
     fn damage_changes_the_bytes_it_names() {
         let mut random = Random::new(5);
-        for size in [OLD_IMAGE, IMAGE].repeat(200) {
+        for size in [OLD_IMAGE, IMAGE, LARGE_IMAGE].repeat(200) {
             let image = vec![0; size];
             let (one, two) = (Damage::one_byte(&image, &mut random), Damage::two_bytes(&image, &mut random));
             assert_eq!((one.0.len(), two.0.len()), (1, 2));
@@ -114,7 +114,7 @@ mod tests {
             assert!((0..size).all(|at| damaged[at] == image[at] || two.0.contains(&(at, damaged[at]))));
             assert_eq!(Damage::from_text(&two.to_text()), Some(two));
         }
-        assert_eq!(Damage::from_text(&format!("{IMAGE}=00")), None);
+        assert_eq!(Damage::from_text(&format!("{LARGE_IMAGE}=00")), None);
         assert_eq!(Damage::from_text("3"), None);
         let past = Damage::from_text(&format!("{}=01", IMAGE - 1)).expect("a place of version 02");
         assert_eq!((past.done_to(&[0; IMAGE])[IMAGE - 1], past.done_to(&[0; OLD_IMAGE])), (1, vec![0; OLD_IMAGE]));

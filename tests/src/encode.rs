@@ -2,23 +2,25 @@
 
 use crate::machine::record::{Change, Lists, Record};
 use crate::machine::{Row, Tokens};
-use crate::write;
+use crate::rules::Sizes;
+use crate::write::{self, Writer};
 
-pub fn bytes(record: &Record) -> Vec<u8> {
-    let own = record.aid.bytes();
+/// As it is written for the card of these sizes.
+pub fn bytes(sizes: &'static Sizes, record: &Record) -> Vec<u8> {
+    let (own, writer) = (record.aid.bytes(), Writer(sizes));
     let contract = |kind: u8, lists: &Lists| {
         let provides: Vec<write::Tokens> = lists.provides.iter().map(pair).collect();
-        write::contract(kind, own, &provides, &rows(&lists.calls), &rows(&lists.grants), &rows(&lists.needs))
+        writer.contract(kind, own, &provides, &rows(&lists.calls), &rows(&lists.grants), &rows(&lists.needs))
     };
-    let update = |kind: u8, row: &Row| write::update(kind, own, row.other.bytes(), pair(&row.tokens));
+    let update = |kind: u8, row: &Row| writer.update(kind, own, row.other.bytes(), pair(&row.tokens));
     match &record.change {
         Change::Load(lists) => contract(1, lists),
-        Change::Remove => write::remove(own),
+        Change::Remove => writer.remove(own),
         Change::AddService(tokens, callers) => {
             let callers: Vec<Vec<u8>> = callers.iter().map(|caller| caller.bytes().to_vec()).collect();
-            write::add_service(own, pair(tokens), &callers)
+            writer.add_service(own, pair(tokens), &callers)
         }
-        Change::RemoveService(tokens) => write::remove_service(own, pair(tokens)),
+        Change::RemoveService(tokens) => writer.remove_service(own, pair(tokens)),
         Change::AddCall(row) => update(5, row),
         Change::RemoveCall(row) => update(6, row),
         Change::AddGrant(row) => update(7, row),

@@ -2,19 +2,20 @@
 //! paper's list of what a reviewer will try, its misreadings of the report, requests misread, and a few more.
 
 mod conditions;
+mod large;
 mod replace;
 mod retired;
 mod watched;
 
 use crate::bytes::layout::{is_aid, Version, Version02};
 use crate::bytes::relation::{Listed, Relation};
-use crate::card::{Bytes, Card, Verdict, BYTES, IMAGE, OLD_IMAGE};
+use crate::card::{Bytes, Card, Verdict, BYTES, IMAGE, LARGE_IMAGE, OLD_IMAGE};
 use crate::machine::record::{self, contradicts, Change};
 use crate::machine::Aid;
 use crate::methods::{self, Held};
 use crate::program::Failure;
-use crate::rules::Rules;
-use crate::tables::{Form, Tables, Waiting};
+use crate::rules::{Rules, Sizes};
+use crate::tables::{self, Form, Tables, Waiting};
 
 /// The byte engine with one of its entries replaced, or by other rules.
 pub struct Fault {
@@ -26,6 +27,7 @@ enum Entry {
     Check(fn(&[u8]) -> Verdict),
     Empty(fn(&mut [u8]) -> Verdict),
     Convert(fn(&[u8], &mut [u8]) -> Verdict),
+    Enlarge(fn(&[u8], &mut [u8]) -> Verdict),
     Judge(fn(&mut [u8], &[u8]) -> Verdict),
     ReadOut(fn(&[u8], u32, &mut [u8]) -> Verdict),
     Aid(fn(&[u8]) -> &[u8]),
@@ -70,6 +72,13 @@ impl Card for Fault {
         }
     }
 
+    fn enlarge(&self, image: &[u8], large: &mut [u8]) -> Verdict {
+        match self.entry {
+            Entry::Enlarge(enlarge) => enlarge(image, large),
+            _ => self.bytes().enlarge(image, large),
+        }
+    }
+
     fn judge(&self, image: &mut [u8], record: &[u8]) -> Verdict {
         match self.entry {
             Entry::Judge(judge) => judge(image, record),
@@ -100,9 +109,13 @@ impl Card for Fault {
 }
 
 const IN_FORCE: Rules = Rules::IN_FORCE;
-/// The places of their images, and the most rows of a list.
-const FORM: Form = Form::of(IN_FORCE);
-const MOST: u8 = IN_FORCE.sizes.listed as u8;
+
+/// The count of unmet calls or of waiting grants was below the most that the card's list has, and is there now.
+fn comes_to_limit(list: fn(&Form) -> usize, before: &[u8], after: &[u8]) -> bool {
+    let form = Form::of_image(after);
+    let most = form.sizes.listed as u8;
+    before[list(&form)] < most && after[list(&form)] == most
+}
 
 pub const FAULTS: &[Fault] = &[
     Fault { name: "never-changes", entry: Entry::Judge(never_changes) },
@@ -213,6 +226,34 @@ pub const FAULTS: &[Fault] = &[
     Fault { name: "caller-not-compared", entry: Entry::Judge(watched::caller_not_compared) },
     Fault { name: "callee-not-compared", entry: Entry::Judge(watched::callee_not_compared) },
     Fault { name: "grant-goes-with-last-call", entry: Entry::Judge(watched::grant_goes_with_last_call) },
+    Fault { name: "used-bytes-swapped", entry: Entry::Judge(large::used_swapped) },
+    Fault { name: "provides-bytes-swapped", entry: Entry::Judge(large::provides_swapped) },
+    Fault { name: "calls-bytes-swapped", entry: Entry::Judge(large::calls_swapped) },
+    Fault { name: "version-01-on-large", entry: Entry::Judge(large::version_01_on_large) },
+    Fault { name: "version-02-on-small", entry: Entry::Judge(large::version_02_on_small) },
+    Fault { name: "aid-of-version-01-alone", entry: Entry::Aid(large::aid_of_version_01_alone) },
+    Fault { name: "row-33-let-in", entry: Entry::Judge(large::thirty_third_row) },
+    Fault { name: "eight-packages-on-large", entry: Entry::Judge(large::eight_packages) },
+    Fault { name: "eight-services-on-large", entry: Entry::Judge(large::eight_services) },
+    Fault { name: "sixteen-unmet-on-large", entry: Entry::Judge(large::sixteen_unmet_calls) },
+    Fault { name: "sixteen-waiting-on-large", entry: Entry::Judge(large::sixteen_waiting_grants) },
+    Fault { name: "counts-of-a-byte", entry: Entry::Judge(large::counts_of_a_byte) },
+    Fault { name: "row-273-read", entry: Entry::Judge(large::row_273_read) },
+    Fault { name: "checks-small-alone", entry: Entry::Check(large::small_alone) },
+    Fault { name: "version-03-unchecked", entry: Entry::Check(large::version_unchecked) },
+    Fault { name: "empties-small-alone", entry: Entry::Empty(large::empties_small_alone) },
+    Fault { name: "reads-out-with-01", entry: Entry::ReadOut(large::reads_out_version_01) },
+    Fault { name: "reads-out-to-7", entry: Entry::ReadOut(large::reads_out_numbers_to_7) },
+    Fault { name: "enlarging-closes-up", entry: Entry::Enlarge(large::closes_up) },
+    Fault { name: "enlarging-renumbers", entry: Entry::Enlarge(large::closes_up_services) },
+    Fault { name: "enlarges-backwards", entry: Entry::Enlarge(large::backwards) },
+    Fault { name: "enlarges-without-needs", entry: Entry::Enlarge(large::without_needs) },
+    Fault { name: "enlarges-into-high-bytes", entry: Entry::Enlarge(large::into_high_bytes) },
+    Fault { name: "enlarges-unsound", entry: Entry::Enlarge(large::unsound) },
+    Fault { name: "enlarges-version-01", entry: Entry::Enlarge(large::version_01) },
+    Fault { name: "enlarges-into-more", entry: Entry::Enlarge(large::into_more) },
+    Fault { name: "enlarges-with-a-count", entry: Entry::Enlarge(large::with_a_count) },
+    Fault { name: "refused-enlarging-writes", entry: Entry::Enlarge(large::refused_writes) },
 ];
 
 /// The fault that the option `--fault` names.
@@ -236,11 +277,11 @@ fn changes_once(image: &mut [u8], record: &[u8]) -> Verdict {
     }
 }
 
-/// Gives 10 for a call that would be the last unmet one that fits.
+/// Gives 10 where the unmet calls would be as many as fit.
 fn ten_uncounted(image: &mut [u8], record: &[u8]) -> Verdict {
     let before = image.to_vec();
     let verdict = BYTES.judge(image, record);
-    if verdict.answer == 0 && before[FORM.unmet] == MOST - 1 && image[FORM.unmet] == MOST {
+    if verdict.answer == 0 && comes_to_limit(|form| form.unmet, &before, image) {
         image.copy_from_slice(&before);
         return Verdict::new(10, 255);
     }
@@ -258,7 +299,7 @@ fn made_up_number(image: &mut [u8], record: &[u8]) -> Verdict {
 fn refusal_writes(image: &mut [u8], record: &[u8]) -> Verdict {
     let verdict = BYTES.judge(image, record);
     if verdict.answer == 8 && record[3] == 5 {
-        image[FORM.calls] |= 1;
+        image[Form::of_image(image).calls] |= 1;
     }
     verdict
 }
@@ -267,14 +308,14 @@ fn refusal_writes(image: &mut [u8], record: &[u8]) -> Verdict {
 fn grants_lost(image: &mut [u8], record: &[u8]) -> Verdict {
     let verdict = BYTES.judge(image, record);
     if verdict.answer == 0 && record[3] == 2 {
-        let written = &record[4..];
-        while image[FORM.waiting] > 0 {
-            let last = FORM.waiting_at(usize::from(image[FORM.waiting]) - 1);
+        let (form, written) = (Form::of_image(image), &record[4..]);
+        while image[form.waiting] > 0 {
+            let last = form.waiting_at(usize::from(image[form.waiting]) - 1);
             if !image[last..].starts_with(written) {
                 break;
             }
-            image[last..last + FORM.waiting_row].fill(0);
-            image[FORM.waiting] -= 1;
+            image[last..last + form.waiting_row].fill(0);
+            image[form.waiting] -= 1;
         }
     }
     verdict
@@ -283,9 +324,10 @@ fn grants_lost(image: &mut [u8], record: &[u8]) -> Verdict {
 /// Puts the last two unmet calls after a removal the other way round.
 fn rows_swapped(image: &mut [u8], record: &[u8]) -> Verdict {
     let verdict = BYTES.judge(image, record);
-    if verdict.answer == 0 && record[3] == 2 && image[FORM.unmet] >= 2 {
-        let end = usize::from(image[FORM.unmet]);
-        image[FORM.unmet_at(end - 2)..FORM.unmet_at(end)].rotate_left(FORM.unmet_row);
+    if verdict.answer == 0 && record[3] == 2 && image[Form::of_image(image).unmet] >= 2 {
+        let form = Form::of_image(image);
+        let end = usize::from(image[form.unmet]);
+        image[form.unmet_at(end - 2)..form.unmet_at(end)].rotate_left(form.unmet_row);
     }
     verdict
 }
@@ -301,7 +343,7 @@ fn left_over_read(image: &mut [u8], record: &[u8]) -> Verdict {
 
 /// Looks at the record before the image.
 fn judges_unsound(image: &mut [u8], bytes: &[u8]) -> Verdict {
-    match record::read(Rules::IN_FORCE, bytes) {
+    match record::read(tables::in_force(image), bytes) {
         None => Verdict::new(2, 255),
         Some(_) => BYTES.judge(image, bytes),
     }
@@ -315,8 +357,9 @@ fn panics(image: &mut [u8], record: &[u8]) -> Verdict {
 
 fn last_byte_unchecked(image: &[u8]) -> Verdict {
     let mut image = image.to_vec();
-    if image.len() == IMAGE && image[FORM.waiting] < MOST {
-        image[IMAGE - 1] = 0;
+    let form = Form::of(tables::in_force(&image));
+    if image.len() == form.size && usize::from(image[form.waiting]) < form.sizes.listed {
+        image[form.size - 1] = 0;
     }
     BYTES.check(&image)
 }
@@ -380,7 +423,7 @@ fn method_127_refused(image: &mut [u8], record: &[u8]) -> Verdict {
 /// Lets any method token in that stands in this part of the image.
 fn lets_in(part: Held, image: &[u8]) -> Verdict {
     let other = |image: &[u8]| methods::of_image(image).into_iter().any(|(held, at)| held != part && image[at] > 127);
-    match image.len() == IMAGE && !other(image) {
+    match [IMAGE, LARGE_IMAGE].contains(&image.len()) && !other(image) {
         true => Bytes(TO_255).check(image),
         false => BYTES.check(image),
     }
@@ -401,7 +444,7 @@ fn reads_out_128(image: &[u8], number: u32, out: &mut [u8]) -> Verdict {
 
 /// A whole contract with a grant of a service that it does not provide contradicts itself, as before R-2.
 fn early_refused(kind: u8, image: &mut [u8], bytes: &[u8]) -> Verdict {
-    let read = record::read(Rules::IN_FORCE, bytes);
+    let read = record::read(tables::in_force(image), bytes);
     let refused = read.is_some_and(|record| contradicts(Rules::R_7, &record)) && bytes[3] == kind;
     match refused && BYTES.check(image).answer == 0 {
         true => Verdict::new(3, 255),
@@ -416,7 +459,7 @@ fn early_grant_refused(image: &mut [u8], bytes: &[u8]) -> Verdict {
     let early = |tables: Tables| {
         tables.waiting.last().is_some_and(|grant| tables.service(grant.callee, grant.tokens).is_none())
     };
-    if verdict.answer == 0 && bytes[3] == 7 && Tables::of(Rules::IN_FORCE, image).is_some_and(early) {
+    if verdict.answer == 0 && bytes[3] == 7 && Tables::in_force(image).is_some_and(early) {
         image.copy_from_slice(&before);
         return Verdict::new(6, 255);
     }
@@ -433,15 +476,16 @@ fn tables_after(
 ) -> Verdict {
     let mut own = image.to_vec();
     let verdict = BYTES.judge(&mut own, bytes);
-    let [before, after] = [&image[..], &own].map(|image| Tables::of(IN_FORCE, image));
+    let rules = tables::in_force(image);
+    let [before, after] = [&image[..], &own].map(|image| Tables::of(rules, image));
     if let (0, Some(before), Some(mut after)) = (verdict.answer, before, after) {
         if bytes[3] == kind {
             if let Err(cause) = change(verdict.second as usize, &before, &mut after) {
                 return Verdict::new(cause, 255);
             }
-            after.unmet.truncate(IN_FORCE.sizes.listed);
-            after.waiting.truncate(IN_FORCE.sizes.listed);
-            own = after.write(IN_FORCE);
+            after.unmet.truncate(rules.sizes.listed);
+            after.waiting.truncate(rules.sizes.listed);
+            own = after.write(rules);
         }
     }
     image.copy_from_slice(&own);
@@ -483,7 +527,7 @@ fn leaves(kind: u8, image: &mut [u8], bytes: &[u8]) -> Verdict {
 fn eleven_at_sixteen(image: &mut [u8], bytes: &[u8]) -> Verdict {
     let before = image.to_vec();
     let verdict = BYTES.judge(image, bytes);
-    if verdict.answer == 0 && bytes[3] == 4 && before[FORM.waiting] < MOST && image[FORM.waiting] == MOST {
+    if verdict.answer == 0 && bytes[3] == 4 && comes_to_limit(|form| form.waiting, &before, image) {
         image.copy_from_slice(&before);
         return Verdict::new(11, 255);
     }
@@ -492,7 +536,10 @@ fn eleven_at_sixteen(image: &mut [u8], bytes: &[u8]) -> Verdict {
 
 /// The grants that kind 3 lists and that wait, before it and after it.
 fn doubled(bytes: &[u8], before: &[Waiting], after: &[Waiting]) -> Vec<Waiting> {
-    let Some(record) = record::read(Rules::IN_FORCE, bytes) else { return Vec::new() };
+    // Kind 3 has one form on both cards, but for the version.
+    let Some(record) = Sizes::ALL.into_iter().find_map(|sizes| record::read(IN_FORCE.on(sizes), bytes)) else {
+        return Vec::new();
+    };
     let Change::AddService(tokens, callers) = record.change else { return Vec::new() };
     let listed = |grant: &&Waiting| grant.tokens == tokens && callers.contains(&grant.caller) && after.contains(grant);
     before.iter().filter(listed).copied().collect()
@@ -515,9 +562,9 @@ fn doubled_grant_moved(image: &mut [u8], bytes: &[u8]) -> Verdict {
 /// Kind 3 lets those alone call that it lists.
 fn listed_callers_alone(image: &mut [u8], bytes: &[u8]) -> Verdict {
     let mut without = image.to_vec();
-    if let (Some(mut tables), Some(3)) = (Tables::of(Rules::IN_FORCE, image), bytes.get(3)) {
+    if let (Some(mut tables), Some(3)) = (Tables::in_force(image), bytes.get(3)) {
         tables.waiting.clear();
-        without = tables.write(Rules::IN_FORCE);
+        without = tables.write(tables::in_force(image));
     }
     match BYTES.judge(&mut without, bytes) {
         refused @ Verdict { answer: 8, .. } => refused,
@@ -530,11 +577,12 @@ fn load_takes_all(image: &mut [u8], bytes: &[u8]) -> Verdict {
     after_kind(1, image, bytes, |_, after| after.retain(|grant| grant.caller != Aid::new(BYTES.aid(bytes))))
 }
 
-/// Checks the image without the waiting rows that may stand there.
+/// Checks the image, of the small card, without the waiting rows that may stand there.
 fn check_without(image: &[u8], may_stand: impl Fn(&[u8], Listed) -> bool) -> Verdict {
     let mut without = image.to_vec();
-    let whole = |row: &Listed| row.own < FORM.sizes.packages && Aid::LENGTHS.contains(&usize::from(row.other[0]));
-    if image.len() == IMAGE && image[FORM.waiting] <= MOST {
+    let form = Form::of(IN_FORCE);
+    let whole = |row: &Listed| row.own < form.sizes.packages && Aid::LENGTHS.contains(&usize::from(row.other[0]));
+    if image.len() == IMAGE && usize::from(image[form.waiting]) <= form.sizes.listed {
         Relation::Grants.close_up::<Version02>(&mut without, |tables, row| whole(&row) && may_stand(tables, row));
     }
     BYTES.check(&without)
@@ -556,7 +604,7 @@ fn installed_row_unsound(image: &[u8]) -> Verdict {
         let mut packages = tables.packages.iter().flatten();
         packages.any(|package| tables.waiting.iter().any(|grant| grant.caller == package.aid))
     };
-    match Tables::of(Rules::IN_FORCE, image).is_some_and(installed) {
+    match Tables::in_force(image).is_some_and(installed) {
         true => Verdict::new(1, 255),
         false => BYTES.check(image),
     }

@@ -6,10 +6,11 @@ mod fit;
 mod loose;
 mod spoil;
 
+use crate::card::ON_LARGE;
 use crate::machine::{record, Aid, Machine, Tokens};
 use crate::random::Random;
 use crate::rules::Rules;
-use crate::write;
+use crate::write::{self, Writer};
 
 /// Where a history is driven to.
 #[derive(Clone, Copy, PartialEq, Eq)]
@@ -40,16 +41,34 @@ impl Source {
     /// The history with this ordinal of the run with this seed.
     pub fn new(seed: u64, ordinal: u64) -> Source {
         let random = Random::new(seed.wrapping_mul(0x1000_0000_01B3).wrapping_add(ordinal));
-        Source::with(Vec::new(), Vec::new(), random)
+        Source::with(Rules::IN_FORCE, Vec::new(), Vec::new(), random)
     }
 
-    /// A source by the rules in force that has these AIDs and tokens, and more where they are few.
-    pub fn with(aids: Vec<Aid>, tokens: Vec<Tokens>, mut random: Random) -> Source {
+    /// A source by the rules, on the card of their sizes, that has these AIDs and tokens, and more where they are few.
+    pub fn with(rules: Rules, aids: Vec<Aid>, tokens: Vec<Tokens>, mut random: Random) -> Source {
         let drives = [Drive::Mixed, Drive::Lists, Drive::Packages, Drive::Services];
         let drive = drives[random.below(drives.len())];
-        let rules = Rules::IN_FORCE;
         let (aids, tokens) = (few_aids(&mut random, rules, aids), few_tokens(&mut random, rules, tokens));
         Source { random, rules, drive, aids, tokens, own: None }
+    }
+
+    /// Where in a history of this length the card is enlarged, if it is, and the source of what it gets then: it goes on with the AIDs
+    /// and tokens of this one. This one gives the same records as without it.
+    pub fn enlarged(&self, length: usize) -> Option<(usize, Source)> {
+        let mut random = self.random.apart();
+        let at = if random.percent(50) { 0 } else { random.between(0, length) };
+        let enlarged = random.percent(30);
+        enlarged.then(|| (at, Source::with(ON_LARGE, self.aids.clone(), self.tokens.clone(), random)))
+    }
+
+    /// How many records the large card gets.
+    pub fn length_on_large(&mut self) -> usize {
+        self.random.between(20, 200)
+    }
+
+    /// Writes records for the card.
+    fn write(&self) -> Writer {
+        Writer(self.rules.sizes)
     }
 
     /// A record whose first AID is this one, aimed at the contracts held, or a malformed one.
@@ -102,7 +121,7 @@ impl Source {
     /// The next record, aimed at the contracts held.
     pub fn record(&mut self, held: &Machine) -> Vec<u8> {
         match self.random.below(100) {
-            0..=1 => spoil::noise(&mut self.random),
+            0..=1 => spoil::noise(self.rules.sizes.record_version, &mut self.random),
             2..=11 => {
                 let good = self.good_record(held);
                 spoil::spoiled(good, &mut self.random)

@@ -17,6 +17,7 @@ pub mod early;
 pub mod faults;
 pub mod generate;
 pub mod history;
+pub mod large;
 pub mod methods;
 pub mod pairs;
 pub mod replace;

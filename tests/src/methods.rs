@@ -1,7 +1,7 @@
 //! Where method tokens stand in records and in images, so that they can be set, and counted by their places.
 
-use crate::card::IMAGE;
-use crate::rules::Rules;
+use crate::card::OLD_IMAGE;
+use crate::rules::{Rules, Sizes};
 use crate::tables::Form;
 use std::fmt;
 
@@ -51,7 +51,8 @@ pub fn of_record(record: &[u8]) -> Vec<(Place, usize)> {
 
 fn walk(record: &[u8], found: &mut Vec<(Place, usize)>) -> Option<()> {
     let after_aid = |at: usize| Some(at + 1 + usize::from(*record.get(at)?));
-    let kind = *record.get(3)?;
+    let [.., version, kind] = *record.first_chunk::<4>()?;
+    let sizes = Sizes::ALL.into_iter().find(|sizes| sizes.record_version == version).unwrap_or(&Sizes::SMALL);
     let mut at = after_aid(4)?;
     match kind {
         1 | 11 => {
@@ -60,7 +61,7 @@ fn walk(record: &[u8], found: &mut Vec<(Place, usize)>) -> Option<()> {
             found.extend((1..=services).map(|n| (provides, at + 2 * n)));
             at += 1 + 2 * services;
             for list in lists {
-                let count = record.get(at..at + Rules::IN_FORCE.sizes.count_bytes)?;
+                let count = record.get(at..at + sizes.count_bytes)?;
                 at += count.len();
                 for _ in 0..count.iter().fold(0, |rows, byte| 256 * rows + usize::from(*byte)) {
                     at = after_aid(at)? + 2;
@@ -80,7 +81,7 @@ fn walk(record: &[u8], found: &mut Vec<(Place, usize)>) -> Option<()> {
 pub enum Held {
     Provided,
     Unmet,
-    /// In version 02 alone.
+    /// Since version 02.
     Waiting,
 }
 
@@ -94,7 +95,7 @@ impl fmt::Display for Held {
     }
 }
 
-/// The byte of each method token that an image of either version holds.
+/// The byte of each method token that an image of any version holds.
 pub fn of_image(image: &[u8]) -> Vec<(Held, usize)> {
     let form = Form::of_image(image);
     let rows = |list: usize| 0..usize::from(image[list]).min(form.sizes.listed);
@@ -104,7 +105,7 @@ pub fn of_image(image: &[u8]) -> Vec<(Held, usize)> {
     let provided = provided.map(|(package, service)| (Held::Provided, form.token_pair(package, service) + 1));
     // A method token is the last byte but one of an unmet call, and the last of a waiting grant.
     let unmet = rows(form.unmet).map(|n| (Held::Unmet, form.unmet_at(n + 1) - 2));
-    let waiting = rows(form.waiting).filter(|_| image.len() == IMAGE);
+    let waiting = rows(form.waiting).filter(|_| image.len() != OLD_IMAGE);
     let waiting = waiting.map(|n| (Held::Waiting, form.waiting_at(n + 1) - 1));
     provided.chain(unmet).chain(waiting).collect()
 }
@@ -112,14 +113,14 @@ pub fn of_image(image: &[u8]) -> Vec<(Held, usize)> {
 #[cfg(test)]
 mod tests {
     use super::*;
-    use crate::write::{add_service, contract, remove, remove_service, update};
+    use crate::write::{add_service, remove, remove_service, update, Writer};
 
     #[test]
     fn every_place_is_found() {
         let (own, other) = ([0xF0; 5], vec![0xF1; 16]);
         let row = |method| (other.clone(), (0, method));
-        for kind in [1, 11] {
-            let whole = contract(kind, &own, &[(0, 1), (0, 2)], &[row(3)], &[row(4), row(5)], &[row(6)]);
+        for (kind, sizes) in [(1, &Sizes::SMALL), (11, &Sizes::SMALL), (1, &Sizes::LARGE), (11, &Sizes::LARGE)] {
+            let whole = Writer(sizes).contract(kind, &own, &[(0, 1), (0, 2)], &[row(3)], &[row(4), row(5)], &[row(6)]);
             let found: Vec<(Place, u8)> = of_record(&whole).into_iter().map(|(place, at)| (place, whole[at])).collect();
             let [provides, calls, grants, needs] = Place::lists(kind);
             assert_eq!(found, [(provides, 1), (provides, 2), (calls, 3), (grants, 4), (grants, 5), (needs, 6)]);

@@ -1,7 +1,6 @@
 //! What R-1 brings about, "An applet's new release brings its whole contract", so that it can be counted in histories.
 
 use crate::machine::{Aid, Row, Tokens};
-use crate::rules::Rules;
 use crate::tables::{Bit, Tables};
 use std::fmt;
 
@@ -61,8 +60,15 @@ impl Replaced {
         Replaced::WaitingPast,
     ];
 
-    /// What an accepted record with these services does to the package with this number, by the tables before and after it.
-    pub fn of(own: Aid, provides: &[Tokens], number: usize, before: &Tables, after: &Tables) -> Vec<Replaced> {
+    /// What an accepted record with these services does to the package with this number, by the tables before and after it, and by
+    /// the most rows that a list has.
+    pub fn of(
+        own: Aid,
+        provides: &[Tokens],
+        number: usize,
+        [before, after]: [&Tables; 2],
+        most: usize,
+    ) -> Vec<Replaced> {
         // Its services.
         let (old, new) = (services(before, number), services(after, number));
         let kept = |service: &usize| old[*service].is_some() && old[*service] == new[*service];
@@ -94,8 +100,6 @@ impl Replaced {
         let both = |one: &[Row], other: &[Row]| one.iter().any(|row| other.contains(row));
         let (waited, waits) = (waiting(before, true), waiting(after, true));
         let stay = waiting(after, false);
-        let most = Rules::IN_FORCE.sizes.listed;
-
         let done = |replaced: &Replaced| match replaced {
             Replaced::Kept => (0..new.len()).any(|service| kept(&service) && (0..service).any(dropped)),
             Replaced::Reordered => !in_order.is_sorted(),
@@ -130,7 +134,6 @@ fn services(tables: &Tables, number: usize) -> &[Option<Tokens>] {
 
 impl fmt::Display for Replaced {
     fn fmt(&self, f: &mut fmt::Formatter) -> fmt::Result {
-        let most = Rules::IN_FORCE.sizes.listed;
         f.write_str(match self {
             Replaced::Kept => "service kept above a dropped one",
             Replaced::Reordered => "services in another order",
@@ -148,8 +151,8 @@ impl fmt::Display for Replaced {
             Replaced::GrantSettled => "grant settled as its service comes",
             Replaced::OtherStays => "waiting grant of another stays",
             Replaced::GivenStays => "one given to the package stays",
-            Replaced::UnmetPast => return write!(f, "unmet calls past {most} on the way"),
-            Replaced::WaitingPast => return write!(f, "waiting grants past {most} on the way"),
+            Replaced::UnmetPast => "unmet calls past the limit on the way",
+            Replaced::WaitingPast => "waiting grants past the limit on the way",
         })
     }
 }

@@ -65,7 +65,7 @@ impl OldNeeds {
         if !self.0.is_empty() {
             shown.push(Retired::ReadOut);
         }
-        let before = || held.clone().judge(Rules::R_1, bytes);
+        let before = || held.clone().judge(Rules::R_1.on(rules.sizes), bytes);
         match (record::read(rules, bytes), answer, bytes.get(3)) {
             (None, 2, Some(9)) if before() == 0 => shown.push(Retired::Adds),
             (None, 2, Some(10)) if before() == 0 => shown.push(Retired::Removes),

@@ -23,7 +23,7 @@ pub struct Failure {
     pub history: Vec<Event>,
 }
 
-/// Judges so many random records everywhere.
+/// Judges so many random records on the small card everywhere, and more on the large one: some histories branch off onto it.
 pub fn run(cards: &[&dyn Card], seed: u64, records: u64) -> Result<Tally, Failure> {
     lengths_alike(cards).map_err(|words| Failure { difference: words.into(), history: Vec::new() })?;
     let mut tally = Tally::default();
@@ -54,30 +54,52 @@ fn one_history(
     let mut source = Source::new(seed, ordinal);
     let changes = source.changes();
     let mut compare = Compare::before(cards, seed, changes)?;
-    let mut next = |event: Event, compare: &mut Compare, tally: &mut Tally| {
-        history.push(event);
-        compare.event(&history[history.len() - 1], tally)
-    };
     for left in (0..changes).rev() {
         for _ in 0..source.length_before() {
-            next(Event::Record(source.record(&compare.machine)), &mut compare, tally)?;
+            next(Event::Record(source.record(&compare.machine)), history, &mut compare, tally)?;
         }
         if source.clears() && !compare.left_out {
             while let Some(record) = source.clearing(&compare.machine) {
-                next(Event::Record(record), &mut compare, tally)?;
+                next(Event::Record(record), history, &mut compare, tally)?;
             }
         }
-        next(Event::Change, &mut compare, tally)?;
+        next(Event::Change, history, &mut compare, tally)?;
         source.change(Rules::before(left));
     }
     let length = if compare.left_out { source.length_left_out() } else { source.length() };
-    for _ in 0..length {
-        if tally.records == records {
+    let mut enlarged = source.enlarged(length);
+    for n in 0..=length {
+        if let Some((_, source)) = enlarged.take_if(|(at, _)| *at == n) {
+            let small = history.len();
+            go_on_large(source, history, compare.clone(), tally)?;
+            history.truncate(small);
+        }
+        if n == length || tally.records == records {
             break;
         }
-        next(Event::Record(source.record(&compare.machine)), &mut compare, tally)?;
+        next(Event::Record(source.record(&compare.machine)), history, &mut compare, tally)?;
     }
     Ok(())
+}
+
+/// The card is enlarged as it is, and goes on. The small card's history goes on without it.
+fn go_on_large(
+    mut source: Source,
+    history: &mut Vec<Event>,
+    mut compare: Compare,
+    tally: &mut Tally,
+) -> Result<(), Difference> {
+    next(Event::Enlarge, history, &mut compare, tally)?;
+    let length = if compare.left_out { 0 } else { source.length_on_large() };
+    for _ in 0..length {
+        next(Event::Record(source.record(&compare.machine)), history, &mut compare, tally)?;
+    }
+    Ok(())
+}
+
+fn next(event: Event, history: &mut Vec<Event>, compare: &mut Compare, tally: &mut Tally) -> Result<(), Difference> {
+    history.push(event);
+    compare.event(&history[history.len() - 1], tally)
 }
 
 /// Judges the records of a history everywhere, from the empty image. The damage is done to each image besides that which

@@ -54,6 +54,12 @@ pub fn contracts(rules: Rules, image: &[u8]) -> Option<Machine> {
     Tables::of(rules, image).map(|tables| tables.machine())
 }
 
+/// The rules in force on the card that the image is of; on the small one where its length is no card's.
+pub fn in_force(image: &[u8]) -> Rules {
+    let of_card = |sizes: &&'static Sizes| Form::of(Rules::IN_FORCE.on(sizes)).size == image.len();
+    Rules::IN_FORCE.on(Sizes::ALL.into_iter().find(of_card).unwrap_or(&Sizes::SMALL))
+}
+
 /// The AID at a package number of a sound image; `None` when the number is not used.
 pub fn aid_at(rules: Rules, image: &[u8], number: u32) -> Option<Aid> {
     let (form, number) = (Form::of(rules), number as usize);
@@ -97,7 +103,12 @@ impl Form {
         let table = packages * packages * width(services);
         // A row has an AID, a package number and tokens, or in version 01 the number of a service to be granted.
         let unmet_row = AID + 1 + PAIR;
-        let (version, waiting_row) = if rules.early_grants { (2, unmet_row) } else { (1, AID + 1 + 1) };
+        let waiting_row = if rules.early_grants { unmet_row } else { AID + 1 + 1 };
+        let version = match rules.early_grants {
+            _ if packages == Sizes::LARGE.packages => 3,
+            true => 2,
+            false => 1,
+        };
         let used = HEADER;
         let aids = used + width(packages);
         let tokens = aids + packages * AID;
@@ -128,7 +139,8 @@ impl Form {
 
     /// Of an image whose size is that of some version.
     pub fn of_image(image: &[u8]) -> Form {
-        let mut forms = Rules::ALL.into_iter().map(Form::of);
+        let on_each = |sizes: &'static Sizes| Rules::ALL.into_iter().map(move |rules| Form::of(rules.on(sizes)));
+        let mut forms = Sizes::ALL.into_iter().flat_map(on_each);
         forms.find(|form| form.size == image.len()).expect("an image of some version")
     }
 
@@ -224,6 +236,11 @@ impl Tables {
         Tables::read(rules, image).filter(|tables| tables.write(rules) == image && tables.hold(rules))
     }
 
+    /// The tables of an image that is sound by the rules in force, and of either card.
+    pub fn in_force(image: &[u8]) -> Option<Tables> {
+        Tables::of(in_force(image), image)
+    }
+
     fn read(rules: Rules, image: &[u8]) -> Option<Tables> {
         let form = Form::of(rules);
         if image.len() != form.size {
@@ -266,7 +283,7 @@ impl Tables {
         Some(tables)
     }
 
-    /// The image with these tables, of the version that the rules have.
+    /// The image with these tables, of the version that the rules have. Those of a small card fit into a large one.
     pub fn write(&self, rules: Rules) -> Vec<u8> {
         let form = Form::of(rules);
         let mut image = vec![0; form.size];
@@ -460,9 +477,8 @@ mod tests {
     /// "16 packages of 16 services, a used field and table entries of two bytes, big-endian, 32 rows in each list."
     #[test]
     fn the_sizes_of_r_9_make_its_image() {
-        const SIZES: Sizes = Sizes { packages: 16, services: 16, listed: 32, ..Sizes::SMALL };
-        let form = Form::of(Rules { sizes: &SIZES, ..Rules::R_2 });
-        assert_eq!((form.size, &form.header[..2]), (3639, &[0x0E, 0x37][..]));
+        let form = Form::of(Rules::IN_FORCE.on(&Sizes::LARGE));
+        assert_eq!((form.size, form.header), (3639, [0x0E, 0x37, 0x03]));
         let bits = [form.used_bit(0), form.used_bit(15), form.provided_bit(1, 7), form.provided_bit(1, 8)];
         let provides = form.provides + 2;
         assert_eq!(bits.map(|at| (at.byte, at.bit)), [(4, 0x01), (3, 0x80), (provides + 1, 0x80), (provides, 0x01)]);

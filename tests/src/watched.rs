@@ -6,7 +6,6 @@ pub mod turns;
 
 use crate::machine::{Aid, Row, Tokens};
 use crate::pairs::Pairs;
-use crate::rules::Rules;
 use crate::tables::{Package, Tables};
 use std::collections::{BTreeMap, BTreeSet};
 use std::fmt;
@@ -14,7 +13,7 @@ use std::fmt;
 /// What the two cards are to agree on.
 #[derive(Clone, Copy, Debug, PartialEq, Eq, PartialOrd, Ord)]
 pub enum Clause {
-    /// "Two sound cards of one size": by the rules in force a sound image has one size.
+    /// "Two sound cards of one size."
     Sound,
     UsedNumbers,
     /// At each number that both use: the AID, and the services as a set, whatever numbers these have.
@@ -152,9 +151,12 @@ impl View {
 
 /// The tables of two images that are alike for B; or the clauses that they break.
 pub fn alike(own: Aid, images: [&[u8]; 2]) -> Result<[Tables; 2], Vec<Clause>> {
-    let [Some(one), Some(two)] = images.map(|image| Tables::of(Rules::IN_FORCE, image)) else {
+    let [Some(one), Some(two)] = images.map(Tables::in_force) else {
         return Err(vec![Clause::Sound]);
     };
+    if one.packages.len() != two.packages.len() {
+        return Err(vec![Clause::Sound]);
+    }
     let [first, second] = [&one, &two].map(|tables| View::of(tables, own));
     if first == second {
         return Ok([one, two]);
@@ -267,7 +269,7 @@ impl Seen {
 impl fmt::Display for Clause {
     fn fmt(&self, f: &mut fmt::Formatter) -> fmt::Result {
         f.write_str(match self {
-            Clause::Sound => "both sound",
+            Clause::Sound => "both sound and of one size",
             Clause::UsedNumbers => "used numbers",
             Clause::Aids => "AIDs",
             Clause::Services => "services",

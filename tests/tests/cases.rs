@@ -1,10 +1,11 @@
 //! The table of cases holds on the machine and on every engine.
 
 use comparison::card::{linked, Card, Verdict, BYTES, IMAGE};
-use comparison::cases::{all, conditions, early, named, replace, retired, tokens, watched, worked, Step, B};
+use comparison::cases::{all, conditions, early, large, named, replace, retired, tokens, watched, worked, Step, B};
 use comparison::conditions::Outcome;
 use comparison::damage::Damage;
 use comparison::early::Early;
+use comparison::large::Large;
 use comparison::machine::Aid;
 use comparison::methods::Place;
 use comparison::replace::Replaced;
@@ -17,7 +18,7 @@ use std::collections::BTreeSet;
 fn every_case_is_answered_as_expected() {
     let cards = linked();
     for case in all() {
-        assert!(!case.steps.is_empty());
+        assert!(!case.history().is_empty());
         case.run(&cards).unwrap_or_else(|difference| panic!("{}: {difference}", case.name));
     }
 }
@@ -113,6 +114,33 @@ fn every_outcome_of_the_conditions_has_its_case() {
         seen.extend(tally.loads.keys().copied());
     }
     assert_eq!(seen, Outcome::all().collect());
+}
+
+/// Each thing that R-9 has on the large card has its case, and cards go over its conversion.
+#[test]
+fn everything_on_the_large_card_has_its_case() {
+    let cards = linked();
+    let (mut seen, mut of_other) = (BTreeSet::new(), [0; 2]);
+    for case in large::cases() {
+        let tally = replay(&cards, 0, &case.history(), &Damage::default())
+            .unwrap_or_else(|difference| panic!("{}: {difference}", case.name));
+        let large = tally.large.unwrap_or_default();
+        seen.extend(large.on_large.keys().copied());
+        of_other = [of_other[0] + tally.of_other, of_other[1] + large.of_other];
+    }
+    let unseen: Vec<Large> = Large::all().filter(|shown| !seen.contains(shown)).collect();
+    assert_eq!(unseen, []);
+    assert!(of_other.iter().all(|count| *count > 9), "{of_other:?}");
+}
+
+/// The line of a case says on which card its records are.
+#[test]
+fn a_line_names_the_card() {
+    let line = |name: &str| named(name).line(&named(name).run(&linked()).expect(name));
+    assert_eq!(line("removal on the empty image"), "M removal on the empty image: small card 5 -");
+    assert_eq!(line("R-9: a 33rd unmet call"), "R-9: a 33rd unmet call: large card 10 -, 0 0, 10 -, 0 0, 0 0");
+    let enlarged = "R-9: an empty card is enlarged";
+    assert_eq!(line(enlarged), format!("{enlarged}: small card 2 - | large card 5 -, 2 -, 0 0"));
 }
 
 /// Each thing that two cards may differ in that are alike for B has its pair, and the cards stay alike.

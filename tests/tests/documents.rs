@@ -1,7 +1,7 @@
 //! The documents say what is so: their offsets are those of an image, and the header's numbers are those of the answers
 //! and sizes. What their commands print is held by the tool's own tests.
 
-use comparison::card::{IMAGE, LONGEST_RECORD, OLD_IMAGE};
+use comparison::card::{IMAGE, LARGE_IMAGE, LONGEST_LARGE_RECORD, LONGEST_RECORD, OLD_IMAGE, ON_LARGE};
 use comparison::rules::Rules;
 use comparison::tables::{Bit, Form};
 use std::collections::BTreeSet;
@@ -34,18 +34,28 @@ fn number(cell: &str) -> Option<usize> {
     cell.parse().ok()
 }
 
+/// Each card's part of the document, and the rules on that card.
+const IMAGES: [(&str, Rules); 2] =
+    [("## The image, 1,110 bytes", Rules::IN_FORCE), ("## The large image, 3,639 bytes", ON_LARGE)];
+
 #[test]
 fn the_offsets_of_packages_and_rows_are_right() {
-    let rows = table_rows(&section(&document("docs/FORMATS.md"), "## The image, 1,110 bytes"));
+    for (heading, rules) in IMAGES {
+        offsets_are_right(&table_rows(&section(&document("docs/FORMATS.md"), heading)), Form::of(rules));
+    }
+}
+
+fn offsets_are_right(rows: &[Vec<String>], form: Form) {
     let numbers: Vec<Vec<usize>> =
         rows.iter().filter_map(|row| row.iter().map(|cell| number(cell)).collect()).collect();
     let (packages, lists): (Vec<_>, Vec<_>) = numbers.into_iter().partition(|row| row.len() == 7);
-    let form = Form::of(Rules::IN_FORCE);
+    // A cell's first byte, also where the bit of service 0 is in its second.
+    let cell = form.sizes.services / 8 - 1;
     let package = |n: usize| {
         let bits = Bit { caller: n, callee: 0, service: 0 };
         let own = Bit { caller: 0, callee: n, service: 0 };
         let rows = [form.provided_bit(n, 0), form.call_bit(&bits), form.grant_bit(&own), form.need_bit(&bits)];
-        [&[n, form.aid(n), form.token_pair(n, 0)], &rows.map(|at| at.byte)[..]].concat()
+        [&[n, form.aid(n), form.token_pair(n, 0)], &rows.map(|at| at.byte - cell)[..]].concat()
     };
     assert_eq!(packages, (0..form.sizes.packages).map(package).collect::<Vec<_>>());
     let list = |n: usize| vec![n, form.unmet_at(n), form.waiting_at(n)];
@@ -64,7 +74,12 @@ fn the_offsets_of_old_rows_are_right() {
 
 #[test]
 fn the_areas_begin_where_an_image_has_them() {
-    let rows = table_rows(&section(&document("docs/FORMATS.md"), "## The image, 1,110 bytes"));
+    for (heading, rules) in IMAGES {
+        areas_are_right(&table_rows(&section(&document("docs/FORMATS.md"), heading)), Form::of(rules));
+    }
+}
+
+fn areas_are_right(rows: &[Vec<String>], form: Form) {
     let areas: Vec<(usize, usize)> = rows
         .iter()
         .filter(|row| row.len() == 4)
@@ -73,8 +88,7 @@ fn the_areas_begin_where_an_image_has_them() {
             Some((offset, usize::from_str_radix(&row[1], 16).expect("a hexadecimal offset")))
         })
         .collect();
-    let Form { size, used, aids, tokens, provides, calls, grants, needs, unmet, waiting, .. } =
-        Form::of(Rules::IN_FORCE);
+    let Form { size, used, aids, tokens, provides, calls, grants, needs, unmet, waiting, .. } = form;
     let lists = [unmet, unmet + 1, waiting, waiting + 1];
     let starts = [&[0, 2, used, aids, tokens, provides, calls, grants, needs], &lists[..], &[size]].concat();
     assert_eq!(areas, starts.into_iter().map(|start| (start, start)).collect::<Vec<_>>());
@@ -103,6 +117,8 @@ fn the_headers_numbers_are_those_of_the_card() {
     };
     let sizes = ["CARD_IMAGE_SIZE", "CARD_OLD_IMAGE_SIZE", "CARD_RECORD_SIZE"].map(defined);
     assert_eq!(sizes, [IMAGE, OLD_IMAGE, LONGEST_RECORD]);
+    let large = ["CARD_LARGE_IMAGE_SIZE", "CARD_LARGE_RECORD_SIZE"].map(defined);
+    assert_eq!(large, [LARGE_IMAGE, LONGEST_LARGE_RECORD]);
     let answers = section(&header, "enum card_answer {").replace(',', " ");
     let answers: Vec<usize> = answers
         .lines()

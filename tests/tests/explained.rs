@@ -6,21 +6,20 @@ use cardtool::explain::{explain, Ends, Explained, Item, Matter, Reason, Waits};
 use cardtool::names::Names;
 use cardtool::record::{Clash, Part};
 use cardtool::tables::Tables;
-use comparison::card::{Bytes, Card, BYTES, IMAGE, OLD_IMAGE};
+use comparison::card::{Bytes, Card, BYTES, IMAGE, LARGE_IMAGE, OLD_IMAGE, ON_LARGE};
 use comparison::damage::Damage;
 use comparison::generate::Source;
 use comparison::machine::{record, Aid, Change, Machine, Record, Row, Tokens};
 use comparison::pairs::{self, Kind, Pairs};
 use comparison::random::Random;
-use comparison::rules::Rules;
+use comparison::rules::{Rules, Sizes};
+use comparison::tables::Form;
 use std::collections::BTreeSet;
 
 const SEED: u64 = 455;
 const RECORDS: u64 = if cfg!(debug_assertions) { 10_000 } else { 20_000 };
-const RULES: Rules = Rules::IN_FORCE;
-/// Document 01's limits.
-const NUMBERS: usize = 8;
-const ROWS: usize = 16;
+/// On the large card, whose images take longer to look at.
+const ON_LARGE_RECORDS: u64 = 5_000;
 
 /// Caller, callee and service.
 type Both = (Aid, Aid, Tokens);
@@ -67,29 +66,45 @@ fn held(image: &[u8], record: &[u8]) -> (Explained, Vec<u8>) {
 
 #[test]
 fn every_answer_of_random_histories() {
+    let seen = every_answer(Rules::IN_FORCE, RECORDS, |ordinal| Source::new(SEED, ordinal));
+    assert_eq!(seen.missing(pairs::all(Rules::IN_FORCE)), [], "{seen}");
+}
+
+#[test]
+fn every_answer_of_random_histories_on_the_large_card() {
+    let random = |ordinal| Random::new(SEED + ordinal);
+    let source = |ordinal| Source::with(ON_LARGE, Vec::new(), Vec::new(), random(ordinal));
+    let seen = every_answer(ON_LARGE, ON_LARGE_RECORDS, source);
+    // Every answer, though not of every kind: among so many rows, few records add one that is there.
+    let missing = seen.missing(pairs::all(ON_LARGE));
+    let found = pairs::all(ON_LARGE).filter(|pair| !missing.contains(pair)).map(|(_, answer)| answer);
+    assert_eq!(found.collect::<BTreeSet<u32>>(), BTreeSet::from_iter(0..=11), "{seen}");
+}
+
+fn every_answer(rules: Rules, count: u64, source: impl Fn(u64) -> Source) -> Pairs {
     let (mut seen, mut random) = (Pairs::default(), Random::new(SEED));
     let (mut records, mut ordinal) = (0, 0);
-    while records < RECORDS {
-        let mut source = Source::new(SEED, ordinal);
-        let (mut machine, mut image) = (Machine::default(), vec![0; IMAGE]);
+    while records < count {
+        let mut source = source(ordinal);
+        let (mut machine, mut image) = (Machine::default(), vec![0; Form::of(rules).size]);
         BYTES.empty(&mut image);
         for _ in 0..source.length() {
             let record = source.record(&machine);
             let (said, after) = held(&image, &record);
             let before = machine.clone();
-            assert_eq!(said.answer, machine.judge(RULES, &record));
-            all_true(&said, &before, &record);
+            assert_eq!(said.answer, machine.judge(rules, &record));
+            all_true(rules, &said, &before, &record);
             seen.count(Kind::of(&record), said.answer);
             damaged(&after, &record, &mut seen, &mut random);
             if random.percent(20) {
-                held(&after, &short(&mut random));
+                held(&after, &short(rules.sizes, &mut random));
             }
             image = after;
             records += 1;
         }
         ordinal += 1;
     }
-    assert_eq!(seen.missing(pairs::all(RULES)), [], "{seen}");
+    seen
 }
 
 /// Judged on a damaged image too, which is not sound, or stands for other contracts.
@@ -104,10 +119,10 @@ fn damaged(image: &[u8], record: &[u8], seen: &mut Pairs, random: &mut Random) {
 }
 
 /// A few bytes, which may begin as a record does.
-fn short(random: &mut Random) -> Vec<u8> {
+fn short(sizes: &Sizes, random: &mut Random) -> Vec<u8> {
     let length = random.below(14);
     let mut record: Vec<u8> = (0..length).map(|_| random.byte() % 18).collect();
-    let begin = [0, length as u8, 1, random.between(0, 12) as u8, 5];
+    let begin = [0, length as u8, sizes.record_version, random.between(0, 12) as u8, 5];
     let right = random.below(6).min(length);
     record[..right].copy_from_slice(&begin[..right]);
     record
@@ -122,6 +137,14 @@ fn an_image_of_another_size_is_cause_1() {
         let (said, _) = held(&image[..size], &[0, 4, 1, 12]);
         assert_eq!(said.answer, 1);
     }
+    // The large card: a byte too few, and one too many.
+    let mut large = vec![0; LARGE_IMAGE];
+    BYTES.empty(&mut large);
+    large.push(0);
+    for size in [LARGE_IMAGE - 1, LARGE_IMAGE, LARGE_IMAGE + 1] {
+        let (said, _) = held(&large[..size], &[0, 4, 2, 12]);
+        assert_eq!(said.answer, if size == LARGE_IMAGE { 2 } else { 1 });
+    }
     let mut old = vec![0; OLD_IMAGE];
     Bytes(Rules::R_7).empty(&mut old);
     let (said, _) = held(&old, &[]);
@@ -129,15 +152,15 @@ fn an_image_of_another_size_is_cause_1() {
 }
 
 /// Every reason is true, and every one is there.
-fn all_true(said: &Explained, before: &Machine, bytes: &[u8]) {
-    let Some(record) = record::read(RULES, bytes) else { return };
+fn all_true(rules: Rules, said: &Explained, before: &Machine, bytes: &[u8]) {
+    let Some(record) = record::read(rules, bytes) else { return };
     let reasons = &said.reasons[..];
     match said.answer {
         3 => assert_eq!(reasons.iter().map(clash).collect::<BTreeSet<_>>(), contradictions(&record)),
         4 => assert!(matches!(reasons, [Reason::Installed { package, .. }] if aid(package) == record.aid)),
-        5 | 7 => numbers(reasons, before, &record),
+        5 | 7 => numbers(rules.sizes, reasons, before, &record),
         6 => pointless(reasons, before, &record),
-        8..=11 => left(said, before, &before.changed(RULES, &record), &record),
+        8..=11 => left(rules, said, before, &record),
         _ => {}
     }
 }
@@ -183,7 +206,7 @@ fn contradictions(record: &Record) -> BTreeSet<Contradiction> {
 }
 
 /// Causes 5 and 7: who and what is on the card.
-fn numbers(reasons: &[Reason], before: &Machine, record: &Record) {
+fn numbers(sizes: &Sizes, reasons: &[Reason], before: &Machine, record: &Record) {
     let on_card: BTreeSet<Aid> = before.contracts.keys().copied().collect();
     let named = |aids: &[contract::Aid]| aids.iter().map(aid).collect::<BTreeSet<Aid>>();
     match reasons {
@@ -191,11 +214,11 @@ fn numbers(reasons: &[Reason], before: &Machine, record: &Record) {
             assert_eq!((aid(package), named(installed)), (record.aid, on_card));
         }
         [Reason::PackageNumbers { limit, installed }] => {
-            assert_eq!((*limit, installed.len(), named(installed)), (NUMBERS, NUMBERS, on_card));
+            assert_eq!((*limit, installed.len(), named(installed)), (sizes.packages, sizes.packages, on_card));
         }
         [Reason::ServiceNumbers { limit, package, services }] => {
             let found: BTreeSet<Tokens> = services.iter().map(|service| tokens(*service)).collect();
-            assert_eq!((*limit, services.len(), aid(package)), (NUMBERS, NUMBERS, record.aid));
+            assert_eq!((*limit, services.len(), aid(package)), (sizes.services, sizes.services, record.aid));
             assert_eq!(found, before.contracts[&record.aid].provides);
         }
         _ => panic!("{reasons:?}"),
@@ -208,7 +231,7 @@ fn pointless(reasons: &[Reason], before: &Machine, record: &Record) {
     let contract = &before.contracts[&record.aid];
     let right = match (&record.change, item) {
         (Change::AddService(added, _), Item::Service(own, service)) => {
-            (aid(own), tokens(*service)) == (record.aid, *added) && matches!(matter, Matter::Provided(0..=7))
+            (aid(own), tokens(*service)) == (record.aid, *added) && matches!(matter, Matter::Provided(0..=15))
         }
         (Change::RemoveService(removed), Item::Service(own, service)) => {
             (aid(own), tokens(*service)) == (record.aid, *removed) && *matter == Matter::Lacking
@@ -243,7 +266,8 @@ fn waits(card: &Machine, own: &comparison::machine::Contract, grant: &Row) -> Op
 }
 
 /// Causes 8 to 11: the contracts that the record would leave.
-fn left(said: &Explained, before: &Machine, after: &Machine, record: &Record) {
+fn left(rules: Rules, said: &Explained, before: &Machine, record: &Record) {
+    let (after, listed) = (&before.changed(rules, record), rules.sizes.listed);
     let unmet = |card: &Machine| card.unmet().map(called).collect::<BTreeSet<Both>>();
     let waiting = |card: &Machine| card.waiting().map(granted).collect::<BTreeSet<Both>>();
     let (rows, expected): (&[Reason], BTreeSet<Both>) = match said.answer {
@@ -256,8 +280,8 @@ fn left(said: &Explained, before: &Machine, after: &Machine, record: &Record) {
             let needs = contracts.flat_map(|(own, contract)| contract.needs.iter().map(move |need| (own, need)));
             (&said.reasons, needs.filter(|(_, need)| !after.met(need)).map(called).collect())
         }
-        10 => (counted(&said.reasons, unmet(after).len()), &unmet(after) - &unmet(before)),
-        _ => (counted(&said.reasons, waiting(after).len()), &waiting(after) - &waiting(before)),
+        10 => (counted(&said.reasons, unmet(after).len(), listed), &unmet(after) - &unmet(before)),
+        _ => (counted(&said.reasons, waiting(after).len(), listed), &waiting(after) - &waiting(before)),
     };
     let found: BTreeSet<Both> = rows.iter().filter_map(|row| row.ends().map(both)).collect();
     assert_eq!((rows.len(), &found), (expected.len(), &expected));
@@ -277,13 +301,13 @@ fn left(said: &Explained, before: &Machine, after: &Machine, record: &Record) {
 }
 
 /// The rows behind a right count.
-fn counted(reasons: &[Reason], found: usize) -> &[Reason] {
+fn counted(reasons: &[Reason], found: usize, listed: usize) -> &[Reason] {
     let (first, rows) = reasons.split_first().expect("a count");
     let (Reason::UnmetCalls { count, limit, new } | Reason::WaitingGrants { count, limit, new }) = first else {
         panic!("{first:?}")
     };
-    assert_eq!((*count, *limit, *new), (found, ROWS, rows.len()));
-    assert!(found > ROWS && !rows.is_empty());
+    assert_eq!((*count, *limit, *new), (found, listed, rows.len()));
+    assert!(found > listed && !rows.is_empty());
     rows
 }
 

@@ -5,7 +5,7 @@ use comparison::cases::all;
 use comparison::compare::lengths_alike;
 use comparison::damage::Damage;
 use comparison::faults::FAULTS;
-use comparison::history::{changes, Event};
+use comparison::history::{changes, records, Event};
 use comparison::run::{replay, run};
 
 /// Each of the seeds 1 to 10 finds every fault in 20,000 records. The shortest history that dropping records comes to has up to 24 of
@@ -22,7 +22,7 @@ fn every_fault_is_found() {
         let failure = run(&cards, SEED, 20_000).err().unwrap_or_else(|| panic!("{name} was not found"));
         let (difference, history) = (failure.difference, failure.history);
         assert!(!difference.words.is_empty(), "{name}");
-        let records = history.len() - changes(&history);
+        let records = records(&history);
         // A list has 16 rows, and some faults show when it is full.
         assert!(records <= 16, "{name} took {records} records");
         let again = replay(&cards, SEED, &history, &difference.damage).is_err() || lengths_alike(&cards).is_err();
@@ -30,7 +30,7 @@ fn every_fault_is_found() {
     }
 }
 
-/// The table of cases finds all but four, which need 15 unmet calls, a damaged byte that is not drawn, and another size.
+/// The table of cases finds all but three, which need a damaged byte that is not drawn, and another size.
 #[test]
 fn the_cases_find_most_faults() {
     std::panic::set_hook(Box::new(|_| {}));
@@ -39,11 +39,7 @@ fn the_cases_find_most_faults() {
         all().iter().all(|case| case.run(&cards).is_ok())
     });
     let missed: Vec<&str> = missed.map(|fault| fault.name()).collect();
-    let counted = "ten-uncounted";
-    let damaged = "own-aid-row-sound";
-    let sized = ["empty-any-length", "converts-into-more"];
-    let expected = [counted, sized[0], damaged, sized[1]];
-    assert_eq!(missed, expected);
+    assert_eq!(missed, ["own-aid-row-sound", "converts-into-more", "enlarges-into-more"]);
 }
 
 /// A difference that shows on a card of earlier rules alone has its history over the changes, which is replayed from its
@@ -88,4 +84,7 @@ fn a_short_run_finds_nothing_in_the_byte_engine() {
     assert!(tally.converted > 20 && tally.not_converted > 100 && tally.early.len() > 5);
     assert!(tally.replaced.len() > 9 && tally.too_early > 9 && tally.retired.len() > 6 && tally.loads.len() > 6);
     assert!(tally.watched.records.total() > 1_000 && tally.watched.shown.len() > 10);
+    let large = tally.large.expect("a card that is enlarged");
+    assert!(large.records > 1_000 && large.on_large.len() > 20 && large.of_other > 1_000 && large.loads.len() > 4);
+    assert!(large.watched.records.total() > 300 && large.damaged_sound > 100 && large.damaged_unsound > 1_000);
 }

@@ -2,13 +2,13 @@
 
 use cardtool::contract::Aid;
 use cardtool::fault::{At, Fault};
-use cardtool::layout::{Image, VERSION_01, VERSION_02};
+use cardtool::layout::{Image, Layout, VERSION_01, VERSION_02, VERSION_03};
 use cardtool::names::Names;
 use cardtool::tables::{Tables, Unmet, Waiting};
 use cardtool::unsound::faults;
 use cardtool::words::utf8;
 use cardtool::{contract, dump, hexadecimal, image_text, record, record_text};
-use comparison::card::{Bytes, Card, BYTES, IMAGE};
+use comparison::card::{Bytes, Card, BYTES, IMAGE, LARGE_IMAGE, ON_LARGE};
 use comparison::damage::Damage;
 use comparison::generate::Source;
 use comparison::machine::{self, Machine};
@@ -17,12 +17,19 @@ use comparison::rules::Rules;
 use comparison::tables as apart;
 use std::collections::{BTreeMap, BTreeSet};
 
-/// The rules whose images the tool reads: the last of version 01, and those in force.
-const BOTH: [Rules; 2] = [Rules::R_7, Rules::IN_FORCE];
+/// The rules whose images the tool reads: the last of version 01, and those in force on either card.
+const EACH: [Rules; 3] = [Rules::R_7, Rules::IN_FORCE, ON_LARGE];
+
+fn layout(rules: Rules) -> &'static Layout {
+    match (rules == ON_LARGE, rules.early_grants) {
+        (true, _) => &VERSION_03,
+        (false, true) => &VERSION_02,
+        (false, false) => &VERSION_01,
+    }
+}
 
 fn empty(rules: Rules) -> Vec<u8> {
-    let layout = if rules.early_grants { &VERSION_02 } else { &VERSION_01 };
-    let mut image = vec![0; layout.size()];
+    let mut image = vec![0; layout(rules).size()];
     assert_eq!(Bytes(rules).empty(&mut image).answer, 0);
     image
 }
@@ -30,15 +37,16 @@ fn empty(rules: Rules) -> Vec<u8> {
 /// The image after the records of a text, each of which is accepted.
 fn image_after(rules: Rules, text: &str) -> Vec<u8> {
     let mut image = empty(rules);
-    for placed in record_text::read(text, &Names::default()).expect("a text").records {
-        assert_eq!(Bytes(rules).judge(&mut image, &placed.bytes()).answer, 0, "{:?}", placed.written);
+    let card = layout(rules);
+    for placed in record_text::read(card, text, &Names::default()).expect("a text").records {
+        assert_eq!(Bytes(rules).judge(&mut image, &placed.bytes(card)).answer, 0, "{:?}", placed.written);
     }
     image
 }
 
 /// The names that a text gives.
 fn names(text: &str) -> Names {
-    record_text::read(text, &Names::default()).expect("a text").names
+    record_text::read(&VERSION_02, text, &Names::default()).expect("a text").names
 }
 
 /// The tables of a sound image.
@@ -53,14 +61,22 @@ fn text_of(image: &[u8]) -> String {
 
 /// The image of a text without names given beforehand.
 fn read(text: &str) -> Result<Vec<u8>, Fault> {
-    image_text::read(text, &Names::default())
+    image_text::read(&VERSION_02, text, &Names::default())
+}
+
+/// The source of a history. Those of version 01 get records of later.
+fn source(rules: Rules, ordinal: u64) -> Source {
+    match rules == ON_LARGE {
+        true => Source::with(rules, Vec::new(), Vec::new(), Random::new(90 + ordinal)),
+        false => Source::new(9, ordinal),
+    }
 }
 
 /// Images after the records of random histories.
 fn random_images(rules: Rules, histories: u64) -> Vec<Vec<u8>> {
     let mut images = Vec::new();
     for ordinal in 0..histories {
-        let (mut source, mut machine, mut image) = (Source::new(9, ordinal), Machine::default(), empty(rules));
+        let (mut source, mut machine, mut image) = (source(rules, ordinal), Machine::default(), empty(rules));
         for _ in 0..source.length() {
             let record = source.record(&machine);
             if machine.judge(rules, &record) == 0 {
@@ -72,7 +88,7 @@ fn random_images(rules: Rules, histories: u64) -> Vec<Vec<u8>> {
     images
 }
 
-/// Two packages, a call, a grant and a need between them, and a row in each list. Both versions can hold it.
+/// Two packages, a call, a grant and a need between them, and a row in each list. Every version can hold it.
 const CARD: &str = "\
 name log F000000001
 load log
@@ -101,12 +117,17 @@ waiting F000000001 grants 0.1 to F000000009
 
 #[test]
 fn an_image_is_shown() {
-    for rules in BOTH {
+    for rules in EACH {
         let image = image_after(rules, CARD);
-        assert_eq!(text_of(&image), CARD_TEXT);
-        assert_eq!(image_text::write(&tables(&image), &names(CARD)), CARD_TEXT.replace("F000000001", "log"));
+        let text = if rules == ON_LARGE { format!("card large\n{CARD_TEXT}") } else { CARD_TEXT.to_string() };
+        assert_eq!(text_of(&image), text);
+        assert_eq!(image_text::write(&tables(&image), &names(CARD)), text.replace("F000000001", "log"));
     }
-    assert_eq!(read(CARD_TEXT), Ok(image_after(Rules::IN_FORCE, CARD)));
+    let [small, large] = [Rules::IN_FORCE, ON_LARGE].map(|rules| image_after(rules, CARD));
+    assert_eq!((read(CARD_TEXT).as_ref(), read(&format!("card small\n{CARD_TEXT}"))), (Ok(&small), Ok(small.clone())));
+    assert_eq!(read(&format!("card large\n{CARD_TEXT}")), Ok(large.clone()));
+    assert_eq!(image_text::read(&VERSION_03, CARD_TEXT, &Names::default()), Ok(large));
+    assert_eq!(image_text::read(&VERSION_03, &format!("card small\n{CARD_TEXT}"), &Names::default()), Ok(small));
 }
 
 /// A grant that waits for its service, to an installed package and to another.
@@ -122,12 +143,27 @@ fn grants_of_services_not_provided_are_shown() {
 
 #[test]
 fn images_are_text_and_back() {
-    let images = random_images(Rules::IN_FORCE, 12);
-    assert!(images.len() > 500, "{}", images.len());
-    for image in images {
-        let text = text_of(&image);
-        assert_eq!(tables(&image).image(), image, "{text}");
-        assert!(read(&text) == Ok(image), "{text}");
+    for rules in [Rules::IN_FORCE, ON_LARGE] {
+        let images = random_images(rules, 12);
+        assert!(images.len() > 500, "{}", images.len());
+        for image in images {
+            let text = text_of(&image);
+            assert_eq!(tables(&image).image(), image, "{text}");
+            assert!(read(&text) == Ok(image), "{text}");
+        }
+    }
+}
+
+/// What is shown of a small card reads, as a large one, as the image that it is enlarged to; so do its tables.
+#[test]
+fn the_text_of_a_small_image_is_that_of_the_enlarged_one() {
+    for small in random_images(Rules::IN_FORCE, 12) {
+        let (text, mut large) = (text_of(&small), vec![0; LARGE_IMAGE]);
+        assert_eq!(BYTES.enlarge(&small, &mut large).answer, 0);
+        assert_eq!(text_of(&large), format!("card large\n{text}"));
+        assert!(image_text::read(&VERSION_03, &text, &Names::default()) == Ok(large.clone()), "{text}");
+        let on_large = tables(&small).on(&VERSION_03);
+        assert_eq!((&on_large, on_large.contracts()), (&tables(&large), tables(&small).contracts()));
     }
 }
 
@@ -175,7 +211,7 @@ fn plain_apart(machine: &Machine) -> Plain {
 #[test]
 fn tables_are_those_of_the_reader_apart() {
     let mut random = Random::new(3);
-    for rules in BOTH {
+    for rules in EACH {
         let (mut read, mut refused, mut rows) = (0, 0, 0);
         for image in random_images(rules, 12) {
             let damaged = [Damage::one_byte, Damage::two_bytes].map(|draw| draw(&image, &mut random).done_to(&image));
@@ -199,15 +235,16 @@ fn tables_are_those_of_the_reader_apart() {
 /// Rows past the limit of a list are not written, and nothing else is.
 #[test]
 fn a_list_that_is_too_long_is_cut() {
-    for rules in BOTH {
+    for rules in EACH {
         let mut tables = tables(&image_after(rules, CARD));
         let aid = |n: u8| Aid::new(&[0xF1, 0, 0, 0, n]).expect("an AID");
         let tokens = contract::Tokens { interface: 0, method: 1 };
-        tables.unmet = (0..16).map(|n| Unmet { callee: aid(n), tokens, caller: 1 }).collect();
-        tables.waiting = (0..16).map(|n| Waiting { caller: aid(n), callee: 0, tokens }).collect();
+        let rows = tables.layout.rows as u8;
+        tables.unmet = (0..rows).map(|n| Unmet { callee: aid(n), tokens, caller: 1 }).collect();
+        tables.waiting = (0..rows).map(|n| Waiting { caller: aid(n), callee: 0, tokens }).collect();
         let full = tables.image();
         assert_eq!(faults(&full, &Names::default()), []);
-        for n in 16..40 {
+        for n in rows..rows + 24 {
             tables.unmet.push(Unmet { callee: aid(n), tokens, caller: 1 });
             tables.waiting.push(Waiting { caller: aid(n), callee: 0, tokens });
         }
@@ -219,7 +256,7 @@ fn a_list_that_is_too_long_is_cut() {
 fn dumps_are_read_back() {
     let mut random = Random::new(2);
     let (mut dumps, mut named) = (0, 0);
-    for rules in BOTH {
+    for rules in EACH {
         for image in random_images(rules, 6) {
             let damaged = Damage::two_bytes(&image, &mut random).done_to(&image);
             let named_0 = tables(&image).at(0).map(|package| format!("name log {}\n", package.aid));
@@ -238,26 +275,37 @@ fn dumps_are_read_back() {
 /// The parts of an image in words, with names where packages have them.
 #[test]
 fn a_dump_has_words() {
-    for (rules, end, service) in [(Rules::R_7, 1094, "service"), (Rules::IN_FORCE, 1110, "tokens")] {
+    let small = [4, 21, 140, 268, 284, 340, 412, 468, 469, 789, 790];
+    let large = [5, 22, 277, 789, 853, 1333, 1877, 2357, 2358, 2998, 2999];
+    for (
+        rules,
+        [first, second, tokens, provides, calls, grants, needs, unmet, call, waiting, grant],
+        end,
+        service,
+        each,
+    ) in [
+        (Rules::R_7, small, 1094, "service", "a byte"),
+        (Rules::IN_FORCE, small, 1110, "tokens", "a byte"),
+        (ON_LARGE, large, 3639, "tokens", "2 bytes"),
+    ] {
         let image = image_after(rules, CARD);
         let dump = |names: &Names| dump::image(Image::new(&image).expect("a card's size"), names);
         let words = [
-            "   0: length, version",
-            "   3: used package numbers, bit by bit",
-            "   4: AID of package 0: length, bytes, fill",
-            "  21: AID of package 1: length, bytes, fill",
-            "140: tokens of package 0, two bytes for each service",
-            "268: services provided, a byte for each package",
-            "284: calls of package 1, a byte for each callee",
-            "340: grants of package 0, a byte for each caller",
-            "412: needs of package 1, a byte for each callee",
-            "468: count of unmet calls",
-            "469: unmet call 0: callee AID, tokens, caller",
-            "789: count of waiting grants",
-            &format!("790: waiting grant 0: caller AID, callee, {service}"),
-            &format!("{end}:"),
-        ]
-        .map(|line| line.trim_start().to_string());
+            "0: length, version".to_string(),
+            "3: used package numbers, bit by bit".to_string(),
+            format!("{first}: AID of package 0: length, bytes, fill"),
+            format!("{second}: AID of package 1: length, bytes, fill"),
+            format!("{tokens}: tokens of package 0, two bytes for each service"),
+            format!("{provides}: services provided, {each} for each package"),
+            format!("{calls}: calls of package 1, {each} for each callee"),
+            format!("{grants}: grants of package 0, {each} for each caller"),
+            format!("{needs}: needs of package 1, {each} for each callee"),
+            format!("{unmet}: count of unmet calls"),
+            format!("{call}: unmet call 0: callee AID, tokens, caller"),
+            format!("{waiting}: count of waiting grants"),
+            format!("{grant}: waiting grant 0: caller AID, callee, {service}"),
+            format!("{end}:"),
+        ];
         let said = |line: &str| {
             let (offset, rest) = line.split_once(':').expect("an offset");
             let words = rest.split_once("# ").map_or(String::new(), |(_, words)| format!(" {words}"));
@@ -285,17 +333,19 @@ fn a_byte_order_mark_before_a_dump_is_taken() {
 /// A record's dump has its bytes and no others.
 #[test]
 fn record_dumps_are_read_back() {
-    let (mut source, mut machine) = (Source::new(3, 0), Machine::default());
-    let mut kinds = std::collections::BTreeSet::new();
-    for _ in 0..600 {
-        let bytes = source.record(&machine);
-        machine.judge(Rules::IN_FORCE, &bytes);
-        if let Ok(record) = record::read(&bytes) {
-            kinds.insert(bytes[3]);
-            assert_eq!(hexadecimal::dump(&dump::record(&record)), Ok(bytes));
+    for rules in [Rules::IN_FORCE, ON_LARGE] {
+        let (mut source, mut machine, card) = (source(rules, 0), Machine::default(), layout(rules));
+        let mut kinds = BTreeSet::new();
+        for _ in 0..600 {
+            let bytes = source.record(&machine);
+            machine.judge(rules, &bytes);
+            if let Ok(record) = record::read(card, &bytes) {
+                kinds.insert(bytes[3]);
+                assert_eq!(hexadecimal::dump(&dump::record(card, &record)), Ok(bytes));
+            }
         }
+        assert_eq!(kinds.len(), 9);
     }
-    assert_eq!(kinds.len(), 9);
 }
 
 #[test]
@@ -322,7 +372,7 @@ fn bad_dumps_have_messages_with_places() {
 #[test]
 fn faults_are_there_exactly_when_an_image_is_not_sound() {
     let mut random = Random::new(1);
-    for rules in BOTH {
+    for rules in EACH {
         let (mut sound, mut unsound) = (0, 0);
         for image in random_images(rules, 12) {
             assert_eq!(faults(&image, &Names::default()), []);
@@ -372,7 +422,7 @@ fn each_fault_has_its_byte_and_words() {
             ("0=00", "byte 0: here is 00, and the header has 04"),
             ("26=01", "byte 21: package 1 has the AID of package 0"),
             ("40=01", "byte 40: package 2 is not used, and its AID's place is not zero but 01"),
-            ("270=01", "byte 270: package 2 is not used, and its provides byte is not zero but 01"),
+            ("270=01", "byte 270: package 2 is not used, and what it provides is not zero but 01"),
             ("143=00", "byte 142: service 1 of package 0 has the tokens of service 0"),
             ("141=80", "byte 141: service 0 of package 0 has the method token 128, not 0 to 127"),
             ("143=FF", "byte 143: service 1 of package 0 has the method token 255, not 0 to 127"),
@@ -406,7 +456,12 @@ fn each_fault_has_its_byte_and_words() {
     }
     for (bytes, at) in [(0, 0), (1, 1), (1093, 1093), (1095, 1095), (1109, 1109), (1111, 1110), (4000, 1110)] {
         let found: Vec<String> = faults(&vec![0; bytes], &Names::default()).iter().map(Fault::to_string).collect();
-        assert_eq!(found, [format!("byte {at}: an image has 1110 bytes, or 1094 in version 01, here are {bytes}")]);
+        assert_eq!(
+            found,
+            [format!(
+                "byte {at}: an image has 1110 bytes, of a large card 3639, or 1094 in version 01, here are {bytes}"
+            )]
+        );
     }
 }
 
@@ -474,7 +529,7 @@ fn names_change_nothing_else_in_messages() {
     let names = names(NAMES);
     let named = ["(log)", "(purse)", "(read)", "(write)", "(pay)"];
     let (mut random, mut seen) = (Random::new(10), BTreeSet::new());
-    for rules in BOTH {
+    for rules in EACH {
         let image = image_after(rules, CARD);
         for _ in 0..3000 {
             let damaged = Damage::two_bytes(&image, &mut random).done_to(&image);
@@ -526,17 +581,51 @@ fn each_fault_of_an_old_image_has_its_byte_and_words() {
     );
 }
 
+/// The same of a large image: its places, its numbers and its limits.
+#[test]
+fn each_fault_of_a_large_image_has_its_byte_and_words() {
+    let image = image_after(ON_LARGE, CARD);
+    each_is_found(
+        &image,
+        &Names::default(),
+        &[
+            ("0=04", "byte 0: here is 04, and the header has 0E"),
+            ("2=02", "byte 2: here is 02, and the header has 03"),
+            ("3=80", "byte 260: the AID of package 15 has the length 0, not 5 to 16"),
+            ("141=01", "byte 141: package 8 is not used, and its AID's place is not zero but 01"),
+            ("5=04", "byte 5: the AID of package 0 has the length 4, not 5 to 16"),
+            ("307=09", "byte 307: package 0 does not provide service 15, and the tokens' place is not zero but 09"),
+            ("789=80", "byte 307: service 15 of package 0 has the tokens of service 0"),
+            ("819=01", "byte 819: package 15 is not used, and what it provides is not zero but 01"),
+            ("821=01", "byte 821: calls: package 0 has bits for itself"),
+            ("853=01", "byte 853: calls: package 0 does not provide service 8, and its bit is set"),
+            ("883=01", "byte 883: calls: package 15 is not used, and has bits"),
+            ("1336=00", "byte 853: calls: package 0 does not grant package 1 its service 0"),
+            ("1878=03", "byte 1877: needs: package 1 does not call service 1 of package 0, which it needs"),
+            ("2357=21", "byte 2357: the count is 33, a list has at most 32 rows"),
+            ("2377=10", "byte 2377: the caller is package 16, which is not used"),
+            ("2376=80", "byte 2376: the unmet call has the method token 128, not 0 to 127"),
+            ("2997=01", "byte 2997: the list has 1 row, and the place past that is not zero but 01"),
+            ("3016=08", "byte 3016: the callee is package 8, which is not used"),
+            ("3638=01", "byte 3638: the list has 1 row, and the place past that is not zero but 01"),
+        ],
+    );
+}
+
 #[test]
 fn a_list_row_that_repeats_is_named() {
-    for (rules, size, second) in [(Rules::R_7, 19, 809), (Rules::IN_FORCE, 20, 810)] {
-        let mut image = image_after(rules, CARD);
-        image.copy_within(469..489, 489);
-        image[468] = 2;
-        image.copy_within(790..790 + size, second);
-        image[789] = 2;
+    for rules in EACH {
+        let (mut image, card) = (image_after(rules, CARD), layout(rules));
+        let mut twice = |list: usize, row: usize| {
+            image.copy_within(list + 1..list + 1 + row, list + 1 + row);
+            image[list] = 2;
+            list + 1 + row
+        };
+        let unmet = twice(card.unmet_at(), card.unmet_row());
+        let waiting = twice(card.waiting_at(), card.waiting_row());
         let found: Vec<String> = faults(&image, &Names::default()).iter().map(Fault::to_string).collect();
-        let waiting = format!("byte {second}: waiting grant 1 is waiting grant 0 again");
-        assert_eq!(found, ["byte 489: unmet call 1 is unmet call 0 again", &waiting]);
+        let unmet = format!("byte {unmet}: unmet call 1 is unmet call 0 again");
+        assert_eq!(found, [unmet, format!("byte {waiting}: waiting grant 1 is waiting grant 0 again")]);
     }
 }
 
@@ -549,11 +638,11 @@ fn bad_image_texts_have_messages_with_places() {
     let waiting = rows(|n| format!("waiting F000000001 grants 0.0 to F0000000{n}\n"));
     let after = |row: &str| two.to_string() + row;
     let cases = [
-        ("package 8 F000000001".to_string(), "line 1, column 9: '8' is not a number from 0 to 7"),
+        ("package 8 F000000001".to_string(), "line 1, column 9: '8' is not a number from 0 to 7: a large card has it, after a line 'card large'"),
         ("package 0".to_string(), "line 1, column 10: the package's AID is missing"),
         (after("package 1 F000000003"), "line 4, column 9: package 1 stands above"),
         (after("package 2 F000000002"), "line 4, column 11: a package with this AID stands above"),
-        ("pack 0 F000000001".to_string(), "line 1, column 1: 'pack' begins no line of an image: there are package, service, calls, grants, needs, unmet, waiting and name"),
+        ("pack 0 F000000001".to_string(), "line 1, column 1: 'pack' begins no line of an image: there are card, package, service, calls, grants, needs, unmet, waiting and name"),
         ("package 0 purse".to_string(), "line 1, column 11: 'purse' is neither an AID in hexadecimal nor a name given above"),
         ("package 00 F000000001".to_string(), "line 1, column 9: '00' is not a number from 0 to 7"),
         ("service 0 0.0".to_string(), "line 1, column 1: 'service' belongs to a package, and none stands above"),
@@ -566,13 +655,13 @@ fn bad_image_texts_have_messages_with_places() {
         (after("unmet"), "line 4, column 6: the package's AID is missing"),
         (after("waiting F000000001"), "line 4, column 19: 'grants' is missing"),
         (after("service 0 0.0 0.1"), "line 4, column 15: nothing may follow here, but '0.1' does"),
-        (after("service 9 0.0"), "line 4, column 9: '9' is not a number from 0 to 7"),
+        (after("service 9 0.0"), "line 4, column 9: '9' is not a number from 0 to 7: a large card has it, after a line 'card large'"),
         (after("service 0 0.0\nservice 0 0.1"), "line 5, column 9: service 0 of the package stands above"),
         (after("service 0 0.0\nservice 1 0.0"), "line 5, column 11: the package has this service already"),
         (after("service 1 0.128"), "line 4, column 13: the method token is 128, not 0 to 127"),
         (after("unmet F000000002 calls F000000009 0.128"), "line 4, column 37: the method token is 128, not 0 to 127"),
         (after("waiting F000000001 grants 0.255 to F000000008"), "line 4, column 29: the method token is 255, not 0 to 127"),
-        (after("provides 0.0"), "line 4, column 1: 'provides' begins no line of an image: there are package, service, calls, grants, needs, unmet, waiting and name"),
+        (after("provides 0.0"), "line 4, column 1: 'provides' begins no line of an image: there are card, package, service, calls, grants, needs, unmet, waiting and name"),
         (after("unmet F000000001 grants 0.0 to F000000002"), "line 4, column 18: 'calls' is expected, not 'grants'"),
         (after("waiting F000000001 calls F000000002 0.0"), "line 4, column 20: 'grants' is expected, not 'calls'"),
         (after("calls F000000009 0.0"), "line 4, column 1: the callee is no package here: the call is unmet"),
@@ -589,8 +678,8 @@ fn bad_image_texts_have_messages_with_places() {
         (after("waiting F000000009 grants 0.0 to F000000008"), "line 4, column 1: the package that grants is no package here"),
         (after("waiting F000000001 grants 0.1 to F000000001"), "line 4, column 1: a package does not grant to itself"),
         (after("waiting F000000001 grants 0.0 to F000000002"), "line 4, column 1: caller and service are on the card: the grant does not wait"),
-        (unmet, "line 20, column 1: an image has at most 16 unmet calls"),
-        (waiting, "line 20, column 1: an image has at most 16 waiting grants"),
+        (unmet, "line 20, column 1: an image of a small card has at most 16 unmet calls, one of a large card ('card large') 32"),
+        (waiting, "line 20, column 1: an image of a small card has at most 16 waiting grants, one of a large card ('card large') 32"),
     ];
     for (text, message) in cases {
         assert_eq!(read(&text).expect_err(&text).to_string(), message, "{text}");
@@ -602,7 +691,7 @@ fn bad_image_texts_have_messages_with_places() {
 fn damaged_image_texts_give_a_sound_image_or_a_fault() {
     let mut random = Random::new(8);
     let (mut sound, mut faulted) = (0, 0);
-    for image in random_images(Rules::IN_FORCE, 12) {
+    for image in [Rules::IN_FORCE, ON_LARGE].into_iter().flat_map(|rules| random_images(rules, 12)) {
         let text = text_of(&image);
         let mut rows: Vec<String> = text.lines().map(|line| format!("{line}\n")).collect();
         let at = random.below(rows.len());

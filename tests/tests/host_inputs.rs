@@ -2,14 +2,14 @@
 
 use cardtool::fault::{At, Fault};
 use cardtool::hex::to_hex;
-use cardtool::layout::{Image, VERSION_01, VERSION_02};
+use cardtool::layout::{Image, Layout, VERSION_01, VERSION_02, VERSION_03};
 use cardtool::names::Names;
 use cardtool::record_text::{Placed, Written};
 use cardtool::tables::Tables;
 use cardtool::unsound::{faults, sized};
 use cardtool::words::utf8;
 use cardtool::{dump, hexadecimal, image_text, record, record_text};
-use comparison::card::{Bytes, Card};
+use comparison::card::{Bytes, Card, ON_LARGE};
 use comparison::random::Random;
 use comparison::rules::Rules;
 
@@ -49,14 +49,14 @@ waiting log grants 0.1 to F000000009
 ";
 
 fn names() -> Names {
-    record_text::read(NAMES, &Names::default()).expect("names").names
+    record_text::read(&VERSION_02, NAMES, &Names::default()).expect("names").names
 }
 
-/// The image of version 02, and one of version 01 with the same tables.
-fn images() -> [Vec<u8>; 2] {
-    let image = image_text::read(IMAGE, &names()).expect("a text");
-    let tables = Tables { layout: &VERSION_01, ..Tables::of(&image, &names()).expect("a sound image") };
-    [image, tables.image()]
+/// The image of version 02, and those of versions 01 and 03 with the same tables.
+fn images() -> [Vec<u8>; 3] {
+    let image = image_text::read(&VERSION_02, IMAGE, &names()).expect("a text");
+    let tables = Tables::of(&image, &names()).expect("a sound image");
+    [image, tables.on(&VERSION_01).image(), tables.on(&VERSION_03).image()]
 }
 
 /// A fault is one line, not a long one, and its place is in the text or right after a line's end.
@@ -111,11 +111,13 @@ impl Counts {
     fn every_reader(&mut self, bytes: &[u8], names: &Names) {
         let lossy = String::from_utf8_lossy(bytes);
         let Some(text) = self.utf8.text(utf8(bytes), &lossy) else { return };
-        if let Some(read) = self.records.text(record_text::read(text, names), text) {
-            read.records.iter().for_each(|placed| written_again(placed, &read.names, text));
-        }
-        if let Some(image) = self.images.text(image_text::read(text, names), text) {
-            assert_eq!(faults(&image, names), [], "{text}");
+        for card in Layout::CARDS {
+            if let Some(read) = self.records.text(record_text::read(card, text, names), text) {
+                read.records.iter().for_each(|placed| written_again(card, placed, &read.names, text));
+            }
+            if let Some(image) = self.images.text(image_text::read(card, text, names), text) {
+                assert_eq!(faults(&image, names), [], "{text}");
+            }
         }
         if let Some(lines) = self.lines.text(hexadecimal::records(text), text) {
             for digits in lines {
@@ -136,13 +138,13 @@ impl Counts {
 }
 
 /// What was read of a text reads as the same again.
-fn written_again(placed: &Placed, names: &Names, text: &str) {
+fn written_again(card: &'static Layout, placed: &Placed, names: &Names, text: &str) {
     let (written, bytes) = match &placed.written {
-        Written::Record(record) => (record_text::write(record, names), record.bytes()),
+        Written::Record(record) => (record_text::write(record, names), record.bytes(card)),
         Written::Bytes(bytes) => (placed.first_line(names), bytes.clone()),
     };
-    let again = record_text::read(&written, names).unwrap_or_else(|fault| panic!("{fault}\n{written}\n{text}"));
-    assert_eq!(again.records.iter().map(Placed::bytes).collect::<Vec<_>>(), [bytes], "{text}");
+    let again = record_text::read(card, &written, names).unwrap_or_else(|fault| panic!("{fault}\n{written}\n{text}"));
+    assert_eq!(again.records.iter().map(|placed| placed.bytes(card)).collect::<Vec<_>>(), [bytes], "{text}");
     let _ = placed.consistent().map_err(|fault| in_text(&fault, text));
 }
 
@@ -163,8 +165,8 @@ fn any_image(bytes: &[u8], names: &Names) -> bool {
     if let Ok(tables) = read {
         assert_eq!(tables.image(), bytes);
         let text = image_text::write(&tables, names);
-        let of_02 = Tables { layout: &VERSION_02, ..tables };
-        assert_eq!(image_text::read(&text, names), Ok(of_02.image()), "{text}");
+        let card = if tables.layout.judged() { tables.layout } else { &VERSION_02 };
+        assert_eq!(image_text::read(&VERSION_02, &text, names), Ok(tables.on(card).image()), "{text}");
     }
     found.is_empty()
 }
@@ -195,11 +197,12 @@ fn damage(text: &mut String, random: &mut Random) {
 #[test]
 fn damaged_texts_are_read_or_have_a_fault_in_them() {
     let (names, none, mut random, mut counts) = (names(), Names::default(), Random::new(1), Counts::default());
-    let hexadecimal = to_hex(&record_text::read(RECORDS, &names).expect("a text").records[0].bytes());
+    let hexadecimal =
+        to_hex(&record_text::read(&VERSION_02, RECORDS, &names).expect("a text").records[0].bytes(&VERSION_02));
     let dumps = images().map(|image| dump::image(Image::new(&image).expect("a card's size"), &names));
-    let whole = [RECORDS, IMAGE, &hexadecimal, &dumps[0], &dumps[1]].map(|text| format!("{NAMES}{text}"));
+    let whole = [RECORDS, IMAGE, &hexadecimal, &dumps[0], &dumps[1], &dumps[2]].map(|text| format!("{NAMES}{text}"));
     let whole: Vec<&str> = whole.iter().flat_map(|text| [text, text.strip_prefix(NAMES).unwrap_or(text)]).collect();
-    for round in 0..8000 {
+    for round in 0..9600 {
         let mut text = whole[round % whole.len()].to_string();
         for _ in 0..random.below(4) {
             damage(&mut text, &mut random);
@@ -234,6 +237,8 @@ fn words_in_any_order_are_read_or_have_a_fault_in_them() {
         "expect",
         "accepted",
         "refused",
+        "card",
+        "large",
         "package",
         "service",
         "unmet",
@@ -294,10 +299,13 @@ fn random_bytes_are_read_or_have_a_fault_in_them() {
 #[test]
 fn records_of_any_bytes_are_read_or_malformed() {
     let (mut random, mut read, mut not) = (Random::new(4), 0, 0);
-    let whole: Vec<Vec<u8>> =
-        record_text::read(RECORDS, &names()).expect("a text").records.iter().map(Placed::bytes).collect();
+    let text = |card: &'static Layout| record_text::read(card, RECORDS, &names()).expect("a text").records;
+    let whole: Vec<(&Layout, Vec<u8>)> = Layout::CARDS
+        .into_iter()
+        .flat_map(|card| text(card).into_iter().map(move |placed| (card, placed.bytes(card))))
+        .collect();
     for round in 0..20000 {
-        let mut bytes = whole[round % whole.len()].clone();
+        let (card, mut bytes) = whole[round % whole.len()].clone();
         match random.below(3) {
             0 => bytes = (0..random.below(4200)).map(|_| random.byte()).collect(),
             1 => bytes.truncate(random.below(bytes.len() + 1)),
@@ -311,10 +319,11 @@ fn records_of_any_bytes_are_read_or_malformed() {
             let length = (bytes.len() as u16).to_be_bytes();
             bytes[..2].copy_from_slice(&length);
         }
-        match record::read(&bytes) {
+        let either = record::read_either(&bytes);
+        match record::read(card, &bytes) {
             Ok(record) => {
-                assert_eq!(record.bytes(), bytes);
-                assert_eq!(hexadecimal::dump(&dump::record(&record)), Ok(bytes));
+                assert_eq!((&either, record.bytes(card)), (&Ok((card, record.clone())), bytes.clone()));
+                assert_eq!(hexadecimal::dump(&dump::record(card, &record)), Ok(bytes));
                 read += 1;
             }
             Err(malformed) => {
@@ -335,7 +344,7 @@ fn images_of_any_bytes_are_read_or_have_faults_in_them() {
         assert!(!any_image(&bytes, &names));
     }
     let (mut sound, mut not) = (0, 0);
-    for (image, rules) in images().into_iter().zip([Rules::IN_FORCE, Rules::R_7]) {
+    for (image, rules) in images().into_iter().zip([Rules::IN_FORCE, Rules::R_7, ON_LARGE]) {
         assert!(any_image(&image, &names));
         for _ in 0..1500 {
             let mut image = image.clone();
@@ -361,6 +370,6 @@ fn a_long_line_is_read_at_once() {
     let fault = hexadecimal::dump(&(text + "0")).expect_err("one digit");
     assert_eq!(fault.to_string(), "line 1, column 1200001: a byte has two digits, here is one");
     let text = format!("load F000000001{}x", " Ä".repeat(200_000));
-    let fault = record_text::read(&text, &Names::default()).expect_err("words");
+    let fault = record_text::read(&VERSION_02, &text, &Names::default()).expect_err("words");
     assert_eq!(fault.to_string(), "line 1, column 17: nothing may follow here, but 'Ä' does");
 }

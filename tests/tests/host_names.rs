@@ -2,6 +2,7 @@
 
 use cardtool::contract::{Aid, Tokens};
 use cardtool::fault::Fault;
+use cardtool::layout::VERSION_02;
 use cardtool::names::Names;
 use cardtool::record_text::{Placed, Text, Written};
 use cardtool::tables::Tables;
@@ -108,7 +109,7 @@ waiting F000000002 grants 0.1 to F000000009
 ";
 
 fn read(text: &str) -> Result<Text, Fault> {
-    record_text::read(text, &Names::default())
+    record_text::read(&VERSION_02, text, &Names::default())
 }
 
 /// The names that a text gives.
@@ -117,7 +118,7 @@ fn names(text: &str) -> Names {
 }
 
 fn bytes(text: &Text) -> Vec<Vec<u8>> {
-    text.records.iter().map(Placed::bytes).collect()
+    text.records.iter().map(|placed| placed.bytes(&VERSION_02)).collect()
 }
 
 /// The records of a text with these names for what they have.
@@ -152,8 +153,8 @@ fn records_have_names_in_every_place() {
 
 #[test]
 fn images_have_names_in_every_place() {
-    let image = image_text::read(IMAGE_IN_DIGITS, &Names::default()).expect("a text");
-    assert_eq!(image_text::read(&format!("{NAMES}{IMAGE}"), &Names::default()), Ok(image.clone()));
+    let image = image_text::read(&VERSION_02, IMAGE_IN_DIGITS, &Names::default()).expect("a text");
+    assert_eq!(image_text::read(&VERSION_02, &format!("{NAMES}{IMAGE}"), &Names::default()), Ok(image.clone()));
     let tables = Tables::of(&image, &Names::default()).expect("a sound image");
     assert_eq!(image_text::write(&tables, &names(NAMES)), IMAGE);
     assert_eq!(image_text::write(&tables, &Names::default()), IMAGE_IN_DIGITS);
@@ -204,7 +205,7 @@ fn names_may_be_given_again_alike() {
     let given = names(NAMES);
     assert_eq!(names(&format!("{NAMES}{NAMES}")), given);
     assert_eq!(names(&NAMES.replace("log 3", "F000000001 03").replace("log 0", "F000000001 0")), given);
-    let again = record_text::read(&format!("{NAMES}{RECORDS}"), &given).expect("a text");
+    let again = record_text::read(&VERSION_02, &format!("{NAMES}{RECORDS}"), &given).expect("a text");
     assert_eq!((bytes(&again), again.names), (bytes(&read(RECORDS_IN_DIGITS).expect("a text")), given));
 }
 
@@ -212,15 +213,15 @@ fn names_may_be_given_again_alike() {
 #[test]
 fn names_are_given_beforehand() {
     let given = names(NAMES);
-    let text = record_text::read(RECORDS, &given).expect("a text");
+    let text = record_text::read(&VERSION_02, RECORDS, &given).expect("a text");
     assert_eq!((bytes(&text), &text.names), (bytes(&read(RECORDS_IN_DIGITS).expect("a text")), &given));
-    let image = image_text::read(IMAGE_IN_DIGITS, &Names::default());
-    assert_eq!(image_text::read(IMAGE, &given), image);
-    assert_eq!(image_text::read(&format!("{NAMES}{IMAGE}"), &given), image);
+    let image = image_text::read(&VERSION_02, IMAGE_IN_DIGITS, &Names::default());
+    assert_eq!(image_text::read(&VERSION_02, IMAGE, &given), image);
+    assert_eq!(image_text::read(&VERSION_02, &format!("{NAMES}{IMAGE}"), &given), image);
     let more = "name shop F000000003\nname sell shop 1.1\n";
-    assert_eq!(record_text::read(more, &given).expect("a text").names, names(&format!("{NAMES}{more}")));
+    assert_eq!(record_text::read(&VERSION_02, more, &given).expect("a text").names, names(&format!("{NAMES}{more}")));
     // Without them the words are not known.
-    assert!(read(RECORDS).is_err() && image_text::read(IMAGE, &Names::default()).is_err());
+    assert!(read(RECORDS).is_err() && image_text::read(&VERSION_02, IMAGE, &Names::default()).is_err());
 }
 
 #[test]
@@ -233,8 +234,8 @@ fn names_that_differ_from_those_given_beforehand_are_faults() {
     ];
     let given = names(NAMES);
     for (text, message) in cases {
-        assert_eq!(record_text::read(text, &given).expect_err(text).to_string(), message);
-        assert_eq!(image_text::read(text, &given).expect_err(text).to_string(), message);
+        assert_eq!(record_text::read(&VERSION_02, text, &given).expect_err(text).to_string(), message);
+        assert_eq!(image_text::read(&VERSION_02, text, &given).expect_err(text).to_string(), message);
     }
 }
 
@@ -282,7 +283,11 @@ fn bad_names_have_messages_with_places() {
     ];
     for (text, message) in cases {
         assert_eq!(read(text).expect_err(text).to_string(), message, "{text}");
-        assert_eq!(image_text::read(text, &Names::default()).expect_err(text).to_string(), message, "{text}");
+        assert_eq!(
+            image_text::read(&VERSION_02, text, &Names::default()).expect_err(text).to_string(),
+            message,
+            "{text}"
+        );
     }
 }
 
@@ -333,6 +338,10 @@ fn unknown_services_in_images_have_messages_with_places() {
     ];
     for (text, message) in cases {
         let text = format!("{NAMES}package 0 log\n{text}");
-        assert_eq!(image_text::read(&text, &Names::default()).expect_err(&text).to_string(), message, "{text}");
+        assert_eq!(
+            image_text::read(&VERSION_02, &text, &Names::default()).expect_err(&text).to_string(),
+            message,
+            "{text}"
+        );
     }
 }

@@ -4,26 +4,35 @@ use cardtool::contract::{Aid, Row, Tokens};
 use cardtool::fault::{At, Fault};
 use cardtool::hex::to_hex;
 use cardtool::hexadecimal;
-use cardtool::layout::VERSION_02;
+use cardtool::layout::{Layout, VERSION_02, VERSION_03};
 use cardtool::names::Names;
 use cardtool::record::{self, contradictions, Change, Clash, Lists, Part, Record};
 use cardtool::record_text::{self, Expected, Placed, Text, Written};
 use cardtool::words::{lines, utf8};
-use comparison::card::{Card, BYTES, IMAGE};
+use comparison::card::{longest_record, Card, BYTES, ON_LARGE};
 use comparison::generate::Source;
 use comparison::machine::{self, Machine};
 use comparison::random::Random;
 use comparison::rules::Rules;
 use std::collections::BTreeSet;
 
-/// Records of random histories, good and bad, as bytes.
-fn random_records(count: usize) -> Vec<Vec<u8>> {
+/// A card, and the rules on it.
+type On = (&'static Layout, Rules);
+
+const CARDS: [On; 2] = [(&VERSION_02, Rules::IN_FORCE), (&VERSION_03, ON_LARGE)];
+
+/// Records of random histories on a card, good and bad, as bytes.
+fn random_records((_, rules): On, count: usize) -> Vec<Vec<u8>> {
     let mut records = Vec::new();
     for ordinal in 0.. {
-        let (mut source, mut machine) = (Source::new(4, ordinal), Machine::default());
+        let mut source = match rules == ON_LARGE {
+            true => Source::with(rules, Vec::new(), Vec::new(), Random::new(40 + ordinal)),
+            false => Source::new(4, ordinal),
+        };
+        let mut machine = Machine::default();
         for _ in 0..source.length() {
             let record = source.record(&machine);
-            machine.judge(Rules::IN_FORCE, &record);
+            machine.judge(rules, &record);
             records.push(record);
             if records.len() == count {
                 return records;
@@ -34,13 +43,18 @@ fn random_records(count: usize) -> Vec<Vec<u8>> {
 }
 
 /// Those of random histories that can be read.
-fn read_records(count: usize) -> Vec<Record> {
-    random_records(count).iter().filter_map(|bytes| record::read(bytes).ok()).collect()
+fn read_records(on: On, count: usize) -> Vec<Record> {
+    random_records(on, count).iter().filter_map(|bytes| record::read(on.0, bytes).ok()).collect()
 }
 
-/// A text without names given beforehand.
+/// A text for a card, without names given beforehand.
+fn read_for(card: &'static Layout, text: &str) -> Result<Text, Fault> {
+    record_text::read(card, text, &Names::default())
+}
+
+/// A text for the small card.
 fn read(text: &str) -> Result<Text, Fault> {
-    record_text::read(text, &Names::default())
+    read_for(&VERSION_02, text)
 }
 
 fn record_of(placed: &Placed) -> &Record {
@@ -50,11 +64,16 @@ fn record_of(placed: &Placed) -> &Record {
     }
 }
 
-/// The one record of a text.
-fn only(text: &str) -> Record {
-    let read = read(text).unwrap_or_else(|fault| panic!("{fault}\n{text}"));
+/// The one record of a text for a card.
+fn only_for(card: &'static Layout, text: &str) -> Record {
+    let read = read_for(card, text).unwrap_or_else(|fault| panic!("{fault}\n{text}"));
     assert_eq!(read.records.len(), 1);
     record_of(&read.records[0]).clone()
+}
+
+/// The one record of a text for the small card.
+fn only(text: &str) -> Record {
+    only_for(&VERSION_02, text)
 }
 
 /// The message about a text that is not read.
@@ -97,41 +116,45 @@ fn some_names(record: &Record, random: &mut Random) -> Names {
 
 #[test]
 fn every_kind_is_text_and_back() {
-    let mut kinds = BTreeSet::new();
     let mut random = Random::new(4);
-    for bytes in random_records(6000) {
-        let Ok(record) = record::read(&bytes) else { continue };
-        kinds.insert(record.change.kind());
-        assert_eq!(record.bytes(), bytes);
-        let text = record_text::write(&record, &Names::default());
-        assert_eq!(only(&text), record, "{text}");
-        let names = some_names(&record, &mut random);
-        let named = names.text() + &record_text::write(&record, &names);
-        assert_eq!(only(&named), record, "{named}");
-        let read = read(&named).expect("a text");
-        assert_eq!(read.names, names);
-        assert_eq!(read.names.text() + &record_text::write(record_of(&read.records[0]), &read.names), named);
+    for on in CARDS {
+        let (mut kinds, card) = (BTreeSet::new(), on.0);
+        for bytes in random_records(on, 6000) {
+            let Ok(record) = record::read(card, &bytes) else { continue };
+            kinds.insert(record.change.kind());
+            assert_eq!(record.bytes(card), bytes);
+            let text = record_text::write(&record, &Names::default());
+            assert_eq!(only_for(card, &text), record, "{text}");
+            let names = some_names(&record, &mut random);
+            let named = names.text() + &record_text::write(&record, &names);
+            assert_eq!(only_for(card, &named), record, "{named}");
+            let read = read_for(card, &named).expect("a text");
+            assert_eq!(read.names, names);
+            assert_eq!(read.names.text() + &record_text::write(record_of(&read.records[0]), &read.names), named);
+        }
+        assert_eq!(kinds, BTreeSet::from([1, 2, 3, 4, 5, 6, 7, 8, 11]));
     }
-    assert_eq!(kinds, BTreeSet::from([1, 2, 3, 4, 5, 6, 7, 8, 11]));
 }
 
 #[test]
 fn a_history_is_one_text() {
-    let records = read_records(300);
-    assert!(records.len() > 200, "{}", records.len());
-    let text: String = records.iter().map(|record| record_text::write(record, &Names::default())).collect();
-    let read = read(&text).expect("a text");
-    assert!(read.records.iter().map(record_of).eq(&records));
-    assert!(read.records.iter().all(|placed| placed.expected.is_none()));
-    let first_lines = text.lines().filter(|line| !line.starts_with(' '));
-    assert!(read.records.iter().map(|placed| placed.first_line(&read.names)).eq(first_lines));
+    for on in CARDS {
+        let records = read_records(on, 300);
+        assert!(records.len() > 200, "{}", records.len());
+        let text: String = records.iter().map(|record| record_text::write(record, &Names::default())).collect();
+        let read = read_for(on.0, &text).expect("a text");
+        assert!(read.records.iter().map(record_of).eq(&records));
+        assert!(read.records.iter().all(|placed| placed.expected.is_none()));
+        let first_lines = text.lines().filter(|line| !line.starts_with(' '));
+        assert!(read.records.iter().map(|placed| placed.first_line(&read.names)).eq(first_lines));
+    }
 }
 
 /// Layout means nothing: spaces, comments, empty lines, small digits, and the order of a contract's lists.
 #[test]
 fn a_loose_layout_reads_alike() {
     let mut random = Random::new(5);
-    for record in read_records(1500) {
+    for record in read_records(CARDS[0], 1500) {
         let text = record_text::write(&record, &Names::default());
         let mut rows: Vec<&str> = text.lines().collect();
         if let Change::Load(_) | Change::Replace(_) = record.change {
@@ -190,7 +213,7 @@ load F000000001
     ];
     for (text, bytes) in cases {
         let record = only(text);
-        assert_eq!(to_hex(&record.bytes()), bytes, "{text}");
+        assert_eq!(to_hex(&record.bytes(&VERSION_02)), bytes, "{text}");
         assert_eq!(record_text::write(&record, &Names::default()), text);
     }
 }
@@ -198,17 +221,19 @@ load F000000001
 /// Every list at its limit, and every AID as long as one may be.
 #[test]
 fn the_longest_record_is_read() {
-    let aid = |n: usize| format!("{n:032X}");
-    let rows = |row: &dyn Fn(usize) -> String| (1..=72).map(row).collect::<String>();
-    let text = format!("load {}\n", aid(0))
-        + &(0..8).map(|n| format!("provides 255.{n}\n")).collect::<String>()
-        + &rows(&|n| format!("calls {} 255.127\n", aid(n)))
-        + &rows(&|n| format!("grants 255.127 to {}\n", aid(n)))
-        + &rows(&|n| format!("needs {} 255.127\n", aid(n)));
-    let longest = only(&text);
-    assert_eq!((longest.bytes().len(), contradictions(&longest)), (VERSION_02.longest_record, vec![]));
-    assert_eq!(record::read(&longest.bytes()), Ok(longest.clone()));
-    assert_eq!(only(&record_text::write(&longest, &Names::default())), longest);
+    for (card, rules) in CARDS {
+        let aid = |n: usize| format!("{n:032X}");
+        let rows = |row: &dyn Fn(usize) -> String| (1..=rules.sizes.rows).map(row).collect::<String>();
+        let text = format!("load {}\n", aid(0))
+            + &(0..rules.sizes.services).map(|n| format!("provides 255.{n}\n")).collect::<String>()
+            + &rows(&|n| format!("calls {} 255.127\n", aid(n)))
+            + &rows(&|n| format!("grants 255.127 to {}\n", aid(n)))
+            + &rows(&|n| format!("needs {} 255.127\n", aid(n)));
+        let longest = only_for(card, &text);
+        assert_eq!((longest.bytes(card).len(), contradictions(&longest)), (longest_record(rules.sizes), vec![]));
+        assert_eq!(record::read(card, &longest.bytes(card)), Ok(longest.clone()));
+        assert_eq!(only_for(card, &record_text::write(&longest, &Names::default())), longest);
+    }
 }
 
 /// Each message of the reader, with its place.
@@ -260,10 +285,10 @@ fn bad_texts_have_messages_with_places() {
         ("name FACE F000000001", "line 1, column 6: 'FACE' is no name: it has hexadecimal digits alone"),
         ("name purse F000000001\nname purse F000000002", "line 2, column 6: the name 'purse' is given already"),
         ("name purse F000000001\nname shop F000000001", "line 2, column 6: the AID F000000001 has the name 'purse' already"),
-        (&nine, "line 10, column 1: a record has at most 8 lines with 'provides'"),
-        (&nine.replace("load", "replace"), "line 10, column 1: a record has at most 8 lines with 'provides'"),
-        (&calls, "line 74, column 1: a record has at most 72 lines with 'calls'"),
-        (&callers, "line 34, column 1: a record has at most 32 lines with 'to'"),
+        (&nine, "line 10, column 1: a record of the small card has at most 8 lines with 'provides', one of the large card (--large) 16"),
+        (&nine.replace("load", "replace"), "line 10, column 1: a record of the small card has at most 8 lines with 'provides', one of the large card (--large) 16"),
+        (&calls, "line 74, column 1: a record of the small card has at most 72 lines with 'calls', one of the large card (--large) 272"),
+        (&callers, "line 34, column 1: a record of the small card has at most 32 lines with 'to'"),
     ];
     for (text, message) in cases {
         assert_eq!(self::message(text), message, "{text}");
@@ -362,28 +387,30 @@ fn every_contradiction_is_found() {
 }
 
 /// What the machine and the byte engine answer to a record on an empty card.
-fn answer(bytes: &[u8]) -> u32 {
-    let mut image = [0; IMAGE];
+fn answer((card, rules): On, bytes: &[u8]) -> u32 {
+    let mut image = vec![0; card.size()];
     BYTES.empty(&mut image);
     let answer = BYTES.judge(&mut image, bytes).answer;
-    assert_eq!(Machine::default().judge(Rules::IN_FORCE, bytes), answer);
+    assert_eq!(Machine::default().judge(rules, bytes), answer);
     answer
 }
 
 /// The texts with a contradiction are those that a card answers with 3.
 #[test]
 fn contradictions_are_what_a_card_answers_with_3() {
-    let (mut with, mut without) = (0, 0);
-    for bytes in random_records(4000) {
-        let Ok(record) = record::read(&bytes) else { continue };
-        let refused = answer(&bytes) == 3;
-        let read = read(&record_text::write(&record, &Names::default())).expect("a text");
-        assert_eq!(read.records[0].consistent().is_err(), refused);
-        assert_eq!(!contradictions(&record).is_empty(), refused);
-        with += usize::from(refused);
-        without += usize::from(!refused);
+    for on in CARDS {
+        let (mut with, mut without) = (0, 0);
+        for bytes in random_records(on, 4000) {
+            let Ok(record) = record::read(on.0, &bytes) else { continue };
+            let refused = answer(on, &bytes) == 3;
+            let read = read_for(on.0, &record_text::write(&record, &Names::default())).expect("a text");
+            assert_eq!(read.records[0].consistent().is_err(), refused);
+            assert_eq!(!contradictions(&record).is_empty(), refused);
+            with += usize::from(refused);
+            without += usize::from(!refused);
+        }
+        assert!(with > 100 && without > 100, "{with} and {without}");
     }
-    assert!(with > 100 && without > 100, "{with} and {without}");
 }
 
 /// The line and column of a fault are in the text, or right after a line's end.
@@ -420,7 +447,7 @@ fn damaged(text: &str, random: &mut Random) -> String {
 fn damaged_texts_are_read_or_faulted_with_a_place() {
     let (mut faults, mut good) = (0, 0);
     let mut random = Random::new(6);
-    for record in read_records(3000) {
+    for record in read_records(CARDS[0], 3000) {
         let names = some_names(&record, &mut random);
         let expect = ["", "expect accepted\n", "expect refused 8\n"][random.below(3)];
         let text = names.text() + &record_text::write(&record, &names) + expect;
@@ -451,7 +478,10 @@ fn bad_records_have_messages_with_places() {
             "00 0B 01 02 05 F0 00 00 00 01",
             "line 1, column 1: byte 0: the length field says 11, the record has 10 bytes",
         ),
-        ("\n00 0A 02 02 05 F0 00 00 00 01", "line 2, column 7: byte 2: the version is 2, not 1"),
+        (
+            "\n00 0A 03 02 05 F0 00 00 00 01",
+            "line 2, column 7: byte 2: the version is 3, and records have 1 on the small card, 2 on the large card",
+        ),
         ("00 0A 01 0C 05 F0 00 00 00 01", "line 1, column 10: byte 3: the kind is 12, and there are 1 to 8 and 11"),
         (
             "00 0A 01 09 05 F0 00 00 00 01",
@@ -487,7 +517,7 @@ fn bad_records_have_messages_with_places() {
         ("00 Ä0", "line 1, column 4: 'Ä' is no hexadecimal digit"),
     ];
     for (text, message) in cases {
-        let read: Result<Vec<Record>, Fault> =
+        let read: Result<Vec<_>, Fault> =
             hexadecimal::records(text).and_then(|lines| lines.iter().map(|digits| digits.record()).collect());
         assert_eq!(read.expect_err(text).to_string(), message, "{text}");
     }
@@ -499,7 +529,7 @@ fn damaged_record(bytes: &[u8], random: &mut Random) -> Vec<u8> {
     let at = random.below(bytes.len());
     match random.below(4) {
         0 => bytes[at] ^= 1 << random.below(8),
-        1 => bytes[at] = [0, 4, 5, 8, 9, 16, 17, 32, 33, 72, 73, 127, 128, 255][random.below(14)],
+        1 => bytes[at] = [0, 1, 2, 4, 5, 8, 9, 16, 17, 32, 33, 72, 73, 127, 128, 255][random.below(16)],
         2 => drop(bytes.remove(at)),
         _ => bytes.insert(at, bytes[at]),
     }
@@ -513,30 +543,34 @@ fn damaged_record(bytes: &[u8], random: &mut Random) -> Vec<u8> {
 /// What this reader reads the machine's does too, and an engine answers 2 to the rest.
 #[test]
 fn malformed_records_are_those_that_a_card_answers_with_2() {
-    let (mut bad, mut good) = (0, 0);
     let mut random = Random::new(7);
-    for whole in random_records(4000) {
-        let damaged = damaged_record(&whole, &mut random);
-        for bytes in [whole, damaged] {
-            let text = to_hex(&bytes);
-            let Some(digits) = hexadecimal::records(&text).expect("hexadecimal").pop() else { continue };
-            assert_eq!(digits.bytes, bytes);
-            let read = digits.record();
-            assert_eq!(read.is_ok(), machine::record::read(Rules::IN_FORCE, &bytes).is_some(), "{text}");
-            assert_eq!(read.is_err(), answer(&bytes) == 2, "{text}");
-            match read {
-                Err(fault) => {
-                    in_text(&fault, &text);
-                    bad += 1;
-                }
-                Ok(record) => {
-                    assert_eq!(record.bytes(), bytes);
-                    good += 1;
+    for on in CARDS {
+        let ((card, rules), mut bad, mut good) = (on, 0, 0);
+        for whole in random_records(on, 4000) {
+            let damaged = damaged_record(&whole, &mut random);
+            for bytes in [whole, damaged] {
+                let text = to_hex(&bytes);
+                let Some(digits) = hexadecimal::records(&text).expect("hexadecimal").pop() else { continue };
+                assert_eq!(digits.bytes, bytes);
+                let read = record::read(card, &bytes);
+                assert_eq!(read.is_ok(), machine::record::read(rules, &bytes).is_some(), "{text}");
+                assert_eq!(read.is_err(), answer(on, &bytes) == 2, "{text}");
+                match (digits.record(), read) {
+                    (Err(fault), Err(_)) => {
+                        in_text(&fault, &text);
+                        bad += 1;
+                    }
+                    (either, Ok(record)) => {
+                        assert_eq!((record.bytes(card), either), (bytes, Ok((card, record))));
+                        good += 1;
+                    }
+                    // A record of the other card.
+                    (Ok((other, _)), Err(_)) => assert_ne!(card, other),
                 }
             }
         }
+        assert!(bad > 1000 && good > 1000, "{bad} and {good}");
     }
-    assert!(bad > 1000 && good > 1000, "{bad} and {good}");
 }
 
 /// A line `record` has any bytes, and is written as it was.
@@ -544,7 +578,7 @@ fn malformed_records_are_those_that_a_card_answers_with_2() {
 fn lines_of_bytes_are_kept() {
     let text = "record 00 0a01 02 05F000000001 # a removal\n  record ff\nrecord\nrecord # none\nunload F000000001\n";
     let read = read(text).expect("a text");
-    let bytes: Vec<Vec<u8>> = read.records.iter().map(Placed::bytes).collect();
+    let bytes: Vec<Vec<u8>> = read.records.iter().map(|placed| placed.bytes(&VERSION_02)).collect();
     let removal = vec![0, 10, 1, 2, 5, 0xF0, 0, 0, 0, 1];
     assert_eq!(bytes, [removal.clone(), vec![0xFF], vec![], vec![], removal.clone()]);
     assert_eq!(read.records[0].written, Written::Bytes(removal));
@@ -557,10 +591,10 @@ fn lines_of_bytes_are_kept() {
 
 #[test]
 fn random_records_are_lines_of_bytes() {
-    let records = random_records(500);
+    let records = random_records(CARDS[0], 500);
     let text: String = records.iter().map(|bytes| format!("record {}\n", to_hex(bytes))).collect();
     let read = read(&text).expect("a text");
-    assert!(read.records.iter().map(Placed::bytes).eq(records));
+    assert!(read.records.iter().map(|placed| placed.bytes(&VERSION_02)).eq(records));
     assert!(read.records.iter().all(|placed| placed.consistent().is_ok()));
     assert_eq!(read.records.len(), 500);
 }
@@ -570,7 +604,7 @@ fn random_records_are_lines_of_bytes() {
 fn bytes_that_contradict_themselves_are_no_fault() {
     let text = "add F000000001 grants 0.0 to F000000001";
     assert!(read(text).expect(text).records[0].consistent().is_err());
-    let bytes = format!("record {}", to_hex(&only(text).bytes()));
+    let bytes = format!("record {}", to_hex(&only(text).bytes(&VERSION_02)));
     assert_eq!(read(&bytes).expect(text).records[0].consistent(), Ok(()));
 }
 
@@ -678,9 +712,18 @@ fn bad_expectations_have_messages_with_places() {
         (record("expect refused x"), "line 2, column 16: 'x' is no cause: there are 1 to 11".to_string()),
         (record("expect refused 0"), "line 2, column 16: '0' is no cause: there are 1 to 11".to_string()),
         (record("expect refused 12"), "line 2, column 16: '12' is no cause: there are 1 to 11".to_string()),
-        (record("expect accepted -1"), "line 2, column 17: '-1' is no package number: there are 0 to 7".to_string()),
-        (record("expect accepted 8"), "line 2, column 17: '8' is no package number: there are 0 to 7".to_string()),
-        (record("expect accepted +1"), "line 2, column 17: '+1' is no package number: there are 0 to 7".to_string()),
+        (
+            record("expect accepted -1"),
+            "line 2, column 17: '-1' is no package number of the small card: there are 0 to 7".to_string(),
+        ),
+        (
+            record("expect accepted 8"),
+            "line 2, column 17: '8' is no package number of the small card: there are 0 to 7".to_string(),
+        ),
+        (
+            record("expect accepted +1"),
+            "line 2, column 17: '+1' is no package number of the small card: there are 0 to 7".to_string(),
+        ),
         (
             record("expect refused 99999999999"),
             "line 2, column 16: '99999999999' is no cause: there are 1 to 11".to_string(),

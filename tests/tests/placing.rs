@@ -1,15 +1,21 @@
-//! The placing rules, against images written down by hand from the offsets of the paper and of R-2, also for R-1's kind 11.
+//! The placing rules, against images written down by hand from the offsets of the paper and of R-2, also for R-1's kind 11, and
+//! from those that R-9's sizes make on the large card.
 
-use comparison::card::{linked, Bytes, Card, Verdict, IMAGE, OLD_IMAGE};
+use comparison::card::{linked, Bytes, Card, Verdict, IMAGE, LARGE_IMAGE, LONGEST_LARGE_RECORD, OLD_IMAGE};
 use comparison::cases::{B, C, H, X};
-use comparison::rules::Rules;
-use comparison::write::{add_service, load, remove, remove_service, replace, update, Row, Tokens};
+use comparison::rules::{Rules, Sizes};
+use comparison::write::{add_service, load, remove, remove_service, replace, update, Row, Tokens, Writer};
 
 const D: &[u8] = &[0xF0, 0, 0, 0, 4, 0];
 
 /// The image after records that are all accepted, the same from every engine.
 fn after(records: &[Vec<u8>]) -> Vec<u8> {
-    let mut images = linked().into_iter().map(|card| after_with(card, IMAGE, records));
+    after_on(IMAGE, records)
+}
+
+/// The same on the card that has images of this size.
+fn after_on(size: usize, records: &[Vec<u8>]) -> Vec<u8> {
+    let mut images = linked().into_iter().map(|card| after_with(card, size, records));
     let first = images.next().expect("an engine");
     assert!(images.all(|image| image == first));
     first
@@ -37,6 +43,11 @@ fn image(places: &[(usize, &[u8])]) -> Vec<u8> {
 /// One of version 01.
 fn old_image(places: &[(usize, &[u8])]) -> Vec<u8> {
     with_places(OLD_IMAGE, [0x04, 0x46, 0x01], places)
+}
+
+/// One of the large card.
+fn large_image(places: &[(usize, &[u8])]) -> Vec<u8> {
+    with_places(LARGE_IMAGE, [0x0E, 0x37, 0x03], places)
 }
 
 fn with_places(size: usize, header: [u8; 3], places: &[(usize, &[u8])]) -> Vec<u8> {
@@ -505,6 +516,86 @@ fn conversion_keeps_numbers_and_order() {
         }
         assert_eq!(card.convert(&old, &mut untouched[1..]), Verdict::new(1, 255));
         assert_eq!(untouched, [0xA5; IMAGE]);
+    }
+}
+
+/// Numbers 0 to 15 of packages and of services, at both ends of a call, a grant and a need; a row in each list.
+#[test]
+fn a_large_card() {
+    let large = Writer(&Sizes::LARGE);
+    let package = |n: u8| [0xF0, 0, 0, 1, n];
+    let services: Vec<Tokens> = (0..16).map(|method| (1, method)).collect();
+    let granted = [row(&package(9), (1, 15)), row(&package(9), (1, 0)), row(&package(0), (1, 8)), row(X, (1, 3))];
+    let called = [row(&package(15), (1, 15)), row(&package(15), (1, 0)), row(X, (4, 5))];
+    let mut records: Vec<Vec<u8>> = (0..15).map(|n| large.load(&package(n), &[], &[], &[], &[])).collect();
+    records.push(large.load(&package(15), &services, &[], &granted, &[]));
+    records.push(large.replace(&package(9), &[], &called, &[], &called[..1]));
+    let aids: Vec<u8> = (0..16).flat_map(|n| [&[5][..], &package(n), &[0; 11]].concat()).collect();
+    let tokens: Vec<u8> = (0..16).flat_map(|method| [1, method]).collect();
+    let expected = large_image(&[
+        (3, &[0xFF, 0xFF]),
+        (5, &aids),
+        (277 + 32 * 15, &tokens),
+        (789 + 2 * 15, &[0xFF, 0xFF]),
+        (821 + 32 * 9 + 2 * 15, &[0x80, 0x01]),
+        (1333 + 32 * 15, &[0x01, 0x00]),
+        (1333 + 32 * 15 + 2 * 9, &[0x80, 0x01]),
+        (1845 + 32 * 9 + 2 * 15, &[0x80, 0x00]),
+        (2357, &[1, 5, 0xF0, 0, 0, 0, 9]),
+        (2358 + 17, &[4, 5, 9]),
+        (2998, &[1, 5, 0xF0, 0, 0, 0, 9]),
+        (2999 + 17, &[15, 1, 3]),
+    ]);
+    assert_eq!(after_on(LARGE_IMAGE, &records), expected);
+    // Grants by caller number and service number, then the waiting.
+    let granted = [row(&package(0), (1, 8)), row(&package(9), (1, 0)), row(&package(9), (1, 15)), row(X, (1, 3))];
+    let contract = large.load(&package(15), &services, &[], &granted, &[]);
+    for card in linked() {
+        let mut out = vec![0; LONGEST_LARGE_RECORD];
+        assert_eq!(card.read_out(&expected, 15, &mut out), Verdict::new(0, contract.len() as u32));
+        assert!(out.starts_with(&contract), "{}", card.name());
+        assert_eq!(card.read_out(&expected, 16, &mut out), Verdict::new(5, 0));
+    }
+}
+
+/// "Contracts, numbers and list order kept": package 0 and service 1 of package 1 are unused.
+#[test]
+fn a_card_is_enlarged() {
+    let small = after(&[
+        load(B, &[], &[], &[], &[]),
+        load(H, &[(1, 1), (1, 2), (1, 3)], &[row(X, (7, 7)), row(X, (7, 6))], &[row(C, (1, 3)), row(C, (1, 1))], &[]),
+        load(C, &[], &[row(H, (1, 3))], &[row(X, (6, 6)), row(B, (6, 5))], &[row(H, (1, 3))]),
+        remove(B),
+        remove_service(H, (1, 2)),
+    ]);
+    let large = large_image(&[
+        (3, &[0x00, 0x06]),
+        (5 + 17, &[5, 0xF0, 0, 0, 0, 1]),
+        (5 + 34, &[5, 0xF0, 0, 0, 0, 2]),
+        (277 + 32, &[1, 1, 0, 0, 1, 3]),
+        (789 + 2, &[0x00, 0x05]),
+        (821 + 32 * 2 + 2, &[0x00, 0x04]),
+        (1333 + 32 + 4, &[0x00, 0x05]),
+        (1845 + 32 * 2 + 2, &[0x00, 0x04]),
+        (2357, &[2, 5, 0xF0, 0, 0, 0, 9]),
+        (2358 + 17, &[7, 7, 1, 5, 0xF0, 0, 0, 0, 9]),
+        (2378 + 17, &[7, 6, 1]),
+        (2998, &[2, 5, 0xF0, 0, 0, 0, 9]),
+        (2999 + 17, &[2, 6, 6, 5, 0xF0, 0, 0, 0, 3]),
+        (3019 + 17, &[2, 6, 5]),
+    ]);
+    for card in linked() {
+        let mut buffer = vec![0xA5; LARGE_IMAGE];
+        assert_eq!(card.enlarge(&small, &mut buffer), Verdict::new(0, 0));
+        assert_eq!(buffer, large);
+        assert_eq!(card.check(&buffer), Verdict::new(0, 2));
+        let mut untouched = vec![0xA5; LARGE_IMAGE];
+        for no_small in [&large[..], &large[..IMAGE], &small[1..], &[]] {
+            assert_eq!(card.enlarge(no_small, &mut untouched), Verdict::new(1, 255));
+        }
+        assert_eq!(card.enlarge(&small, &mut untouched[1..]), Verdict::new(1, 255));
+        assert_eq!(card.convert(&small, &mut untouched), Verdict::new(1, 255));
+        assert_eq!(untouched, [0xA5; LARGE_IMAGE]);
     }
 }
 

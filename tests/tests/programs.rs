@@ -9,9 +9,10 @@ use std::process::{Command, Output, Stdio};
 const PROGRAMS: [&str; 3] = [env!("CARGO_BIN_EXE_bench"), env!("CARGO_BIN_EXE_cases"), env!("CARGO_BIN_EXE_differ")];
 
 /// A short run of each program, and of each of its ways to write.
-const RUNS: [&str; 7] = [
+const RUNS: [&str; 8] = [
     "bench --rounds 1",
     "bench --count 2 --calls 1",
+    "bench --count read_out --calls 1 --on large",
     "bench --help",
     "cases",
     "cases --records",
@@ -95,10 +96,20 @@ fn fails(run: &str, code: i32, words: &str) {
 
 #[test]
 fn a_bad_command_line_is_2() {
-    fails("bench --bogus", 2, "bench: '--bogus' is not known; there are --rounds, --count, --calls, --of and --help\n");
+    fails(
+        "bench --bogus",
+        2,
+        "bench: '--bogus' is not known; there are --rounds, --count, --calls, --of, --on and --help\n",
+    );
     fails("bench --rounds", 2, "bench: --rounds lacks its value\n");
     fails("bench --rounds x", 2, "bench: --rounds x: not a number, or too large\n");
-    fails("bench --count 9", 2, "bench: --count 9: not 1 to 8, 11, check, read_out or convert\n");
+    let no_entry = |run: &str, entry: &str| {
+        let on_small = "or, on the small card, convert or enlarge";
+        fails(run, 2, &format!("bench: --count {entry}: not 1 to 8, 11, check or read_out, {on_small}\n"));
+    };
+    no_entry("bench --count 9", "9");
+    no_entry("bench --on large --count enlarge", "enlarge");
+    fails("bench --count 1 --on middle", 2, "bench: --on middle: not small or large\n");
     fails("bench --count 1 --of no", 2, "bench: --of: no such engine is linked\n");
     fails("cases --bogus", 2, "cases: '--bogus' is not known; there are --records, --fault and --help\n");
     fails("cases --fault", 2, "cases: either --records or --fault NAME can be given\n");
@@ -110,7 +121,7 @@ fn a_bad_command_line_is_2() {
 fn a_difference_is_1() {
     let runs = [
         ("differ --fault grants-lost", "differ: the comparison failed\n"),
-        ("cases --fault grants-lost", "cases: 8 cases failed\n"),
+        ("cases --fault grants-lost", "cases: 9 cases failed\n"),
     ];
     for (run, words) in runs {
         let ended = program(run).output().expect(run);
@@ -139,9 +150,20 @@ fn a_history_over_the_changes_is_replayed() {
     let ended = run("left-out-fault", &left_out, &["--fault", "converts-128"]);
     let words = "FAILED: converts-128: converting 1094 bytes into 1110 gives 0 with 0, not 1 with 255\n";
     assert!(ended.status.code() == Some(1) && printed(&ended).ends_with(words), "{}", printed(&ended));
+    let enlarged = text("R-9: a card goes on over the conversion, with its numbers");
+    let ended = run("enlarged", &enlarged, &[]);
+    assert_eq!((ended.status.code(), errors(&ended).as_str()), (Some(0), ""), "{}", printed(&ended));
+    assert!(printed(&ended).contains("\non the large card\n"), "{}", printed(&ended));
+    let ended = run("enlarged-fault", &enlarged, &["--fault", "enlarging-closes-up"]);
+    let words = "FAILED: enlarging-closes-up: enlarging 1110 bytes into 3639 gives 0 with 0 and another byte 4\n";
+    assert!(ended.status.code() == Some(1) && printed(&ended).ends_with(words), "{}", printed(&ended));
+    let ended = run("enlarged-twice", "enlarge\nenlarge\n", &[]);
+    let words = "FAILED: a card is enlarged once, by the rules in force\n";
+    assert!(ended.status.code() == Some(1) && printed(&ended).ends_with(words), "{}", printed(&ended));
     let ended = run("bad-line", "00 00\nchanges\n", &[]);
     let bad = place.join("bad-line").display().to_string();
-    let told = format!("differ: {bad}: line 2: not pairs of hexadecimal digits, nor '{}'\n", Event::Change.to_text());
+    let events = [Event::Change, Event::Enlarge].map(|event| event.to_text());
+    let told = format!("differ: {bad}: line 2: not pairs of hexadecimal digits, '{}' or '{}'\n", events[0], events[1]);
     assert_eq!((ended.status.code(), errors(&ended)), (Some(1), told));
 }
 

@@ -1,6 +1,6 @@
 //! Each condition of a sound image, broken by itself. The engines and the tests' own reader agree.
 
-use comparison::card::{linked, Bytes, Card, Verdict, IMAGE};
+use comparison::card::{linked, Bytes, Card, Verdict, BYTES, IMAGE, LARGE_IMAGE, ON_LARGE};
 use comparison::cases::{B, C, H, X};
 use comparison::rules::Rules;
 use comparison::tables::{self, Form};
@@ -155,13 +155,81 @@ const HARMFUL_01: Edits = &[
 const VERSIONS: [(Rules, Edits, Edits); 2] =
     [(Rules::R_7, HARMLESS_01, HARMFUL_01), (Rules::R_2, HARMLESS_02, HARMFUL_02)];
 
-/// Whether an image is sound by the rules. An old one is converted then, and every engine refuses it otherwise.
+/// The sample on the large card.
+fn large_sample() -> Vec<u8> {
+    let mut large = vec![0; LARGE_IMAGE];
+    assert_eq!(BYTES.enlarge(&sample(Rules::IN_FORCE), &mut large), Verdict::new(0, 0));
+    large
+}
+
+/// Edits that leave a large image sound.
+const HARMLESS_03: Edits = &[
+    ("a service 8 with tokens 0, 0", &[(789, &[0x01, 0x05])]),
+    ("a service 15", &[(789, &[0x80, 0x05]), (277 + 30, &[9, 9])]),
+    ("a service 8, granted", &[(789, &[0x01, 0x05]), (1333 + 4, &[0x01, 0x05])]),
+    ("a service 8, called", &[(789, &[0x01, 0x05]), (1333 + 4, &[0x01, 0x05]), (821 + 64, &[0x01, 0x01])]),
+    ("a package 8", &[(3, &[0x01]), (5 + 8 * 17, &[5, 0xF8, 0, 0, 0, 8])]),
+    (
+        "a package 15, which has an unmet call",
+        &[(3, &[0x80]), (5 + 15 * 17, &[5, 0xFF, 0, 0, 0, 15]), (2358 + 19, &[15])],
+    ),
+];
+
+/// Edits that break one condition each of a large image.
+const HARMFUL_03: Edits = &[
+    ("the length of the small card", &[(0, &[0x04, 0x56])]),
+    ("the version of the small card", &[(2, &[0x02])]),
+    ("a used number 8 without AID", &[(3, &[0x01])]),
+    ("an AID of the unused number 15", &[(5 + 15 * 17, &[5, 0xFF, 0, 0, 0, 15])]),
+    ("bytes of the used field the other way round", &[(3, &[0x0D, 0x00])]),
+    ("bytes of a row of services the other way round", &[(789, &[0x05, 0x00])]),
+    ("bytes of a row of calls the other way round", &[(821 + 64, &[0x01, 0x00])]),
+    ("tokens of the unused service 15", &[(277 + 31, &[1])]),
+    ("a grant of a service 8 that is not provided", &[(1333 + 4, &[0x01, 0x05])]),
+    ("a call on a service 8 without its grant", &[(789, &[0x01, 0x05]), (821 + 64, &[0x01, 0x01])]),
+    (
+        "a need on a service 8 that is not called",
+        &[(789, &[0x01, 0x05]), (1333 + 4, &[0x01, 0x05]), (1845 + 64, &[0x01, 0x01])],
+    ),
+    ("grants to an unused number 15", &[(1333 + 31, &[0x01])]),
+    ("33 unmet calls", &[(2357, &[33])]),
+    ("unmet: an unused caller 8", &[(2358 + 19, &[8])]),
+    ("unmet: a caller past 15", &[(2358 + 19, &[16])]),
+    ("33 waiting grants", &[(2998, &[33])]),
+    ("waiting: a callee past 15", &[(2999 + 17, &[16])]),
+    ("a byte after the unmet rows", &[(2997, &[1])]),
+    ("a byte after the waiting rows", &[(3638, &[1])]),
+];
+
+#[test]
+fn a_large_image_is_looked_at() {
+    assert!(sound_everywhere(ON_LARGE, &large_sample(), "sample"));
+    for (edits, sound) in [(HARMLESS_03, true), (HARMFUL_03, false)] {
+        for (name, edits) in edits {
+            let mut image = large_sample();
+            edits.iter().for_each(|(at, bytes)| image[*at..at + bytes.len()].copy_from_slice(bytes));
+            assert_ne!(image, large_sample(), "{name}");
+            assert_eq!(sound_everywhere(ON_LARGE, &image, name), sound, "{name}");
+        }
+    }
+}
+
+/// Whether an image is sound by the rules. An old one is converted then, one of the small card is enlarged, and every engine
+/// refuses it otherwise.
 fn sound_everywhere(rules: Rules, image: &[u8], name: &str) -> bool {
-    let own = tables::contracts(rules, image).is_some();
-    let expected = if own { Verdict::new(0, image[3].count_ones()) } else { Verdict::new(1, 255) };
+    let contracts = tables::contracts(rules, image);
+    let own = contracts.is_some();
+    let expected = contracts.map_or(Verdict::new(1, 255), |card| Verdict::new(0, card.contracts.len() as u32));
     assert_eq!(Bytes(rules).check(image), expected, "{name}");
     for card in linked() {
         let place = || format!("{}: {name}", card.name());
+        let mut enlarged = vec![0xA5; LARGE_IMAGE];
+        let taken = own && image.len() == IMAGE;
+        let verdict = if taken { Verdict::new(0, 0) } else { Verdict::new(1, 255) };
+        assert_eq!(card.enlarge(image, &mut enlarged), verdict, "{}", place());
+        assert_eq!(enlarged == [0xA5; LARGE_IMAGE], !taken, "{}", place());
+        let stands_for = tables::contracts(ON_LARGE, &enlarged);
+        assert_eq!(stands_for, tables::contracts(rules, image).filter(|_| taken), "{}", place());
         let mut converted = vec![0xA5; IMAGE];
         let verdict = card.convert(image, &mut converted);
         if rules.early_grants {
@@ -258,10 +326,11 @@ fn method_tokens_stop_at_127_in_every_place() {
 
 #[test]
 fn every_byte_changed_is_judged_alike() {
-    for (rules, ..) in VERSIONS {
-        for at in 0..sample(rules).len() {
+    let samples = VERSIONS.map(|(rules, ..)| (rules, sample(rules))).into_iter().chain([(ON_LARGE, large_sample())]);
+    for (rules, sample) in samples {
+        for at in 0..sample.len() {
             for flip in [0x01, 0x80, 0xFF] {
-                let mut image = sample(rules);
+                let mut image = sample.clone();
                 image[at] ^= flip;
                 sound_everywhere(rules, &image, &format!("byte {at} ^ {flip:02X}"));
             }

@@ -2,8 +2,9 @@
 //! a stack of its own that was painted before; and added up from the frames in the archive's machine code, for every path of calls.
 #![cfg(feature = "engine")]
 
-use comparison::card::{Card, Engine, Verdict, BYTES, IMAGE};
-use comparison::full_card::{old_card, timed};
+use comparison::card::{Card, Engine, Verdict, BYTES, IMAGE, LARGE_IMAGE};
+use comparison::full_card::{old_card, timed_on};
+use comparison::rules::Sizes;
 use comparison::run::{run, DEFAULT_SEED};
 use std::arch::asm;
 use std::collections::BTreeMap;
@@ -19,10 +20,11 @@ fn stated(name: &str) -> usize {
 }
 
 /// Each exported function, and its name in the header.
-const FUNCTIONS: [(&str, &str); 6] = [
+const FUNCTIONS: [(&str, &str); 7] = [
     ("card_check", "CARD_STACK_CHECK"),
     ("card_empty", "CARD_STACK_EMPTY"),
     ("card_convert", "CARD_STACK_CONVERT"),
+    ("card_enlarge", "CARD_STACK_ENLARGE"),
     ("card_judge", "CARD_STACK_JUDGE"),
     ("card_read_out", "CARD_STACK_READ_OUT"),
     ("card_aid", "CARD_STACK_AID"),
@@ -79,6 +81,7 @@ extern "C" {
     fn card_check();
     fn card_empty();
     fn card_convert();
+    fn card_enlarge();
     fn card_judge();
     fn card_read_out();
     fn card_aid();
@@ -89,6 +92,7 @@ struct Painted {
     check: Stack,
     empty: Stack,
     convert: Stack,
+    enlarge: Stack,
     judge: Stack,
     read_out: Stack,
     aid: Stack,
@@ -111,6 +115,11 @@ impl Card for Painted {
     fn convert(&self, old: &[u8], image: &mut [u8]) -> Verdict {
         let (image, length) = (image.as_mut_ptr() as usize, image.len());
         unsafe { self.convert.call(card_convert, [old.as_ptr() as usize, old.len(), image, length, 0]) }
+    }
+
+    fn enlarge(&self, image: &[u8], large: &mut [u8]) -> Verdict {
+        let (large, length) = (large.as_mut_ptr() as usize, large.len());
+        unsafe { self.enlarge.call(card_enlarge, [image.as_ptr() as usize, image.len(), large, length, 0]) }
     }
 
     fn judge(&self, image: &mut [u8], record: &[u8]) -> Verdict {
@@ -148,19 +157,30 @@ fn block_signals() {
 #[test]
 fn no_call_takes_more_stack_than_the_header_says() {
     block_signals();
-    let [check, empty, convert, judge, read_out, aid] = [(); 6].map(|_| Stack::new());
-    let painted = Painted { check, empty, convert, judge, read_out, aid };
+    let [check, empty, convert, enlarge, judge, read_out, aid] = [(); 7].map(|_| Stack::new());
+    let painted = Painted { check, empty, convert, enlarge, judge, read_out, aid };
     let compared = run(&[&BYTES, &painted], DEFAULT_SEED, 20_000);
     assert!(compared.is_ok(), "{}", compared.err().unwrap().difference);
-    for mut timed in timed() {
+    for mut timed in Sizes::ALL.into_iter().flat_map(timed_on) {
+        if timed.image.len() == IMAGE {
+            assert_eq!(painted.enlarge(&timed.image, &mut [0; LARGE_IMAGE]).answer, 0, "{}", timed.name);
+        }
         assert_eq!(painted.judge(&mut timed.image, &timed.record).answer, 0, "{}", timed.name);
     }
     assert_eq!(painted.convert(&old_card(), &mut [0; IMAGE]).answer, 0);
-    let stacks = [&painted.check, &painted.empty, &painted.convert, &painted.judge, &painted.read_out, &painted.aid];
-    for ((function, name), stack) in FUNCTIONS.into_iter().zip(stacks) {
-        println!("{function}: {} bytes of stack, of {}", stack.depth(), stated(name));
-        assert!((8..=stated(name)).contains(&stack.depth()), "{function}: {} bytes of stack", stack.depth());
-    }
+    let Painted { check, empty, convert, enlarge, judge, read_out, aid } = &painted;
+    let stacks = [check, empty, convert, enlarge, judge, read_out, aid];
+    all_fit(stacks.map(Stack::depth));
+}
+
+/// Each function takes some bytes, and no more than the header says.
+fn all_fit(bytes: [usize; FUNCTIONS.len()]) {
+    let stated = FUNCTIONS.map(|(function, name)| (function, stated(name)));
+    let lines = stated.iter().zip(bytes).map(|((function, most), bytes)| format!("{function}: {bytes} of {most}\n"));
+    let told: String = lines.collect();
+    println!("bytes of stack:\n{told}");
+    let fits = stated.iter().zip(bytes).all(|((_, most), bytes)| (8..=*most).contains(&bytes));
+    assert!(fits, "bytes of stack:\n{told}");
 }
 
 #[test]
@@ -240,9 +260,5 @@ fn the_frames_on_each_path_add_up_to_no_more() {
     let archive = env!("CARD_ARCHIVE");
     let listed = Command::new("objdump").args(["-dr", "--no-show-raw-insn", archive]).output().expect("objdump");
     let frames = frames(&String::from_utf8_lossy(&listed.stdout));
-    for (function, name) in FUNCTIONS {
-        let bytes = bytes_of_call(&frames, function, &[]);
-        println!("{function}: {bytes} bytes of stack, of {}", stated(name));
-        assert!(bytes <= stated(name), "{function}: {bytes} bytes of stack");
-    }
+    all_fit(FUNCTIONS.map(|(function, _)| bytes_of_call(&frames, function, &[])));
 }

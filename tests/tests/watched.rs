@@ -1,7 +1,7 @@
 //! R-6, "Suppliers must not watch each other": the comparison on pairs of cards by itself, each clause of 'alike for B', and every
 //! pair of a small world.
 
-use comparison::card::{linked, Bytes, Card, Verdict, BYTES, IMAGE};
+use comparison::card::{linked, Bytes, Card, Verdict, BYTES, IMAGE, LARGE_IMAGE, ON_LARGE};
 use comparison::cases::{B, C, H, X};
 use comparison::faults;
 use comparison::generate::Source;
@@ -30,17 +30,24 @@ const WATCHING: [&str; 10] = [
     "grant-goes-with-last-call",
 ];
 
-/// So many pairs of cards, on which the engine alone judges B's records: it is held to nothing but itself. The cards are from
+/// So many pairs of small cards, on which the engine alone judges B's records: it is held to nothing but itself. The cards are from
 /// histories that the right engine has judged.
 fn watch(card: &dyn Card, pairs: usize) -> Result<Seen, String> {
+    watch_on(IN_FORCE, card, pairs)
+}
+
+/// The same of cards of the rules' sizes.
+fn watch_on(rules: Rules, card: &dyn Card, pairs: usize) -> Result<Seen, String> {
     let (mut seen, mut ordinal, mut left) = (Seen::default(), 0, pairs);
     while left > 0 {
-        let mut source = Source::new(6, ordinal);
-        let (mut machine, mut image) = (Machine::default(), vec![0; IMAGE]);
-        BYTES.empty(&mut image);
+        let mut source = match rules {
+            IN_FORCE => Source::new(6, ordinal),
+            _ => Source::with(rules, Vec::new(), Vec::new(), Random::new(ordinal)),
+        };
+        let (mut machine, mut image) = (Machine::default(), Tables::empty(rules).write(rules));
         for n in 1..=source.length().min(8 * left) {
             let record = source.record(&machine);
-            assert_eq!(machine.judge(IN_FORCE, &record), BYTES.judge(&mut image, &record).answer);
+            assert_eq!(machine.judge(rules, &record), BYTES.judge(&mut image, &record).answer);
             if n % 8 == 0 {
                 turns::compare(&[card], &image, Random::of_bytes(ordinal, &image), &mut seen)?;
                 left -= 1;
@@ -76,6 +83,25 @@ fn a_pair_of_cards_alone_finds_an_engine_that_watches() {
         assert!(right.0[0] == right.0[1] && right.1, "{told}");
         assert!(wrong.0[0] != wrong.0[1] || !wrong.1, "{told}");
     }
+}
+
+/// On the large card too: the right engine passes, and each that watches is found.
+#[test]
+fn a_pair_of_large_cards_finds_them_too() {
+    let seen = watch_on(ON_LARGE, &BYTES, 400).unwrap_or_else(|told| panic!("{told}"));
+    assert_eq!(Watched::ALL.map(|shown| seen.shown.contains_key(&shown)), [true; 12]);
+    for name in WATCHING {
+        assert!(watch_on(ON_LARGE, fault(name), 400).is_err(), "{name} was not found");
+    }
+}
+
+/// Two cards are of one size, or no pair.
+#[test]
+fn a_small_card_and_a_large_one_are_no_pair() {
+    let (small, mut large) = (card(&[load(B, &[], &[], &[], &[])]), vec![0; LARGE_IMAGE]);
+    assert_eq!(BYTES.enlarge(&small, &mut large).answer, 0);
+    assert_eq!(alike(Aid::new(B), [&small, &large]).err(), Some(vec![Clause::Sound]));
+    assert!(alike(Aid::new(B), [&large, &large]).is_ok());
 }
 
 /// Two of the faults of before tell the order of the waiting grants too: one looks for its rows from the last on, the other at the

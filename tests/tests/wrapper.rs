@@ -1,11 +1,12 @@
 //! The safe wrapper of the exported functions says what their numbers say.
 #![cfg(feature = "engine")]
 
-use card::{exact, Refusal, IMAGE_SIZE, OLD_IMAGE_SIZE, RECORD_SIZE};
-use comparison::card::{Bytes, Card, Verdict, IMAGE, LONGEST_RECORD, OLD_IMAGE};
+use card::{exact, Refusal, IMAGE_SIZE, LARGE_IMAGE_SIZE, LARGE_RECORD_SIZE, OLD_IMAGE_SIZE, RECORD_SIZE};
+use comparison::card::{Bytes, Card, Verdict, BYTES};
+use comparison::card::{IMAGE, LARGE_IMAGE, LONGEST_LARGE_RECORD, LONGEST_RECORD, OLD_IMAGE};
 use comparison::cases::{all, C, H};
-use comparison::rules::Rules;
-use comparison::write::{load, update};
+use comparison::rules::{Rules, Sizes};
+use comparison::write::{load, update, Writer};
 use std::collections::BTreeSet;
 
 /// What an answer and a second number mean.
@@ -82,9 +83,34 @@ fn an_old_image_is_converted() {
     assert_eq!(card::judge(&mut image, &early), Err(Refusal::Pointless));
 }
 
+/// A card goes on under the same numbers after it is enlarged, with the large card's records.
+#[test]
+fn a_small_image_is_enlarged() {
+    let mut image = [0; IMAGE];
+    assert_eq!(card::empty(&mut image), Ok(()));
+    assert_eq!(card::judge(&mut image, &load(H, &[(1, 2)], &[], &[(C.to_vec(), (3, 4))], &[])), Ok(0));
+    let mut large = [0xA5; LARGE_IMAGE];
+    assert_eq!(card::enlarge(&image[1..], &mut large), Err(Refusal::Unsound));
+    assert_eq!(card::enlarge(&image, &mut large[1..]), Err(Refusal::Unsound));
+    assert_eq!(large, [0xA5; LARGE_IMAGE]);
+    assert_eq!(card::enlarge(&image, &mut large), Ok(()));
+    let mut apart = [0; LARGE_IMAGE];
+    assert_eq!((BYTES.enlarge(&image, &mut apart), apart), (Verdict::new(0, 0), large));
+    assert_eq!(card::check(&large), Ok(1));
+    let written = Writer(&Sizes::LARGE);
+    let record = written.load(H, &[(1, 2)], &[], &[(C.to_vec(), (3, 4))], &[]);
+    let mut buffer = [0; LONGEST_LARGE_RECORD];
+    assert_eq!(card::read_out(&large, 0, &mut buffer), Ok(&record[..]));
+    assert_eq!(card::aid(&record), H);
+    assert_eq!(card::judge(&mut large, &update(8, H, C, (3, 4))), Err(Refusal::Malformed));
+    assert_eq!(card::judge(&mut large, &written.update(8, H, C, (3, 4))), Ok(0));
+    assert_eq!(card::judge(&mut image, &written.update(8, H, C, (3, 4))), Err(Refusal::Malformed));
+}
+
 #[test]
 fn the_sizes_are_those_of_the_second_engine() {
     assert_eq!((IMAGE_SIZE, OLD_IMAGE_SIZE, RECORD_SIZE), (IMAGE, OLD_IMAGE, LONGEST_RECORD));
+    assert_eq!((LARGE_IMAGE_SIZE, LARGE_RECORD_SIZE), (LARGE_IMAGE, LONGEST_LARGE_RECORD));
 }
 
 /// Each number has its cause and its own words, in the wrapper and in the tool.

@@ -10,7 +10,8 @@ pub struct Rules {
     pub early_grants: bool,
     /// The kinds that are read; any other gets 2.
     pub kinds: &'static [u8],
-    /// The sizes of the card and of its records.
+    /// The sizes of the card that is judged on, and of its records. The time does not change them: they are the small card's
+    /// where none is named.
     pub sizes: &'static Sizes,
 }
 
@@ -36,6 +37,13 @@ impl Sizes {
     /// Document 01's card.
     pub const SMALL: Sizes =
         Sizes { packages: 8, services: 8, listed: 16, record_version: 1, rows: 72, count_bytes: 1, callers: 32 };
+    /// R-9's: "16 packages of 16 services", "32 rows in each list"; its records have "version 02, up to 16 services, two-byte
+    /// counts, big-endian too and up to 272, for calls, grants and needs alone".
+    pub const LARGE: Sizes =
+        Sizes { packages: 16, services: 16, listed: 32, record_version: 2, rows: 272, count_bytes: 2, callers: 32 };
+
+    /// Every card.
+    pub const ALL: [&Sizes; 2] = [&Sizes::SMALL, &Sizes::LARGE];
 }
 
 impl Rules {
@@ -61,6 +69,11 @@ impl Rules {
     /// The rules before the last so many changes.
     pub const fn before(changes: usize) -> Rules {
         Rules::ALL[Rules::CHANGES - changes]
+    }
+
+    /// The rules of the same time on a card of these sizes.
+    pub const fn on(self, sizes: &'static Sizes) -> Rules {
+        Rules { sizes, ..self }
     }
 
     /// Whether records of the kind are read.

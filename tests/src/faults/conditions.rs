@@ -1,17 +1,18 @@
 //! R-3 misread: engines that work the report's conditions for a load otherwise.
 
 use super::replace::add_grants;
-use super::IN_FORCE;
 use crate::card::{Card, Verdict, BYTES};
 use crate::conditions::{called_and_granted, Conditions};
 use crate::encode;
 use crate::machine::record::{Change, Lists, Record};
 use crate::machine::{Aid, Machine, Row, Tokens};
-use crate::tables;
+use crate::rules::Sizes;
+use crate::tables::{contracts, in_force};
 use std::collections::BTreeSet;
 
 /// A load that is free of causes 2 to 7 on the contracts that an image stands for.
 struct Load {
+    sizes: &'static Sizes,
     own: Aid,
     lists: Lists,
     held: Machine,
@@ -19,10 +20,11 @@ struct Load {
 }
 
 fn loading(image: &[u8], bytes: &[u8]) -> Option<Load> {
-    let held = tables::contracts(IN_FORCE, image)?;
-    let Record { aid: own, change: Change::Load(lists) } = held.to_try(IN_FORCE, bytes).ok()? else { return None };
+    let rules = in_force(image);
+    let held = contracts(rules, image)?;
+    let Record { aid: own, change: Change::Load(lists) } = held.to_try(rules, bytes).ok()? else { return None };
     let conditions = Conditions::of(&held, own, &lists.contract());
-    Some(Load { own, lists, held, conditions })
+    Some(Load { sizes: rules.sizes, own, lists, held, conditions })
 }
 
 /// Refuses a load with the cause where this holds of it.
@@ -63,7 +65,7 @@ impl Load {
         let on_it = self.held.calls().filter(|(_, call)| call.other == self.own);
         let called = on_it.filter(|(_, call)| self.lists.provides.contains(&call.tokens));
         add_grants(&mut lists, called.map(|(caller, call)| Row { other: *caller, tokens: call.tokens }));
-        encode::bytes(&Record { aid: self.own, change: Change::Load(lists) })
+        encode::bytes(self.sizes, &Record { aid: self.own, change: Change::Load(lists) })
     }
 }
 

@@ -1,13 +1,13 @@
 //! R-1 misread: engines that are wrong about kind 11.
 
-use super::{tables_after, Entry, Fault, IN_FORCE};
+use super::{tables_after, Entry, Fault};
 use crate::card::{Card, Verdict, BYTES};
 use crate::encode;
 use crate::machine::record::{self, Change, Lists, Record};
 use crate::machine::{Machine, Row, Tokens};
 use crate::rules::Rules;
-use crate::tables::{self, Tables};
-use crate::write;
+use crate::tables::{contracts, in_force, Tables};
+use crate::write::Writer;
 
 pub const TOO_EARLY: &str = "kind-11-too-early";
 /// Before each change of the rules, the last change first, an engine that reads kind 11 already.
@@ -29,9 +29,9 @@ fn after(
 
 /// A record of kind 11 on the contracts that an image stands for.
 fn replacing(image: &[u8], bytes: &[u8]) -> Option<(Record, Lists, Machine)> {
-    let record = record::read(IN_FORCE, bytes)?;
+    let record = record::read(in_force(image), bytes)?;
     let Change::Replace(lists) = record.change.clone() else { return None };
-    Some((record, lists, tables::contracts(IN_FORCE, image)?))
+    Some((record, lists, contracts(in_force(image), image)?))
 }
 
 /// Gives the package's services other numbers.
@@ -90,10 +90,10 @@ pub fn left_calls_by_service(image: &mut [u8], bytes: &[u8]) -> Verdict {
 pub fn others_needs_unseen(image: &mut [u8], bytes: &[u8]) -> Verdict {
     let verdict = BYTES.judge(image, bytes);
     let Some((record, _, _)) = replacing(image, bytes).filter(|_| verdict.answer == 9) else { return verdict };
-    let mut without = Tables::of(IN_FORCE, image).expect("a sound image");
+    let mut without = Tables::in_force(image).expect("a sound image");
     let own = without.packages.iter().position(|package| package.as_ref().is_some_and(|own| own.aid == record.aid));
     without.needs.retain(|need| Some(need.callee) != own);
-    judge_instead(image, without.write(IN_FORCE), bytes, verdict)
+    judge_instead(image, without.write(in_force(image)), bytes, verdict)
 }
 
 /// A call of another package on a service in both contracts is not looked at.
@@ -105,7 +105,7 @@ pub fn kept_calls_unseen(image: &mut [u8], bytes: &[u8]) -> Verdict {
     let stays = |call: &Row| call.other == record.aid && held.met(call) && lists.provides.contains(&call.tokens);
     let calls: Vec<_> = held.calls().filter(|(_, call)| stays(call)).collect();
     add_grants(&mut lists, calls.into_iter().map(|(caller, call)| Row { other: *caller, tokens: call.tokens }));
-    let more = encode::bytes(&Record { change: Change::Replace(lists), ..record });
+    let more = encode::bytes(in_force(image).sizes, &Record { change: Change::Replace(lists), ..record });
     judge_instead(image, image.to_vec(), &more, verdict)
 }
 
@@ -130,7 +130,7 @@ pub fn old_grants_kept(image: &mut [u8], bytes: &[u8]) -> Verdict {
     let Some((record, mut lists, held)) = replacing(image, bytes) else { return BYTES.judge(image, bytes) };
     let old = held.contracts.get(&record.aid).into_iter().flat_map(|contract| contract.grants.iter().copied());
     add_grants(&mut lists, old);
-    BYTES.judge(image, &encode::bytes(&Record { change: Change::Replace(lists), ..record }))
+    BYTES.judge(image, &encode::bytes(in_force(image).sizes, &Record { change: Change::Replace(lists), ..record }))
 }
 
 /// 9 comes before 8.
@@ -197,10 +197,11 @@ pub fn given_grants_taken(image: &mut [u8], bytes: &[u8]) -> Verdict {
 
 /// A list that passes its limit on the way does not fit.
 pub fn limits_on_the_way(image: &mut [u8], bytes: &[u8]) -> Verdict {
+    let most = in_force(image).sizes.listed;
     after(image, bytes, |number, before, after| {
         let unmet = after.unmet.iter().filter(|call| call.caller == number || !before.unmet.contains(call));
         let waiting = after.waiting.iter().filter(|grant| grant.callee == number);
-        let past = |rows: usize| rows > IN_FORCE.sizes.listed;
+        let past = |rows: usize| rows > most;
         match (past(before.unmet.len() + unmet.count()), past(before.waiting.len() + waiting.count())) {
             (true, _) => Err(10),
             (false, true) => Err(11),
@@ -224,7 +225,7 @@ pub fn removes_and_loads(image: &mut [u8], bytes: &[u8]) -> Verdict {
         return BYTES.judge(image, bytes);
     }
     let mut stepwise = image.to_vec();
-    let removed = BYTES.judge(&mut stepwise, &write::remove(BYTES.aid(bytes)));
+    let removed = BYTES.judge(&mut stepwise, &Writer(in_force(image).sizes).remove(BYTES.aid(bytes)));
     let last = if removed.answer == 0 { BYTES.judge(&mut stepwise, &as_load(bytes)) } else { removed };
     if last.answer == 0 {
         image.copy_from_slice(&stepwise);

@@ -1,11 +1,11 @@
 //! R-13 misread: engines that are wrong about kinds 9 and 10, or about the needs on a card.
 
 use super::{tables_after, Entry, Fault, IN_FORCE};
-use crate::card::{Bytes, Card, Verdict, BYTES, LONGEST_RECORD};
+use crate::card::{Bytes, Card, Verdict, BYTES, LONGEST_LARGE_RECORD};
 use crate::encode;
 use crate::machine::record::{self, Change};
 use crate::rules::Rules;
-use crate::tables::Tables;
+use crate::tables::{in_force, Tables};
 
 /// Kind 9 is still read, and kind 10.
 pub const READS_9: Rules = Rules { kinds: &[1, 2, 3, 4, 5, 6, 7, 8, 9, 11], ..IN_FORCE };
@@ -50,9 +50,9 @@ pub fn aid(record: &[u8]) -> &[u8] {
 /// The needs on a card are dropped with the first record that changes something.
 pub fn needs_dropped(image: &mut [u8], bytes: &[u8]) -> Verdict {
     let verdict = BYTES.judge(image, bytes);
-    if let (0, Some(mut tables)) = (verdict.answer, Tables::of(IN_FORCE, image)) {
+    if let (0, Some(mut tables)) = (verdict.answer, Tables::in_force(image)) {
         tables.needs.clear();
-        image.copy_from_slice(&tables.write(IN_FORCE));
+        image.copy_from_slice(&tables.write(in_force(image)));
     }
     verdict
 }
@@ -60,9 +60,9 @@ pub fn needs_dropped(image: &mut [u8], bytes: &[u8]) -> Verdict {
 /// The needs on a card keep nothing there.
 pub fn not_in_force(image: &mut [u8], bytes: &[u8]) -> Verdict {
     let verdict = BYTES.judge(image, bytes);
-    let Some(mut tables) = Tables::of(IN_FORCE, image).filter(|_| verdict.answer == 9) else { return verdict };
+    let Some(mut tables) = Tables::in_force(image).filter(|_| verdict.answer == 9) else { return verdict };
     tables.needs.clear();
-    let mut without = tables.write(IN_FORCE);
+    let mut without = tables.write(in_force(image));
     let other = BYTES.judge(&mut without, bytes);
     if other.answer == 0 {
         image.copy_from_slice(&without);
@@ -90,13 +90,13 @@ pub fn outlives_contract(image: &mut [u8], bytes: &[u8]) -> Verdict {
 
 /// A contract is read out without its needs.
 pub fn not_read_out(image: &[u8], number: u32, out: &mut [u8]) -> Verdict {
-    let mut whole = [0; LONGEST_RECORD];
+    let mut whole = [0; LONGEST_LARGE_RECORD];
     let verdict = BYTES.read_out(image, number, &mut whole);
-    let Some(mut record) = record::read(IN_FORCE, &whole[..verdict.second as usize]) else { return verdict };
+    let Some(mut record) = record::read(in_force(image), &whole[..verdict.second as usize]) else { return verdict };
     if let Change::Load(lists) = &mut record.change {
         lists.needs.clear();
     }
-    let bytes = encode::bytes(&record);
+    let bytes = encode::bytes(in_force(image).sizes, &record);
     match out.get_mut(..bytes.len()) {
         Some(place) => place.copy_from_slice(&bytes),
         None => return Verdict::new(12, 0),

@@ -1,9 +1,9 @@
 //! R-6 broken: engines that show B what other packages call, need and grant among themselves, how services are numbered, or how
 //! the rows of a list are ordered.
 
-use super::{tables_after, IN_FORCE};
+use super::tables_after;
 use crate::card::{Card, Verdict, BYTES};
-use crate::tables::{Bit, Tables};
+use crate::tables::{in_force, Bit, Tables};
 
 /// The first of these bits that those have not.
 fn new(bits: &[Bit], those: &[Bit]) -> Option<Bit> {
@@ -43,9 +43,9 @@ pub fn needed_by_another(image: &mut [u8], bytes: &[u8]) -> Verdict {
 
 /// With kind 6 comes the number of another package that calls the service, where there is one.
 pub fn next_callers_number(image: &mut [u8], bytes: &[u8]) -> Verdict {
-    let before = Tables::of(IN_FORCE, image);
+    let before = Tables::in_force(image);
     let verdict = BYTES.judge(image, bytes);
-    let (0, Some(6), Some(before), Some(after)) = (verdict.answer, bytes.get(3), before, Tables::of(IN_FORCE, image))
+    let (0, Some(6), Some(before), Some(after)) = (verdict.answer, bytes.get(3), before, Tables::in_force(image))
     else {
         return verdict;
     };
@@ -55,20 +55,19 @@ pub fn next_callers_number(image: &mut [u8], bytes: &[u8]) -> Verdict {
 
 /// A removal counts every met call as one that it leaves unmet, not those on the package alone.
 pub fn every_call_counted(image: &mut [u8], bytes: &[u8]) -> Verdict {
+    let most = in_force(image).sizes.listed;
     tables_after(2, image, bytes, |number, before, _| {
         let unmet = before.unmet.iter().filter(|call| call.caller != number).count();
-        refused_if(10, unmet + before.calls.iter().filter(|call| call.caller != number).count() > IN_FORCE.sizes.listed)
+        refused_if(10, unmet + before.calls.iter().filter(|call| call.caller != number).count() > most)
     })
 }
 
 /// A removal counts every grant as one that it leaves waiting, not those to the package alone.
 pub fn every_grant_counted(image: &mut [u8], bytes: &[u8]) -> Verdict {
+    let most = in_force(image).sizes.listed;
     tables_after(2, image, bytes, |number, before, _| {
         let waiting = before.waiting.iter().filter(|grant| grant.callee != number).count();
-        refused_if(
-            11,
-            waiting + before.grants.iter().filter(|grant| grant.callee != number).count() > IN_FORCE.sizes.listed,
-        )
+        refused_if(11, waiting + before.grants.iter().filter(|grant| grant.callee != number).count() > most)
     })
 }
 
@@ -82,8 +81,9 @@ pub fn last_row_unsearched(image: &mut [u8], bytes: &[u8]) -> Verdict {
 
 /// Kind 5 does not find the grant of a service that has the last number.
 pub fn seventh_ungranted(image: &mut [u8], bytes: &[u8]) -> Verdict {
+    let last = in_force(image).sizes.services - 1;
     tables_after(5, image, bytes, |_, before, after| {
-        refused_if(8, new(&after.calls, &before.calls).is_some_and(|call| call.service == IN_FORCE.sizes.services - 1))
+        refused_if(8, new(&after.calls, &before.calls).is_some_and(|call| call.service == last))
     })
 }
 

@@ -18,12 +18,12 @@ impl Source {
                 let own = *self.random.pick(&absent)?;
                 Some(self.fit_contract(1, own, &Contract::default(), held))
             }
-            2 => Some(write::remove(self.installed(held, |_| true)?.0.bytes())),
+            2 => Some(self.write().remove(self.installed(held, |_| true)?.0.bytes())),
             3 => self.fit_new_service(held),
             4 => {
                 let (own, contract) = self.installed(held, |contract| !contract.provides.is_empty())?;
                 let services: Vec<Tokens> = contract.provides.iter().copied().collect();
-                Some(write::remove_service(own.bytes(), pair(*self.random.pick(&services)?)))
+                Some(self.write().remove_service(own.bytes(), pair(*self.random.pick(&services)?)))
             }
             5 => self.fit_new_call(held),
             6 => self.fit_old_row(6, held, |contract| contract.calls.iter().collect()),
@@ -49,7 +49,7 @@ impl Source {
     pub fn clearing(&mut self, held: &Machine) -> Option<Vec<u8>> {
         let excluded = |tokens: &Tokens| tokens.method > Rules::IN_FORCE.most_method;
         let call = held.calls().find(|(_, call)| excluded(&call.tokens));
-        let called = call.map(|(own, call)| write::update(6, own.bytes(), call.other.bytes(), pair(call.tokens)));
+        let called = call.map(|(own, call)| self.write().update(6, own.bytes(), call.other.bytes(), pair(call.tokens)));
         let provided = || {
             let mut services = held
                 .contracts
@@ -57,7 +57,7 @@ impl Source {
                 .flat_map(|(own, contract)| contract.provides.iter().map(move |tokens| (own, tokens)));
             services.find(|(_, tokens)| excluded(tokens))
         };
-        called.or_else(|| provided().map(|(own, tokens)| write::remove_service(own.bytes(), pair(*tokens))))
+        called.or_else(|| provided().map(|(own, tokens)| self.write().remove_service(own.bytes(), pair(*tokens))))
     }
 
     /// A package that is installed and suits.
@@ -72,7 +72,7 @@ impl Source {
         let (own, contract) = self.installed(held, |contract| !rows(contract).is_empty())?;
         let rows = rows(contract);
         let row = self.random.pick(&rows)?;
-        Some(write::update(kind, own.bytes(), row.other.bytes(), pair(row.tokens)))
+        Some(self.write().update(kind, own.bytes(), row.other.bytes(), pair(row.tokens)))
     }
 
     /// A whole contract of the package, in place of the one it has; that of a package to load has nothing. Seldom it looks
@@ -105,7 +105,7 @@ impl Source {
         self.random.shuffle(&mut grants);
 
         let services: Vec<_> = services.into_iter().map(pair).collect();
-        write::contract(kind, own.bytes(), &services, &written(&calls), &written(&grants), &written(&needs))
+        self.write().contract(kind, own.bytes(), &services, &written(&calls), &written(&grants), &written(&needs))
     }
 
     /// Most of the old services, those that others need nearly always, and some more, half the time those that others call
@@ -210,7 +210,7 @@ impl Source {
         callers.dedup();
         self.random.shuffle(&mut callers);
         let callers: Vec<_> = callers.iter().map(|caller| caller.bytes().to_vec()).collect();
-        Some(write::add_service(own.bytes(), pair(tokens), &callers))
+        Some(self.write().add_service(own.bytes(), pair(tokens), &callers))
     }
 
     /// A call that is granted, one that is not, or an unmet one.
@@ -225,7 +225,7 @@ impl Source {
             services_of(held, own).into_iter().filter(|row| new(row) && held.granted(own, row) == granted).collect()
         };
         let row = self.random.pick(&rows)?;
-        Some(write::update(5, own.bytes(), row.other.bytes(), pair(row.tokens)))
+        Some(self.write().update(5, own.bytes(), row.other.bytes(), pair(row.tokens)))
     }
 
     /// A grant to a package on the card, or one that waits: for its caller, or for its service, which may be called.
@@ -246,7 +246,7 @@ impl Source {
         }
         rows.retain(|row| !contract.grants.contains(row));
         let row = self.random.pick(&rows)?;
-        Some(write::update(7, own.bytes(), row.other.bytes(), pair(row.tokens)))
+        Some(self.write().update(7, own.bytes(), row.other.bytes(), pair(row.tokens)))
     }
 
     fn not_installed(&self, held: &Machine) -> Vec<Aid> {

@@ -20,15 +20,15 @@ impl Source {
                     Some(call) if self.random.percent(70) => vec![call.clone()],
                     _ => self.few_rows(),
                 };
-                write::contract(kind, own, &provides, &calls, &grants, &needs)
+                self.write().contract(kind, own, &provides, &calls, &grants, &needs)
             }
-            2 => write::remove(own),
+            2 => self.write().remove(own),
             3 => {
                 let callers: Vec<_> = (0..self.random.between(0, 3)).map(|_| self.bytes()).collect();
-                write::add_service(own, pair(self.tokens()), &callers)
+                self.write().add_service(own, pair(self.tokens()), &callers)
             }
-            4 => write::remove_service(own, pair(self.tokens())),
-            _ => write::update(kind, own, &self.bytes(), pair(self.tokens())),
+            4 => self.write().remove_service(own, pair(self.tokens())),
+            _ => self.write().update(kind, own, &self.bytes(), pair(self.tokens())),
         }
     }
 
@@ -47,18 +47,20 @@ impl Source {
         let Sizes { services, callers, rows, .. } = *self.rules.sizes;
         let lengths = [services, callers, rows, rows, rows].map(|most| match self.random.below(8) {
             0 => most + 1,
+            // Where a byte of the count ends.
+            2..=3 if most > 256 => self.random.between(255, 256),
             1..=3 => self.random.below(most),
             _ => most,
         });
         let [services, callers, calls, grants, needs] = lengths;
         if self.random.percent(30) {
             let callers: Vec<_> = (0..callers).map(&mut next).collect();
-            return write::add_service(&own, pair(self.tokens()), &callers);
+            return self.write().add_service(&own, pair(self.tokens()), &callers);
         }
         let mut provides: Vec<_> = self.tokens.iter().copied().map(pair).collect();
         provides.truncate(services);
         let rows: Vec<_> = (0..=rows).map(|n| (next(n), provides.first().copied().unwrap_or((0, 0)))).collect();
         let kind = [1, 11][self.random.below(2)];
-        write::contract(kind, &own, &provides, &rows[..calls], &rows[..grants], &rows[..needs])
+        self.write().contract(kind, &own, &provides, &rows[..calls], &rows[..grants], &rows[..needs])
     }
 }

@@ -3,13 +3,13 @@
 use crate::machine::Aid;
 use crate::methods;
 use crate::random::Random;
-use crate::write::{self, set_length, VERSION};
+use crate::write::{self, set_length};
 
 /// Random bytes, half of them behind a right length, version and kind.
-pub fn noise(random: &mut Random) -> Vec<u8> {
+pub fn noise(version: u8, random: &mut Random) -> Vec<u8> {
     let mut record: Vec<u8> = (0..random.below(48)).map(|_| random.byte()).collect();
     if record.len() >= 4 && random.percent(50) {
-        record[2] = VERSION;
+        record[2] = version;
         record[3] = random.between(1, 11) as u8;
         set_length(&mut record);
     }

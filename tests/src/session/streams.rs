@@ -108,10 +108,12 @@ fn kinds() -> Vec<Stream> {
 }
 
 /// Method tokens of 127 and 128 in every place, grants before their service, whole contracts, retired kinds, the conditions of
-/// a load, and pairs of cards alike for B, a case on each card; and every method, in one record each.
+/// a load, pairs of cards alike for B, a case on each card, and the large card's records, which get 2; and every method, in one
+/// record each.
 fn requests() -> Vec<Stream> {
     let cases = cases::requests().filter(|case| case.before.is_empty());
-    let records = |case: &Case| case.steps.iter().flat_map(|step| step.record.clone()).collect();
+    let steps = |case: &Case| case.steps.iter().chain(case.large.iter().flatten()).cloned().collect::<Vec<_>>();
+    let records = |case: &Case| steps(case).into_iter().flat_map(|step| step.record).collect();
     let mut streams: Vec<_> = cases.map(|case| Stream::new(case.name, records(&case))).collect();
     let called = (0..=255).flat_map(|method| [update(5, C, H, (method, method)), update(6, C, H, (method, method))]);
     let input = [load(C, &[], &[], &[], &[])].into_iter().chain(called).flatten().collect();

@@ -3,7 +3,7 @@
 
 use crate::machine::{Aid, Tokens};
 use crate::random::Random;
-use crate::rules::Rules;
+use crate::rules::Sizes;
 use crate::tables::{places, Bit, Tables, Unmet, Waiting};
 
 /// AIDs and tokens that no history has.
@@ -52,8 +52,8 @@ pub fn choose(tables: &Tables, random: &mut Random) -> Aid {
     random.pick(&among).copied().unwrap_or(Aid::new(STRANGERS[0]))
 }
 
-/// Another card that is alike for the package.
-pub fn other_card(tables: &Tables, own: Aid, names: &Names, random: &mut Random) -> Tables {
+/// Another card of the same sizes that is alike for the package.
+pub fn other_card(sizes: &Sizes, tables: &Tables, own: Aid, names: &Names, random: &mut Random) -> Tables {
     let number = tables.number(own);
     let others: Vec<usize> =
         (0..tables.packages.len()).filter(|n| tables.at(*n).is_some() && Some(*n) != number).collect();
@@ -96,7 +96,7 @@ pub fn other_card(tables: &Tables, own: Aid, names: &Names, random: &mut Random)
     }
     if random.percent(60) {
         for package in 0..card.packages.len() {
-            let mut numbers: Vec<usize> = (0..Rules::IN_FORCE.sizes.services).collect();
+            let mut numbers: Vec<usize> = (0..sizes.services).collect();
             random.shuffle(&mut numbers);
             card.renumber(package, |old| numbers[old]);
         }

@@ -9,8 +9,7 @@ use crate::hex::to_hex;
 use crate::machine::{record, Aid};
 use crate::pairs::Kind;
 use crate::random::Random;
-use crate::rules::Rules;
-use crate::tables::Tables;
+use crate::tables::{self, Tables};
 
 /// Two cards that are alike for B: their images, and the tables of these.
 #[derive(Clone)]
@@ -23,13 +22,14 @@ struct Two {
 /// Makes another card that is alike for some package, and judges a short history of that package's records on both. It goes on
 /// with the cards that the first engine leaves.
 pub fn compare(cards: &[&dyn Card], image: &[u8], mut random: Random, seen: &mut Seen) -> Result<(), String> {
-    let tables = Tables::of(Rules::IN_FORCE, image).ok_or("the card is not sound")?;
+    let rules = tables::in_force(image);
+    let tables = Tables::of(rules, image).ok_or("the card is not sound")?;
     let (own, names) = (choose(&tables, &mut random), Names::of(&tables));
-    let other = other_card(&tables, own, &names, &mut random).write(Rules::IN_FORCE);
+    let other = other_card(rules.sizes, &tables, own, &names, &mut random).write(rules);
     let mut two = Two::new(own, [image.to_vec(), other]).map_err(|broken| broken_words("the made card", &broken))?;
     seen.count(Watched::standing(&tables, own));
     Watched::differences(own, &two.tables).into_iter().for_each(|differ| seen.count(differ));
-    let mut source = Source::with([names.aids, vec![own]].concat(), names.tokens, random.apart());
+    let mut source = Source::with(rules, [names.aids, vec![own]].concat(), names.tokens, random.apart());
     for _ in 0..random.between(4, 8) {
         if random.percent(30) {
             two.others_turn(cards[0], &mut source, &mut random, seen);
@@ -82,7 +82,7 @@ impl Two {
             return Err(self.told(card, bytes, &format!("judging gives {one:?} on one and {two:?} on the other")));
         }
         // A malformed record has no first AID.
-        if one.answer != 2 && record::read(Rules::IN_FORCE, bytes).is_none() {
+        if one.answer != 2 && record::read(tables::in_force(&self.images[0]), bytes).is_none() {
             return Err(self.told(card, bytes, &format!("judging a malformed record gives {one:?}")));
         }
         Ok((one, images))

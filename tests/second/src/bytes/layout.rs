@@ -27,7 +27,7 @@ pub type Bits = u32;
 pub trait Version {
     /// The version byte.
     const NUMBER: u8;
-    const SIZES: Sizes;
+    const SIZES: &'static Sizes;
     /// The bytes of a waiting grant.
     const WAITING_ROW: usize;
 
@@ -163,7 +163,7 @@ pub struct Version01;
 
 impl Version for Version01 {
     const NUMBER: u8 = 1;
-    const SIZES: Sizes = Sizes::SMALL;
+    const SIZES: &'static Sizes = &Sizes::SMALL;
     const WAITING_ROW: usize = OLD_WAITING_ROW;
 }
 
@@ -172,7 +172,16 @@ pub struct Version02;
 
 impl Version for Version02 {
     const NUMBER: u8 = 2;
-    const SIZES: Sizes = Sizes::SMALL;
+    const SIZES: &'static Sizes = &Sizes::SMALL;
+    const WAITING_ROW: usize = ROW;
+}
+
+/// R-9's: the large card, "the same order of parts".
+pub struct Version03;
+
+impl Version for Version03 {
+    const NUMBER: u8 = 3;
+    const SIZES: &'static Sizes = &Sizes::LARGE;
     const WAITING_ROW: usize = ROW;
 }
 
@@ -223,6 +232,14 @@ mod tests {
     fn the_places_are_the_papers() {
         assert_eq!((tables::<Version01>(), lists::<Version01>()), ([3, 4, 140, 268, 276, 340, 404], [468, 789, 1094]));
         assert_eq!((tables::<Version02>(), lists::<Version02>()), ([3, 4, 140, 268, 276, 340, 404], [468, 789, 1110]));
-        assert_eq!((Version01::HEADER, Version02::HEADER), ([0x04, 0x46, 0x01], [0x04, 0x56, 0x02]));
+        let headers = [Version01::HEADER, Version02::HEADER, Version03::HEADER];
+        assert_eq!(headers, [[0x04, 0x46, 0x01], [0x04, 0x56, 0x02], [0x0E, 0x37, 0x03]]);
+    }
+
+    /// "A used field and table entries of two bytes", "the same order of parts".
+    #[test]
+    fn the_large_card_has_its_parts_in_the_same_order() {
+        assert_eq!(tables::<Version03>(), [3, 5, 277, 789, 821, 1333, 1845]);
+        assert_eq!(lists::<Version03>(), [2357, 2998, 3639]);
     }
 }
