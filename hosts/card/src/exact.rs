@@ -1,4 +1,4 @@
-//! The six functions with the numbers of their answers.
+//! The seven functions with the numbers of their answers.
 //!
 //! All the unsafe code is here: a call for each function of the archive. What the archive's header asks of a caller is
 //! what slices are: no pointer is null, each has the length of its slice, the bytes are initialised, a slice that is
@@ -19,6 +19,7 @@ unsafe extern "C" {
     fn card_check(image: *const u8, image_length: usize) -> u32;
     fn card_empty(image: *mut u8, image_length: usize) -> u32;
     fn card_convert(old: *const u8, old_length: usize, image: *mut u8, image_length: usize) -> u32;
+    fn card_enlarge(image: *const u8, image_length: usize, large: *mut u8, large_length: usize) -> u32;
     fn card_judge(image: *mut u8, image_length: usize, record: *const u8, record_length: usize) -> u32;
     fn card_read_out(image: *const u8, image_length: usize, number: u32, out: *mut u8, out_length: usize) -> u32;
     fn card_aid(record: *const u8, record_length: usize) -> u32;
@@ -43,6 +44,12 @@ pub fn empty(image: &mut [u8]) -> Verdict {
 pub fn convert(old: &[u8], image: &mut [u8]) -> Verdict {
     // SAFETY: each pointer has the length of its slice; the borrows keep the old image and the buffer apart.
     verdict(unsafe { card_convert(old.as_ptr(), old.len(), image.as_mut_ptr(), image.len()) })
+}
+
+/// 0 with 0, or 1 with 255.
+pub fn enlarge(image: &[u8], large: &mut [u8]) -> Verdict {
+    // SAFETY: each pointer has the length of its slice; the borrows keep the small image and the buffer apart.
+    verdict(unsafe { card_enlarge(image.as_ptr(), image.len(), large.as_mut_ptr(), large.len()) })
 }
 
 /// 0 with the package's number, or the cause, 1 to 11, with 255.

@@ -7,11 +7,11 @@ use core::fmt;
 #[derive(Clone, Copy, Debug, PartialEq, Eq, PartialOrd, Ord, Hash)]
 #[non_exhaustive]
 pub enum Refusal {
-    /// 1: the image is not sound, as one of version 01 or with a method token of 128 or more, or an image or buffer has
-    /// another size than it must.
+    /// 1: the image is not sound, as one of version 01 or with a method token of 128 or more, or has neither card's size,
+    /// or a buffer for an image has another size than it must.
     Unsound = 1,
-    /// 2: the record is malformed: its form is wrong, its kind is none of 1 to 8 and 11, or a method token is 128 or
-    /// more.
+    /// 2: the record is malformed: its form is wrong, it has the version of the other card's records, its kind is none
+    /// of 1 to 8 and 11, or a method token is 128 or more.
     Malformed = 2,
     /// 3: the record contradicts itself: a row or AID is repeated, the own AID is the other end, or a whole contract
     /// needs what it does not call.

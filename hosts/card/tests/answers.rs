@@ -1,8 +1,8 @@
-//! What the wrapper answers, through its public functions alone: each entry on small inputs, each refusal, each size
-//! that is off by one, no bytes at all, and that a refusal leaves what was lent.
+//! What the wrapper answers, through its public functions alone, on both cards: each entry on small inputs, each refusal,
+//! each size that is off by one, no bytes at all, and that a refusal leaves what was lent.
 
 use card::exact::{self, Verdict};
-use card::{Refusal, IMAGE_SIZE, OLD_IMAGE_SIZE, RECORD_SIZE};
+use card::{Refusal, IMAGE_SIZE, LARGE_IMAGE_SIZE, LARGE_RECORD_SIZE, OLD_IMAGE_SIZE, RECORD_SIZE};
 
 /// The AID F0000000xx with its length, as records have it.
 fn aid(last: u8) -> [u8; 6] {
@@ -12,47 +12,100 @@ fn aid(last: u8) -> [u8; 6] {
 /// A service of a package: the AID's last byte, interface and method.
 type Row = (u8, u8, u8);
 
-fn record(kind: u8, own: u8, rest: &[u8]) -> Vec<u8> {
-    let mut record = [&[0, 0, 1, kind][..], &aid(own), rest].concat();
-    let length = u16::try_from(record.len()).expect("a length");
-    record[..2].copy_from_slice(&length.to_be_bytes());
-    record
-}
-
-/// A whole contract: of kind 1, a load; of kind 11, in place of another.
-fn contract(kind: u8, own: u8, provides: &[[u8; 2]], rows: [&[Row]; 3]) -> Vec<u8> {
-    let mut rest = vec![provides.len() as u8];
-    rest.extend(provides.concat());
-    for list in rows {
-        rest.push(list.len() as u8);
-        rest.extend(list.iter().flat_map(|row| service(*row)));
-    }
-    record(kind, own, &rest)
-}
-
-fn load(own: u8, provides: &[[u8; 2]], calls: &[Row], grants: &[Row], needs: &[Row]) -> Vec<u8> {
-    contract(1, own, provides, [calls, grants, needs])
-}
-
 /// A row as records have it.
 fn service((other, interface, method): Row) -> [u8; 8] {
     let [length, a, b, c, d, e] = aid(other);
     [length, a, b, c, d, e, interface, method]
 }
 
-fn empty() -> [u8; IMAGE_SIZE] {
-    let mut image = [0xA5; IMAGE_SIZE];
-    assert_eq!(card::empty(&mut image), Ok(()));
-    image
+/// A card, and how its records are written.
+struct Card {
+    image_size: usize,
+    record_size: usize,
+    /// The version byte of its records.
+    version: u8,
+    /// Bytes of a count of calls, grants or needs.
+    count_bytes: usize,
+    /// Package numbers, and services of each package.
+    numbers: u8,
+    /// Rows of each list of the card.
+    listed: u8,
+    /// Rows of calls, of grants and of needs in a record.
+    rows: usize,
 }
 
-/// A card with the records on it, which are all accepted.
-fn card_with(records: &[Vec<u8>]) -> [u8; IMAGE_SIZE] {
-    let mut image = empty();
-    for record in records {
-        card::judge(&mut image, record).expect("accepted");
+const SMALL: Card = Card {
+    image_size: IMAGE_SIZE,
+    record_size: RECORD_SIZE,
+    version: 1,
+    count_bytes: 1,
+    numbers: 8,
+    listed: 16,
+    rows: 72,
+};
+const LARGE: Card = Card {
+    image_size: LARGE_IMAGE_SIZE,
+    record_size: LARGE_RECORD_SIZE,
+    version: 2,
+    count_bytes: 2,
+    numbers: 16,
+    listed: 32,
+    rows: 272,
+};
+const CARDS: [Card; 2] = [SMALL, LARGE];
+
+impl Card {
+    fn record(&self, kind: u8, own: u8, rest: &[u8]) -> Vec<u8> {
+        let mut record = [&[0, 0, self.version, kind][..], &aid(own), rest].concat();
+        let length = u16::try_from(record.len()).expect("a length");
+        record[..2].copy_from_slice(&length.to_be_bytes());
+        record
     }
-    image
+
+    /// A count of calls, grants or needs.
+    fn count(&self, count: usize) -> Vec<u8> {
+        count.to_be_bytes()[8 - self.count_bytes..].to_vec()
+    }
+
+    /// A whole contract: of kind 1, a load; of kind 11, in place of another.
+    fn contract(&self, kind: u8, own: u8, provides: &[[u8; 2]], rows: [&[Row]; 3]) -> Vec<u8> {
+        let mut rest = vec![provides.len() as u8];
+        rest.extend(provides.concat());
+        for list in rows {
+            rest.extend(self.count(list.len()));
+            rest.extend(list.iter().flat_map(|row| service(*row)));
+        }
+        self.record(kind, own, &rest)
+    }
+
+    fn load(&self, own: u8, provides: &[[u8; 2]], calls: &[Row], grants: &[Row], needs: &[Row]) -> Vec<u8> {
+        self.contract(1, own, provides, [calls, grants, needs])
+    }
+
+    /// Package 1 provides 0.0 and grants it to package 2.
+    fn server(&self) -> Vec<u8> {
+        self.load(1, &[[0, 0]], &[], &[(2, 0, 0)], &[])
+    }
+
+    /// Package 2 calls and needs it.
+    fn caller(&self) -> Vec<u8> {
+        self.load(2, &[], &[(1, 0, 0)], &[], &[(1, 0, 0)])
+    }
+
+    fn empty(&self) -> Vec<u8> {
+        let mut image = vec![0xA5; self.image_size];
+        assert_eq!(card::empty(&mut image), Ok(()));
+        image
+    }
+
+    /// A card with the records on it, which are all accepted.
+    fn with(&self, records: &[Vec<u8>]) -> Vec<u8> {
+        let mut image = self.empty();
+        for record in records {
+            card::judge(&mut image, record).expect("accepted");
+        }
+        image
+    }
 }
 
 /// A record is refused, and the image stays; the numbers say the same.
@@ -63,149 +116,228 @@ fn refused(image: &[u8], record: &[u8], refusal: Refusal) {
     assert_eq!(after, image);
 }
 
-/// Package 1 provides 0.0 and grants it to package 2.
-fn server() -> Vec<u8> {
-    load(1, &[[0, 0]], &[], &[(2, 0, 0)], &[])
-}
-
-/// Package 2 calls and needs it.
-fn caller() -> Vec<u8> {
-    load(2, &[], &[(1, 0, 0)], &[], &[(1, 0, 0)])
-}
-
 #[test]
 fn every_kind_is_accepted() {
-    let mut image = empty();
-    assert_eq!(card::check(&image), Ok(0));
-    assert_eq!(exact::check(&image), Verdict { answer: 0, second: 0 });
-    let steps = [
-        (server(), 0, 1),
-        (caller(), 1, 2),
-        (record(3, 1, &[7, 127, 0]), 0, 2),
-        (record(7, 1, &service((3, 7, 127))), 0, 2),
-        (record(5, 2, &service((9, 255, 0))), 1, 2),
-        (record(6, 2, &service((9, 255, 0))), 1, 2),
-        (record(8, 1, &service((3, 7, 127))), 0, 2),
-        (record(4, 1, &[7, 127]), 0, 2),
-        (contract(11, 2, &[], [&[(1, 0, 0)], &[], &[]]), 1, 2),
-        (record(2, 1, &[]), 0, 1),
-    ];
-    for (record, number, packages) in steps {
-        assert_eq!(card::judge(&mut image, &record), Ok(number), "kind {}", record[3]);
-        assert_eq!(card::check(&image), Ok(packages), "kind {}", record[3]);
+    for card in CARDS {
+        let mut image = card.empty();
+        assert_eq!(card::check(&image), Ok(0));
+        assert_eq!(exact::check(&image), Verdict { answer: 0, second: 0 });
+        let steps = [
+            (card.server(), 0, 1),
+            (card.caller(), 1, 2),
+            (card.record(3, 1, &[7, 127, 0]), 0, 2),
+            (card.record(7, 1, &service((3, 7, 127))), 0, 2),
+            (card.record(5, 2, &service((9, 255, 0))), 1, 2),
+            (card.record(6, 2, &service((9, 255, 0))), 1, 2),
+            (card.record(8, 1, &service((3, 7, 127))), 0, 2),
+            (card.record(4, 1, &[7, 127]), 0, 2),
+            (card.contract(11, 2, &[], [&[(1, 0, 0)], &[], &[]]), 1, 2),
+            (card.record(2, 1, &[]), 0, 1),
+        ];
+        for (record, number, packages) in steps {
+            assert_eq!(card::judge(&mut image, &record), Ok(number), "kind {}", record[3]);
+            assert_eq!(card::check(&image), Ok(packages), "kind {}", record[3]);
+        }
     }
 }
 
 #[test]
 fn each_cause_of_judging_is_met() {
-    let image = card_with(&[server(), caller()]);
-    let mut damaged = image;
-    damaged[2] = 1;
-    refused(&damaged, &server(), Refusal::Unsound);
-    refused(&image, &record(9, 2, &service((1, 0, 0))), Refusal::Malformed);
-    refused(&image, &record(3, 1, &[0, 128, 0]), Refusal::Malformed);
-    refused(&image, &load(3, &[[0, 0], [0, 0]], &[], &[], &[]), Refusal::Contradictory);
-    refused(&image, &server(), Refusal::Installed);
-    refused(&image, &record(2, 3, &[]), Refusal::NotInstalled);
-    refused(&image, &record(7, 1, &service((2, 0, 0))), Refusal::Pointless);
-    refused(&image, &load(3, &[], &[(1, 0, 0)], &[], &[]), Refusal::Ungranted);
-    refused(&image, &record(2, 1, &[]), Refusal::NeedUnmet);
-    let rows: Vec<Row> = (0..17).map(|method| (9, 0, method)).collect();
-    refused(&image, &load(3, &[], &rows, &[], &[]), Refusal::UnmetFull);
-    refused(&image, &load(3, &[], &[], &rows, &[]), Refusal::WaitingFull);
-    let packages: Vec<_> = (1..=8).map(|own| load(own, &[], &[], &[], &[])).collect();
-    refused(&card_with(&packages), &load(9, &[], &[], &[], &[]), Refusal::NoNumber);
+    for card in CARDS {
+        let image = card.with(&[card.server(), card.caller()]);
+        let mut damaged = image.clone();
+        damaged[2] = 1;
+        refused(&damaged, &card.server(), Refusal::Unsound);
+        refused(&image, &card.record(9, 2, &service((1, 0, 0))), Refusal::Malformed);
+        refused(&image, &card.record(3, 1, &[0, 128, 0]), Refusal::Malformed);
+        refused(&image, &card.load(3, &[[0, 0], [0, 0]], &[], &[], &[]), Refusal::Contradictory);
+        refused(&image, &card.server(), Refusal::Installed);
+        refused(&image, &card.record(2, 3, &[]), Refusal::NotInstalled);
+        refused(&image, &card.record(7, 1, &service((2, 0, 0))), Refusal::Pointless);
+        refused(&image, &card.load(3, &[], &[(1, 0, 0)], &[], &[]), Refusal::Ungranted);
+        refused(&image, &card.record(2, 1, &[]), Refusal::NeedUnmet);
+        let rows: Vec<Row> = (0..=card.listed).map(|method| (99, 0, method)).collect();
+        refused(&image, &card.load(3, &[], &rows, &[], &[]), Refusal::UnmetFull);
+        refused(&image, &card.load(3, &[], &[], &rows, &[]), Refusal::WaitingFull);
+        card.with(&[card.load(1, &[], &rows[1..], &rows[1..], &[])]);
+    }
+}
+
+#[test]
+fn a_card_has_its_numbers() {
+    for card in CARDS {
+        let services: Vec<[u8; 2]> = (0..card.numbers).map(|method| [0, method]).collect();
+        let packages: Vec<_> = (1..=card.numbers).map(|own| card.load(own, &services, &[], &[], &[])).collect();
+        let image = card.with(&packages);
+        assert_eq!(card::check(&image), Ok(card.numbers.into()));
+        refused(&image, &card.load(99, &[], &[], &[], &[]), Refusal::NoNumber);
+        refused(&image, &card.record(3, 1, &[1, 0, 0]), Refusal::NoNumber);
+        let mut buffer = vec![0; card.record_size];
+        let last = usize::from(card.numbers - 1);
+        assert_eq!(card::read_out(&image, last as u32, &mut buffer), Ok(&packages[last][..]));
+    }
+}
+
+/// A record of the other card's version gets 2, whatever it says; the AID is found in either.
+#[test]
+fn a_record_is_for_one_card() {
+    for (card, other) in [(SMALL, LARGE), (LARGE, SMALL)] {
+        for record in [other.server(), other.record(2, 1, &[]), other.record(3, 1, &[0, 0, 0])] {
+            refused(&card.empty(), &record, Refusal::Malformed);
+            refused(&card.with(&[card.server()]), &record, Refusal::Malformed);
+            assert_eq!(card::aid(&record), &aid(1)[1..]);
+        }
+        let mut neither = card.server();
+        neither[2] = 3;
+        refused(&card.empty(), &neither, Refusal::Malformed);
+        assert_eq!(card::aid(&neither), []);
+    }
 }
 
 #[test]
 fn an_image_is_checked_and_written_at_its_size_alone() {
-    for size in [0, IMAGE_SIZE - 1, IMAGE_SIZE + 1] {
+    for (card, size) in
+        CARDS.iter().flat_map(|card| [0, card.image_size - 1, card.image_size + 1].map(|size| (card, size)))
+    {
         let mut image = vec![0xA5; size];
         assert_eq!(card::empty(&mut image), Err(Refusal::Unsound));
         assert_eq!(exact::empty(&mut image), Verdict { answer: 1, second: 255 });
         assert_eq!(image, vec![0xA5; size]);
-        image = empty().into_iter().chain([0]).take(size).collect();
+        image = card.empty().into_iter().chain([0]).take(size).collect();
         assert_eq!(card::check(&image), Err(Refusal::Unsound));
         assert_eq!(exact::check(&image), Verdict { answer: 1, second: 255 });
-        refused(&image, &server(), Refusal::Unsound);
-        assert_eq!(card::read_out(&image, 0, &mut [0; RECORD_SIZE]), Err(Refusal::Unsound));
+        refused(&image, &card.server(), Refusal::Unsound);
+        assert_eq!(card::read_out(&image, 0, &mut [0; LARGE_RECORD_SIZE]), Err(Refusal::Unsound));
     }
+    // The header of the other card.
+    for (card, other) in [(SMALL, LARGE), (LARGE, SMALL)] {
+        let mut image = card.empty();
+        image[..3].copy_from_slice(&other.empty()[..3]);
+        assert_eq!(card::check(&image), Err(Refusal::Unsound));
+    }
+}
+
+/// A converter takes an image of one size into a buffer of another, and nothing else: what is given is the image.
+fn carried_at_its_sizes_alone(
+    meaning: impl Fn(&[u8], &mut [u8]) -> Result<(), Refusal>,
+    exactly: impl Fn(&[u8], &mut [u8]) -> Verdict,
+    before: &[u8],
+    after: usize,
+) -> Vec<u8> {
+    let (size, longer) = (before.len(), [before, &[0]].concat());
+    let mut image = vec![0xA5; after + 1];
+    for (from, to) in
+        [(0, 0), (0, after), (size, 0), (size - 1, after), (size + 1, after), (size, after - 1), (size, after + 1)]
+    {
+        assert_eq!(meaning(&longer[..from], &mut image[..to]), Err(Refusal::Unsound), "{from} to {to}");
+        assert_eq!(exactly(&longer[..from], &mut image[..to]), Verdict { answer: 1, second: 255 }, "{from} to {to}");
+        assert_eq!(image, vec![0xA5; after + 1], "{from} to {to}");
+    }
+    assert_eq!(exactly(before, &mut image[..after]), Verdict { answer: 0, second: 0 });
+    let first = image.clone();
+    assert_eq!(meaning(before, &mut image[..after]), Ok(()));
+    assert_eq!(image, first);
+    assert_eq!(image.pop(), Some(0xA5));
+    image
 }
 
 #[test]
 fn an_old_image_is_converted_at_its_size_alone() {
-    let mut old = [0; OLD_IMAGE_SIZE + 1];
+    let mut old = [0; OLD_IMAGE_SIZE];
     old[..3].copy_from_slice(&[0x04, 0x46, 0x01]);
-    let mut image = [0xA5; IMAGE_SIZE + 1];
-    for (before, after) in [
-        (0, 0),
-        (0, IMAGE_SIZE),
-        (OLD_IMAGE_SIZE, 0),
-        (OLD_IMAGE_SIZE - 1, IMAGE_SIZE),
-        (OLD_IMAGE_SIZE + 1, IMAGE_SIZE),
-        (OLD_IMAGE_SIZE, IMAGE_SIZE - 1),
-        (OLD_IMAGE_SIZE, IMAGE_SIZE + 1),
-    ] {
-        assert_eq!(card::convert(&old[..before], &mut image[..after]), Err(Refusal::Unsound), "{before} to {after}");
-        let verdict = exact::convert(&old[..before], &mut image[..after]);
-        assert_eq!(verdict, Verdict { answer: 1, second: 255 }, "{before} to {after}");
-        assert_eq!(image, [0xA5; IMAGE_SIZE + 1], "{before} to {after}");
+    assert_eq!(card::check(&old), Err(Refusal::Unsound));
+    assert_eq!(carried_at_its_sizes_alone(card::convert, exact::convert, &old, IMAGE_SIZE), SMALL.empty());
+    // It goes to the small card alone.
+    assert_eq!(card::convert(&old, &mut [0; LARGE_IMAGE_SIZE]), Err(Refusal::Unsound));
+    assert_eq!(card::enlarge(&old, &mut [0; LARGE_IMAGE_SIZE]), Err(Refusal::Unsound));
+}
+
+/// What is judged before the card is enlarged is the same as what is judged afterwards.
+#[test]
+fn a_small_image_is_enlarged_at_its_size_alone() {
+    let carried = |image: &[u8]| carried_at_its_sizes_alone(card::enlarge, exact::enlarge, image, LARGE_IMAGE_SIZE);
+    assert_eq!(carried(&SMALL.empty()), LARGE.empty());
+    let rows: Vec<Row> = (0..16).map(|method| (9, 0, method)).collect();
+    let history = |card: &Card| {
+        let listed = card.load(3, &[], &rows, &rows, &[]);
+        [card.load(4, &[], &[], &[], &[]), card.server(), card.caller(), listed, card.record(2, 4, &[])]
+    };
+    let small = SMALL.with(&history(&SMALL));
+    let mut large = carried(&small);
+    assert_eq!(large, LARGE.with(&history(&LARGE)));
+    assert_eq!(card::judge(&mut large, &LARGE.record(5, 3, &service((9, 1, 0)))), Ok(3));
+    // One that is not sound, and a large one, are not enlarged.
+    let mut damaged = small;
+    damaged[2] = 1;
+    for image in [&damaged, &large] {
+        assert_eq!(card::enlarge(image, &mut [0; LARGE_IMAGE_SIZE]), Err(Refusal::Unsound));
     }
-    assert_eq!(card::check(&old[..OLD_IMAGE_SIZE]), Err(Refusal::Unsound));
-    assert_eq!(card::convert(&old[..OLD_IMAGE_SIZE], &mut image[..IMAGE_SIZE]), Ok(()));
-    assert_eq!(image[..IMAGE_SIZE], empty());
-    assert_eq!(image[IMAGE_SIZE], 0xA5);
 }
 
 #[test]
 fn a_record_has_the_length_that_it_says() {
-    let whole = server();
-    for wrong in [vec![], whole[..whole.len() - 1].to_vec(), [&whole[..], &[0]].concat()] {
-        refused(&empty(), &wrong, Refusal::Malformed);
-        assert_eq!(card::aid(&wrong), []);
+    for card in CARDS {
+        let whole = card.server();
+        for wrong in [vec![], whole[..whole.len() - 1].to_vec(), [&whole[..], &[0]].concat()] {
+            refused(&card.empty(), &wrong, Refusal::Malformed);
+            assert_eq!(card::aid(&wrong), []);
+        }
+        assert_eq!(card::aid(&whole), &aid(1)[1..]);
+        assert_eq!(exact::aid(&whole), card::aid(&whole));
+        assert_eq!(card::aid(&whole).as_ptr(), whole[5..].as_ptr());
     }
-    assert_eq!(card::aid(&whole), &aid(1)[1..]);
-    assert_eq!(exact::aid(&whole), card::aid(&whole));
-    assert_eq!(card::aid(&whole).as_ptr(), whole[5..].as_ptr());
 }
 
 #[test]
 fn a_contract_is_read_out_into_a_buffer_that_holds_it() {
-    let image = card_with(&[server(), caller()]);
-    let record = caller();
-    for size in [0, record.len() - 1] {
-        let mut buffer = vec![0xA5; size];
-        assert_eq!(card::read_out(&image, 1, &mut buffer), Err(Refusal::BufferShort));
-        assert_eq!(exact::read_out(&image, 1, &mut buffer), Verdict { answer: 12, second: 0 });
-        assert_eq!(buffer, vec![0xA5; size]);
+    for card in CARDS {
+        let image = card.with(&[card.server(), card.caller()]);
+        let record = card.caller();
+        for size in [0, record.len() - 1] {
+            let mut buffer = vec![0xA5; size];
+            assert_eq!(card::read_out(&image, 1, &mut buffer), Err(Refusal::BufferShort));
+            assert_eq!(exact::read_out(&image, 1, &mut buffer), Verdict { answer: 12, second: 0 });
+            assert_eq!(buffer, vec![0xA5; size]);
+        }
+        for more in [0, 1] {
+            let mut buffer = vec![0xA5; record.len() + more];
+            assert_eq!(card::read_out(&image, 1, &mut buffer), Ok(&record[..]));
+            assert_eq!(buffer[record.len()..], vec![0xA5; more]);
+        }
+        let mut buffer = vec![0xA5; card.record_size];
+        for number in [2, 7, 8, 15, 16, 65_536, u32::MAX] {
+            assert_eq!(card::read_out(&image, number, &mut buffer), Err(Refusal::NotInstalled), "{number}");
+            assert_eq!(exact::read_out(&image, number, &mut []), Verdict { answer: 5, second: 0 }, "{number}");
+        }
+        assert_eq!(buffer, vec![0xA5; card.record_size]);
+        let rows: Vec<Row> = (0..card.listed).map(|method| (99, 0, method)).collect();
+        let long = card.load(1, &[], &rows, &rows, &[]);
+        assert!(long.len() > 255);
+        assert_eq!(card::read_out(&card.with(std::slice::from_ref(&long)), 0, &mut buffer), Ok(&long[..]));
     }
-    for more in [0, 1] {
-        let mut buffer = vec![0xA5; record.len() + more];
-        assert_eq!(card::read_out(&image, 1, &mut buffer), Ok(&record[..]));
-        assert_eq!(buffer[record.len()..], vec![0xA5; more]);
-    }
-    let mut buffer = [0xA5; RECORD_SIZE];
-    for number in [2, 7, 8, 65_536, u32::MAX] {
-        assert_eq!(card::read_out(&image, number, &mut buffer), Err(Refusal::NotInstalled), "{number}");
-        assert_eq!(exact::read_out(&image, number, &mut []), Verdict { answer: 5, second: 0 }, "{number}");
-    }
-    assert_eq!(buffer, [0xA5; RECORD_SIZE]);
-    let rows: Vec<Row> = (0..16).map(|method| (9, 0, method)).collect();
-    let long = load(1, &[], &rows, &rows, &[]);
-    assert!(long.len() > 255);
-    assert_eq!(card::read_out(&card_with(std::slice::from_ref(&long)), 0, &mut buffer), Ok(&long[..]));
 }
 
-/// 8 services, and 72 calls, grants and needs with AIDs of 16 bytes. They are all the same: the record is well formed
-/// and contradicts itself.
+/// As many services as there may be, and as many calls, grants and needs with AIDs of 16 bytes. They are all the same: the
+/// record is well formed and contradicts itself.
 #[test]
 fn the_longest_record_is_read() {
-    let row = [&[16][..], &[0xF0; 16], &[0; 2]].concat();
-    let rows = [&[72][..], &row.repeat(72)].concat();
-    let record = [&[0x10, 0x31, 1, 1, 16][..], &[0xF0; 16], &[8], &[0; 16], &rows, &rows, &rows].concat();
-    assert_eq!(record.len(), RECORD_SIZE);
-    assert_eq!(card::aid(&record), [0xF0; 16]);
-    refused(&empty(), &record, Refusal::Contradictory);
+    for card in CARDS {
+        let row = [&[16][..], &[0xF0; 16], &[0; 2]].concat();
+        let longest = |rows: usize| {
+            let rows = [card.count(rows), row.repeat(rows)].concat();
+            let services = vec![0; 2 * usize::from(card.numbers)];
+            let rest = [&[16][..], &[0xF0; 16], &[card.numbers], &services, &rows, &rows, &rows].concat();
+            let [high, low] = (rest.len() as u16 + 4).to_be_bytes();
+            [&[high, low, card.version, 1][..], &rest].concat()
+        };
+        let record = longest(card.rows);
+        assert_eq!(record.len(), card.record_size);
+        assert_eq!(card::aid(&record), [0xF0; 16]);
+        refused(&card.empty(), &record, Refusal::Contradictory);
+        let more = longest(card.rows + 1);
+        assert_eq!(card::aid(&more), []);
+        refused(&card.empty(), &more, Refusal::Malformed);
+    }
 }
 
 #[test]
@@ -213,10 +345,13 @@ fn no_bytes_at_all_are_fine_for_each_function() {
     assert_eq!(card::check(&[]), Err(Refusal::Unsound));
     assert_eq!(card::empty(&mut []), Err(Refusal::Unsound));
     assert_eq!(card::convert(&[], &mut []), Err(Refusal::Unsound));
+    assert_eq!(card::enlarge(&[], &mut []), Err(Refusal::Unsound));
     assert_eq!(card::judge(&mut [], &[]), Err(Refusal::Unsound));
-    assert_eq!(card::judge(&mut empty(), &[]), Err(Refusal::Malformed));
     assert_eq!(card::read_out(&[], 0, &mut []), Err(Refusal::Unsound));
-    assert_eq!(card::read_out(&empty(), 0, &mut []), Err(Refusal::NotInstalled));
+    for card in CARDS {
+        assert_eq!(card::judge(&mut card.empty(), &[]), Err(Refusal::Malformed));
+        assert_eq!(card::read_out(&card.empty(), 0, &mut []), Err(Refusal::NotInstalled));
+    }
     assert_eq!(card::aid(&[]), []);
 }
 

@@ -2,7 +2,7 @@
 
 use crate::contract::{Aid, Row, Tokens};
 use crate::hex::to_hex;
-use crate::layout::{Image, Table, AID, USED};
+use crate::layout::{Image, Layout, Table, AID, USED};
 use crate::names::Names;
 use crate::record::{Change, Lists, Record};
 use crate::tables::aid as stored;
@@ -36,12 +36,12 @@ pub fn image(image: Image, names: &Names) -> String {
     lines(image.bytes, &parts, |at, part| at <= USED || part.iter().any(|byte| *byte != 0))
 }
 
-/// A record part by part.
-pub fn record(record: &Record) -> String {
-    let bytes = record.bytes();
+/// A record of a card part by part.
+pub fn record(card: &Layout, record: &Record) -> String {
+    let bytes = record.bytes(card);
     let mut parts = vec![
         (2, format!("length {}", bytes.len())),
-        (1, "version".to_string()),
+        (1, format!("version: a record of the {} card", card.name)),
         (1, format!("kind {}: {}", bytes[3], kind(&record.change))),
         aid("AID", &record.aid),
     ];
@@ -57,7 +57,7 @@ pub fn record(record: &Record) -> String {
             for (list, name, other) in
                 [(calls, "calls", "callee AID"), (grants, "grants", "caller AID"), (needs, "needs", "callee AID")]
             {
-                parts.push((1, format!("count of {name}")));
+                parts.push((card.count_bytes, format!("count of {name}")));
                 parts.extend(list.iter().flat_map(|each| row(other, each)));
             }
         }
@@ -110,7 +110,7 @@ fn lines(bytes: &[u8], parts: &[Part], shown: impl Fn(usize, &[u8]) -> bool) -> 
     for (length, words) in parts {
         let part = &bytes[at..at + length];
         if shown(at, part) {
-            text.push_str(&format!("{at:>4}: {:<60}# {words}\n", to_hex(part)));
+            text.push_str(&format!("{at:>4}: {:<59} # {words}\n", to_hex(part)));
         }
         at += length;
     }

@@ -17,6 +17,7 @@ pub trait Engine {
     fn check(&self, image: &[u8]) -> Verdict;
     fn empty(&self, image: &mut [u8]) -> Verdict;
     fn convert(&self, old: &[u8], image: &mut [u8]) -> Verdict;
+    fn enlarge(&self, image: &[u8], large: &mut [u8]) -> Verdict;
     fn judge(&self, image: &mut [u8], record: &[u8]) -> Verdict;
     fn read_out(&self, image: &[u8], number: u32, out: &mut [u8]) -> Verdict;
 }
@@ -41,6 +42,10 @@ impl Engine for Proved {
 
     fn convert(&self, old: &[u8], image: &mut [u8]) -> Verdict {
         card::exact::convert(old, image).into()
+    }
+
+    fn enlarge(&self, image: &[u8], large: &mut [u8]) -> Verdict {
+        card::exact::enlarge(image, large).into()
     }
 
     fn judge(&self, image: &mut [u8], record: &[u8]) -> Verdict {
@@ -77,6 +82,10 @@ impl Engine for Second {
 
     fn convert(&self, old: &[u8], image: &mut [u8]) -> Verdict {
         bytes::convert(old, image).into()
+    }
+
+    fn enlarge(&self, image: &[u8], large: &mut [u8]) -> Verdict {
+        bytes::enlarge(image, large).into()
     }
 
     fn judge(&self, image: &mut [u8], record: &[u8]) -> Verdict {

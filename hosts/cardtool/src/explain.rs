@@ -37,7 +37,7 @@ type Refusal = (u32, Vec<Reason>);
 /// The contracts that the record leaves, or why it is refused.
 fn judged(image: &[u8], record: &[u8], names: &Names) -> Result<Contracts, Refusal> {
     let tables = sound(image, names).map_err(|reasons| (1, reasons))?;
-    let record = &record::read(record).map_err(|malformed| (2, vec![Reason::Malformed(malformed)]))?;
+    let record = &record::read(tables.layout, record).map_err(|malformed| (2, vec![Reason::Malformed(malformed)]))?;
     let before = &tables.contracts();
     none(3, contradicting(record))?;
     none(4, loaded(&tables, record))?;

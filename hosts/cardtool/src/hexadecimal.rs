@@ -1,6 +1,7 @@
 //! Hexadecimal with places: records, a line each, and dumps of an image.
 
 use crate::fault::{At, Fault, Place};
+use crate::layout::Layout;
 use crate::record::{self, Record};
 use crate::words::{cut, lines, shown, Line, Word};
 
@@ -47,8 +48,9 @@ impl Digits {
         Fault { at: At::Digits(self.places.get(byte).copied().unwrap_or(self.end), byte), words }
     }
 
-    pub fn record(&self) -> Result<Record, Fault> {
-        record::read(&self.bytes).map_err(|malformed| self.fault(malformed.at, malformed.why.to_string()))
+    /// The record of either card.
+    pub fn record(&self) -> Result<(&'static Layout, Record), Fault> {
+        record::read_either(&self.bytes).map_err(|malformed| self.fault(malformed.at, malformed.why.to_string()))
     }
 }
 

@@ -2,7 +2,7 @@
 
 use crate::contract::{Aid, Row};
 use crate::fault::{Fault, Place};
-use crate::layout::VERSION_02;
+use crate::layout::{Layout, VERSION_03};
 use crate::names::Names;
 use crate::record_text::{self, calls, grants, needs, Said};
 use crate::tables::{Bit, Package, Tables, Unmet, Waiting};
@@ -10,7 +10,8 @@ use crate::words::{counted, lines, Line, Word};
 
 /// The text of an image's tables, which reads as that image again.
 pub fn write(tables: &Tables, names: &Names) -> String {
-    let mut text = format!("# {}\n", counts(tables));
+    let card = if tables.layout.is_large() { "card large\n" } else { "" };
+    let mut text = format!("{card}# {}\n", counts(tables));
     for (number, package) in tables.installed() {
         text.push_str(&format!("package {number} {}\n", names.word(package.aid)));
         for row in package_rows(tables, number, package, names) {
@@ -51,10 +52,10 @@ fn package_rows(tables: &Tables, number: usize, package: &Package, names: &Names
     rows
 }
 
-/// Reads a text, in which these names are given already, as the image that it describes. It is sound, and of the
-/// version in force.
-pub fn read(text: &str, names: &Names) -> Result<Vec<u8>, Fault> {
-    let tables = Tables::empty(&VERSION_02);
+/// Reads a text, in which these names are given already, as the image that it describes: a sound one, of this card
+/// where the text does not name another.
+pub fn read(card: &'static Layout, text: &str, names: &Names) -> Result<Vec<u8>, Fault> {
+    let tables = Tables::empty(card);
     let mut reading = Reading { names: names.clone(), tables, package: None, rows: Vec::new() };
     for mut line in lines(text) {
         reading.line(&mut line)?;
@@ -85,6 +86,7 @@ impl Reading {
         let first = line.next("a word")?;
         match first.text {
             "name" => self.names.line(line),
+            "card" => self.card(first, line),
             "package" => self.begin(line),
             "service" => self.service(first, line),
             "unmet" => self.list_row(first, line, "calls"),
@@ -92,6 +94,19 @@ impl Reading {
             "calls" | "grants" | "needs" => self.package_row(first, line),
             _ => Err(no_line(first)),
         }
+    }
+
+    /// Which card the image is of.
+    fn card(&mut self, first: Word, line: &mut Line) -> Result<(), Fault> {
+        let word = line.next("small or large")?;
+        let card = Layout::CARDS.into_iter().find(|card| card.name == word.text);
+        let none = || word.fault(format!("small or large is expected, not '{}'", word.cut()));
+        let card = card.ok_or_else(none)?;
+        if self.tables.installed().next().is_some() {
+            return Err(first.fault("'card' stands above the first package"));
+        }
+        self.tables = Tables::empty(card);
+        Ok(())
     }
 
     /// A row of a list: the package that it belongs to, and a call or a grant.
@@ -109,7 +124,7 @@ impl Reading {
 
     fn begin(&mut self, line: &mut Line) -> Result<(), Fault> {
         let word = line.next("a package number")?;
-        let number = number(word, VERSION_02.packages)?;
+        let number = number(word, self.tables.layout, |card| card.packages)?;
         let aid_word = line.next("the package's AID")?;
         let aid = self.names.aid(aid_word)?;
         if self.tables.packages[number].is_some() {
@@ -118,7 +133,7 @@ impl Reading {
         if self.tables.number(aid).is_some() {
             return Err(aid_word.fault("a package with this AID stands above"));
         }
-        self.tables.packages[number] = Some(Package { aid, services: vec![None; VERSION_02.services] });
+        self.tables.packages[number] = Some(Package { aid, services: vec![None; self.tables.layout.services] });
         self.package = Some(number);
         Ok(())
     }
@@ -126,7 +141,7 @@ impl Reading {
     fn service(&mut self, verb: Word, line: &mut Line) -> Result<(), Fault> {
         let (own, aid) = self.owner(verb)?;
         let word = line.next("a service number")?;
-        let number = number(word, VERSION_02.services)?;
+        let number = number(word, self.tables.layout, |card| card.services)?;
         let tokens_word = line.next("a service, as 0.1,")?;
         let tokens = self.names.service(Some(aid), tokens_word)?;
         let Some(package) = &mut self.tables.packages[own] else { unreachable!("the package was begun") };
@@ -206,7 +221,7 @@ impl Reading {
                     return Err("the callee provides this: the call is met".to_string());
                 }
                 add(&mut self.tables.unmet, Unmet { callee: row.other, tokens: row.tokens, caller })?;
-                fits(self.tables.unmet.len(), "unmet calls")
+                self.fits(self.tables.unmet.len(), "unmet calls")
             }
             Stated::Waiting(own, row) => {
                 let callee = self.tables.number(own).ok_or("the package that grants is no package here")?;
@@ -217,7 +232,7 @@ impl Reading {
                     return Err("caller and service are on the card: the grant does not wait".to_string());
                 }
                 add(&mut self.tables.waiting, Waiting { caller: row.other, callee, tokens: row.tokens })?;
-                fits(self.tables.waiting.len(), "waiting grants")
+                self.fits(self.tables.waiting.len(), "waiting grants")
             }
         }
     }
@@ -235,19 +250,32 @@ impl Reading {
         let service = self.tables.service(callee, row.tokens).ok_or("the service is not provided here")?;
         Ok(Bit { callee, caller, service })
     }
+
+    fn fits(&self, count: usize, what: &str) -> Result<(), String> {
+        let Layout { rows, name, .. } = *self.tables.layout;
+        let more = format!(", one of a large card ('card large') {}", VERSION_03.rows);
+        let more = if self.tables.layout.is_large() { "" } else { &more };
+        match count <= rows {
+            true => Ok(()),
+            false => Err(format!("an image of a {name} card has at most {rows} {what}{more}")),
+        }
+    }
 }
 
 fn no_line(word: Word) -> Fault {
     word.fault(format!(
-        "'{}' begins no line of an image: there are package, service, calls, grants, needs, unmet, waiting and name",
+        "'{}' begins no line of an image: there are card, package, service, calls, grants, needs, unmet, waiting and name",
         word.cut()
     ))
 }
 
-/// A number below the count of those that there are.
-fn number(word: Word, count: usize) -> Result<usize, Fault> {
-    let found = (0..count).find(|number| number.to_string() == word.text);
-    found.ok_or_else(|| word.fault(format!("'{}' is not a number from 0 to {}", word.cut(), count - 1)))
+/// A number below the count of those that a card has.
+fn number(word: Word, card: &Layout, count: fn(&Layout) -> usize) -> Result<usize, Fault> {
+    let below = |count: usize| (0..count).find(|number| number.to_string() == word.text);
+    below(count(card)).ok_or_else(|| {
+        let of_large = below(count(&VERSION_03)).map_or("", |_| ": a large card has it, after a line 'card large'");
+        word.fault(format!("'{}' is not a number from 0 to {}{of_large}", word.cut(), count(card) - 1))
+    })
 }
 
 fn add<T: PartialEq>(list: &mut Vec<T>, item: T) -> Result<(), String> {
@@ -256,11 +284,4 @@ fn add<T: PartialEq>(list: &mut Vec<T>, item: T) -> Result<(), String> {
     }
     list.push(item);
     Ok(())
-}
-
-fn fits(count: usize, what: &str) -> Result<(), String> {
-    match count <= VERSION_02.rows {
-        true => Ok(()),
-        false => Err(format!("an image has at most {} {what}", VERSION_02.rows)),
-    }
 }

@@ -5,6 +5,8 @@
 pub struct Layout {
     /// What the tool calls it.
     pub version: &'static str,
+    /// Which card it is: small or large.
+    pub name: &'static str,
     /// Length and version, with which an image begins.
     pub header: [u8; 3],
     /// Package numbers.
@@ -19,17 +21,35 @@ pub struct Layout {
     pub record: u8,
     /// The most rows of calls, of grants and of needs in a record.
     pub record_rows: usize,
+    /// The bytes of the count of each of these three. Other lists of records have a count byte.
+    pub count_bytes: usize,
     /// The most callers of kind 3.
     pub record_callers: usize,
     /// Bytes of the longest record.
     pub longest_record: usize,
 }
 
-/// The card in force.
+/// The large card.
+pub const VERSION_03: Layout = Layout {
+    version: "03",
+    name: "large",
+    header: [0x0E, 0x37, 0x03],
+    packages: 16,
+    services: 16,
+    rows: 32,
+    tokens_wait: true,
+    record: 2,
+    record_rows: 272,
+    count_bytes: 2,
+    record_callers: 32,
+    longest_record: 15_564,
+};
+/// The small card.
 pub const VERSION_02: Layout = Layout { version: "02", header: [0x04, 0x56, 0x02], tokens_wait: true, ..VERSION_01 };
 /// The card of document 01, which is converted.
 pub const VERSION_01: Layout = Layout {
     version: "01",
+    name: "small",
     header: [0x04, 0x46, 0x01],
     packages: 8,
     services: 8,
@@ -37,6 +57,7 @@ pub const VERSION_01: Layout = Layout {
     tokens_wait: false,
     record: 1,
     record_rows: 72,
+    count_bytes: 1,
     record_callers: 32,
     longest_record: 4145,
 };
@@ -70,7 +91,23 @@ impl Table {
 }
 
 impl Layout {
-    pub const ALL: [&'static Layout; 2] = [&VERSION_02, &VERSION_01];
+    pub const ALL: [&'static Layout; 3] = [&VERSION_02, &VERSION_03, &VERSION_01];
+    /// The cards that records are judged on.
+    pub const CARDS: [&'static Layout; 2] = [&VERSION_02, &VERSION_03];
+
+    /// Whether records are judged on such an image. One of version 01 is converted first.
+    pub fn judged(&self) -> bool {
+        *self != VERSION_01
+    }
+
+    pub fn is_large(&self) -> bool {
+        *self == VERSION_03
+    }
+
+    /// The card whose records have this version byte.
+    pub fn of_records(version: u8) -> Option<&'static Layout> {
+        Layout::CARDS.into_iter().find(|card| card.record == version)
+    }
 
     /// The layout whose images have so many bytes.
     pub fn sized(bytes: usize) -> Option<&'static Layout> {
@@ -209,10 +246,23 @@ mod tests {
         assert_eq!(Layout::sized(1095), None);
     }
 
-    /// R-9's sizes give R-9's 3,639 bytes.
+    /// R-9's sizes give R-9's 3,639 bytes, `0E 37`.
     #[test]
-    fn a_larger_card_is_another_value() {
-        let large = Layout { packages: 16, services: 16, rows: 32, ..VERSION_02 };
-        assert_eq!(large.size(), 3639);
+    fn the_large_card_has_the_same_order_of_parts() {
+        let large = &VERSION_03;
+        let tables = Table::ALL.map(|table| large.cell_at(table, 0, 0));
+        assert_eq!((large.aid_at(0), large.tokens_at(0, 0), large.provides_at(0)), (5, 277, 789));
+        assert_eq!((tables, large.unmet_at(), large.waiting_at()), ([821, 1333, 1845], 2357, 2998));
+        assert_eq!((large.size(), Layout::sized(3639)), (3639, Some(large)));
+        assert_eq!(u16::from_be_bytes([large.header[0], large.header[1]]), 3639);
+    }
+
+    /// A load with as many services and rows as there may be, and AIDs of 16 bytes.
+    #[test]
+    fn the_longest_records_are_the_papers() {
+        for card in Layout::CARDS {
+            let lists = 3 * (card.count_bytes + card.record_rows * (AID + 2));
+            assert_eq!(4 + AID + 1 + 2 * card.services + lists, card.longest_record);
+        }
     }
 }

@@ -76,7 +76,8 @@ pub enum Why {
         written: usize,
         bytes: usize,
     },
-    Version(u8),
+    /// This version, where records of a card have another.
+    Version(u8, &'static Layout),
     Kind(u8),
     /// Kind 9 or 10, since R-13.
     Retired(u8),
@@ -92,9 +93,14 @@ pub enum Why {
     LeftOver(usize),
 }
 
-/// Reads a record, or says where it is malformed.
-pub fn read(bytes: &[u8]) -> Result<Record, Malformed> {
-    let layout = &VERSION_02;
+/// Reads a record of either card, by its version, and gives the card too.
+pub fn read_either(bytes: &[u8]) -> Result<(&'static Layout, Record), Malformed> {
+    let card = bytes.get(2).and_then(|version| Layout::of_records(*version)).unwrap_or(&VERSION_02);
+    Ok((card, read(card, bytes)?))
+}
+
+/// Reads a record of a card, or says where it is malformed.
+pub fn read(layout: &'static Layout, bytes: &[u8]) -> Result<Record, Malformed> {
     let mut rest = Rest { layout, bytes, at: 0 };
     let written = usize::from(rest.byte()?) * 256 + usize::from(rest.byte()?);
     if written != bytes.len() {
@@ -102,7 +108,7 @@ pub fn read(bytes: &[u8]) -> Result<Record, Malformed> {
     }
     let version = rest.byte()?;
     if version != layout.record {
-        return Err(Malformed { at: 2, why: Why::Version(version) });
+        return Err(Malformed { at: 2, why: Why::Version(version, layout) });
     }
     let kind = rest.byte()?;
     if !matches!(kind, 1..=8 | 11) {
@@ -113,7 +119,7 @@ pub fn read(bytes: &[u8]) -> Result<Record, Malformed> {
     let change = match kind {
         1 => Change::Load(rest.lists()?),
         2 => Change::Remove,
-        3 => Change::AddService(rest.tokens()?, rest.list(layout.record_callers, Rest::aid)?),
+        3 => Change::AddService(rest.tokens()?, rest.list(1, layout.record_callers, Rest::aid)?),
         4 => Change::RemoveService(rest.tokens()?),
         5 => Change::AddCall(rest.row()?),
         6 => Change::RemoveCall(rest.row()?),
@@ -170,18 +176,24 @@ impl<'a> Rest<'a> {
     }
 
     fn lists(&mut self) -> Result<Lists, Malformed> {
-        let rows = self.layout.record_rows;
+        let Layout { services, count_bytes, record_rows, .. } = *self.layout;
         Ok(Lists {
-            provides: self.list(self.layout.services, Rest::tokens)?,
-            calls: self.list(rows, Rest::row)?,
-            grants: self.list(rows, Rest::row)?,
-            needs: self.list(rows, Rest::row)?,
+            provides: self.list(1, services, Rest::tokens)?,
+            calls: self.list(count_bytes, record_rows, Rest::row)?,
+            grants: self.list(count_bytes, record_rows, Rest::row)?,
+            needs: self.list(count_bytes, record_rows, Rest::row)?,
         })
     }
 
-    fn list<T>(&mut self, most: usize, row: impl Fn(&mut Self) -> Result<T, Malformed>) -> Result<Vec<T>, Malformed> {
+    /// A count of so many bytes, and its rows.
+    fn list<T>(
+        &mut self,
+        count_bytes: usize,
+        most: usize,
+        row: impl Fn(&mut Self) -> Result<T, Malformed>,
+    ) -> Result<Vec<T>, Malformed> {
         let at = self.at;
-        let written = usize::from(self.byte()?);
+        let written = self.take(count_bytes)?.iter().fold(0, |count, byte| count << 8 | usize::from(*byte));
         if written > most {
             return Err(Malformed { at, why: Why::Count { written, most } });
         }
@@ -190,21 +202,21 @@ impl<'a> Rest<'a> {
 }
 
 impl Record {
-    /// The record's bytes.
-    pub fn bytes(&self) -> Vec<u8> {
-        let mut bytes = vec![0, 0, VERSION_02.record, self.change.kind()];
+    /// The bytes that the record has for a card.
+    pub fn bytes(&self, card: &Layout) -> Vec<u8> {
+        let mut bytes = vec![0, 0, card.record, self.change.kind()];
         put_aid(&mut bytes, &self.aid);
         match &self.change {
             Change::Load(lists) | Change::Replace(lists) => {
-                put_list(&mut bytes, &lists.provides, put_tokens);
-                put_list(&mut bytes, &lists.calls, put_row);
-                put_list(&mut bytes, &lists.grants, put_row);
-                put_list(&mut bytes, &lists.needs, put_row);
+                put_list(&mut bytes, 1, &lists.provides, put_tokens);
+                for list in [&lists.calls, &lists.grants, &lists.needs] {
+                    put_list(&mut bytes, card.count_bytes, list, put_row);
+                }
             }
             Change::Remove => {}
             Change::AddService(tokens, callers) => {
                 put_tokens(&mut bytes, tokens);
-                put_list(&mut bytes, callers, put_aid);
+                put_list(&mut bytes, 1, callers, put_aid);
             }
             Change::RemoveService(tokens) => put_tokens(&mut bytes, tokens),
             Change::AddCall(row) | Change::RemoveCall(row) | Change::AddGrant(row) | Change::RemoveGrant(row) => {
@@ -231,8 +243,9 @@ fn put_row(bytes: &mut Vec<u8>, row: &Row) {
     put_tokens(bytes, &row.tokens);
 }
 
-fn put_list<T>(bytes: &mut Vec<u8>, list: &[T], put: fn(&mut Vec<u8>, &T)) {
-    bytes.push(list.len() as u8);
+fn put_list<T>(bytes: &mut Vec<u8>, count_bytes: usize, list: &[T], put: fn(&mut Vec<u8>, &T)) {
+    let count = list.len().to_be_bytes();
+    bytes.extend(&count[count.len() - count_bytes..]);
     list.iter().for_each(|item| put(bytes, item));
 }
 
@@ -308,7 +321,17 @@ impl fmt::Display for Why {
             Why::Length { written, bytes } => {
                 write!(f, "the length field says {written}, the record has {bytes} bytes")
             }
-            Why::Version(version) => write!(f, "the version is {version}, not {}", VERSION_02.record),
+            Why::Version(version, card) => match Layout::of_records(*version) {
+                Some(other) => {
+                    let whose = format!("a record of the {} card, and this card is {}", other.name, card.name);
+                    let text = "'cardtool decode' makes a text of it, which is judged on either";
+                    write!(f, "the version is {version}: {whose}; {text}")
+                }
+                None => {
+                    let [small, large] = Layout::CARDS.map(|card| format!("{} on the {} card", card.record, card.name));
+                    write!(f, "the version is {version}, and records have {small}, {large}")
+                }
+            },
             Why::Kind(kind) => write!(f, "the kind is {kind}, and there are 1 to 8 and 11"),
             Why::Retired(kind) => {
                 let (line, instead) = match kind {

@@ -5,7 +5,7 @@ use crate::contract::{Aid, Row, Tokens};
 use crate::fault::{Fault, Place};
 use crate::hex::to_hex;
 use crate::hexadecimal::Digits;
-use crate::layout::VERSION_02;
+use crate::layout::{Layout, VERSION_03};
 use crate::names::Names;
 use crate::record::{contradictions, Change, Lists, Part, Record, Why};
 use crate::words::{lines, Line, Word};
@@ -63,9 +63,10 @@ impl std::fmt::Display for Expected {
 }
 
 impl Placed {
-    pub fn bytes(&self) -> Vec<u8> {
+    /// The record's bytes for a card. Those of a line `record` are what they are.
+    pub fn bytes(&self, card: &Layout) -> Vec<u8> {
         match &self.written {
-            Written::Record(record) => record.bytes(),
+            Written::Record(record) => record.bytes(card),
             Written::Bytes(bytes) => bytes.clone(),
         }
     }
@@ -95,16 +96,18 @@ impl Placed {
     }
 }
 
-/// What a text says: records in order, and names.
-#[derive(Clone, Debug, Default, PartialEq, Eq)]
+/// What a text says to a card: records in order, and names.
+#[derive(Clone, Debug, PartialEq, Eq)]
 pub struct Text {
+    card: &'static Layout,
     pub records: Vec<Placed>,
     pub names: Names,
 }
 
-/// Reads a text, in which these names are given already. Records that contradict themselves are read too.
-pub fn read(text: &str, names: &Names) -> Result<Text, Fault> {
-    let mut read = Text { names: names.clone(), ..Text::default() };
+/// Reads a text of records for a card, in which these names are given already. Records that contradict themselves are
+/// read too.
+pub fn read(card: &'static Layout, text: &str, names: &Names) -> Result<Text, Fault> {
+    let mut read = Text { card, records: Vec::new(), names: names.clone() };
     for mut line in lines(text) {
         read.line(&mut line)?;
         line.finish()?;
@@ -179,7 +182,10 @@ impl Text {
         let mut number =
             |what: &str, numbers| line.next_if(|_| true).map(|word| number(word, what, numbers)).transpose();
         let expected = match word.text {
-            "accepted" => Expected::Accepted(number("package number", 0..=VERSION_02.packages as u32 - 1)?),
+            "accepted" => {
+                let what = format!("package number of the {} card", self.card.name);
+                Expected::Accepted(number(&what, 0..=self.card.packages as u32 - 1)?)
+            }
             "refused" => Expected::Refused(number("cause", 1..=LAST_CAUSE)?),
             _ => return Err(word.fault(format!("accepted or refused is expected, not '{}'", word.cut()))),
         };
@@ -200,14 +206,15 @@ impl Text {
             return Err(verb.fault(words));
         };
         no_expect(*expected, verb)?;
-        let most = VERSION_02.record_rows;
+        let card = self.card;
+        let rows = |card: &Layout| card.record_rows;
         let part = match said(verb, line, &self.names, Some(*aid))? {
             Some(Said::Provides(tokens)) => {
-                Part::Provides(put(&mut lists.provides, tokens, VERSION_02.services, verb)?)
+                Part::Provides(put(&mut lists.provides, tokens, card, |card| card.services, verb)?)
             }
-            Some(Said::Calls(row)) => Part::Calls(put(&mut lists.calls, row, most, verb)?),
-            Some(Said::Grants(row)) => Part::Grants(put(&mut lists.grants, row, most, verb)?),
-            Some(Said::Needs(row)) => Part::Needs(put(&mut lists.needs, row, most, verb)?),
+            Some(Said::Calls(row)) => Part::Calls(put(&mut lists.calls, row, card, rows, verb)?),
+            Some(Said::Grants(row)) => Part::Grants(put(&mut lists.grants, row, card, rows, verb)?),
+            Some(Said::Needs(row)) => Part::Needs(put(&mut lists.needs, row, card, rows, verb)?),
             None => return Err(no_line(verb)),
         };
         parts.insert(part, verb.place);
@@ -227,7 +234,8 @@ impl Text {
         };
         no_expect(*expected, verb)?;
         let caller = self.names.aid(line.next("the caller's AID")?)?;
-        parts.insert(Part::Callers(put(callers, caller, VERSION_02.record_callers, verb)?), verb.place);
+        let callers = put(callers, caller, self.card, |card| card.record_callers, verb)?;
+        parts.insert(Part::Callers(callers), verb.place);
         Ok(())
     }
 }
@@ -282,10 +290,19 @@ fn one_row(adds: bool, line: &mut Line, names: &Names, own: Aid) -> Result<Chang
     })
 }
 
-/// Puts an item at the end of its list, and gives its place there.
-fn put<T>(list: &mut Vec<T>, item: T, most: usize, verb: Word) -> Result<usize, Fault> {
+/// Puts an item at the end of its list, and gives its place there. A card says how many there may be.
+fn put<T>(
+    list: &mut Vec<T>,
+    item: T,
+    card: &Layout,
+    most: impl Fn(&Layout) -> usize,
+    verb: Word,
+) -> Result<usize, Fault> {
+    let (most, larger) = (most(card), most(&VERSION_03));
     if list.len() == most {
-        return Err(verb.fault(format!("a record has at most {most} lines with '{}'", verb.text)));
+        let words = format!("a record of the {} card has at most {most} lines with '{}'", card.name, verb.text);
+        let more = if larger > most { format!(", one of the large card (--large) {larger}") } else { String::new() };
+        return Err(verb.fault(words + &more));
     }
     list.push(item);
     Ok(list.len() - 1)

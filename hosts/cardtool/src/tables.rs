@@ -141,6 +141,14 @@ impl Tables {
         image
     }
 
+    /// The same in a layout that has as many numbers at least.
+    pub fn on(&self, layout: &'static Layout) -> Tables {
+        let mut tables = Tables { layout, ..self.clone() };
+        tables.packages.resize(layout.packages, None);
+        tables.packages.iter_mut().flatten().for_each(|package| package.services.resize(layout.services, None));
+        tables
+    }
+
     /// The packages on the card, each after its number.
     pub fn installed(&self) -> impl Iterator<Item = (usize, &Package)> {
         self.packages.iter().enumerate().filter_map(|(number, package)| Some((number, package.as_ref()?)))

@@ -67,17 +67,17 @@ fn disagreement(words: String) -> String {
 }
 
 const IMAGE: Takes = Takes::File("IMAGE");
-const COMMANDS: [Command; 11] = [
+const COMMANDS: [Command; 12] = [
     Command {
         name: "encode",
         about: "records as text -> their bytes, a line of hexadecimal for each record",
         takes: &[Takes::File("FILE")],
-        options: &["--raw", "--as-is", "--names", "--out", "--json"],
+        options: &["--large", "--raw", "--as-is", "--names", "--out", "--json"],
         run: records::encode,
     },
     Command {
         name: "decode",
-        about: "records, a line of hexadecimal each -> text",
+        about: "records of either card, a line of hexadecimal each -> text",
         takes: &[Takes::File("FILE")],
         options: &["--raw", "--names", "--out", "--json"],
         run: records::decode,
@@ -86,21 +86,23 @@ const COMMANDS: [Command; 11] = [
         name: "judge",
         about: "records -> what a card answers to each, from the empty image on, and why it refuses",
         takes: &[Takes::File("FILE")],
-        options: &["--from", "--image", "--both", "--save", "--each", "--raw", "--names", "--out", "--json"],
+        options: &[
+            "--from", "--image", "--large", "--both", "--save", "--each", "--raw", "--names", "--out", "--json",
+        ],
         run: judge::judge,
     },
     Command {
         name: "show",
-        about: "an image, a dump in hexadecimal, of version 02 or 01 -> text; if it is not sound, each reason with its byte",
+        about: "an image of either card, a dump in hexadecimal, or of version 01 -> text; if it is not sound, each reason with its byte",
         takes: &[Takes::File("FILE")],
         options: &["--raw", "--names", "--out", "--json"],
         run: images::show,
     },
     Command {
         name: "build",
-        about: "a sound image as text -> its bytes in version 02, a dump in hexadecimal",
+        about: "a sound image as text -> its bytes, a dump in hexadecimal",
         takes: &[Takes::File("FILE")],
-        options: &["--raw", "--names", "--out", "--json"],
+        options: &["--large", "--raw", "--names", "--out", "--json"],
         run: images::build,
     },
     Command {
@@ -145,17 +147,25 @@ const COMMANDS: [Command; 11] = [
         options: &["--raw", "--save", "--names", "--out", "--json"],
         run: images::convert,
     },
+    Command {
+        name: "enlarge",
+        about: "an image of the small card, a dump in hexadecimal -> the large card, with the numbers and the order of the lists",
+        takes: &[Takes::File("FILE")],
+        options: &["--raw", "--save", "--names", "--out", "--json"],
+        run: images::enlarge,
+    },
 ];
 
 /// Each option, what follows it, and what it does.
-const OPTIONS: [(&str, &str, &str); 13] = [
+const OPTIONS: [(&str, &str, &str); 14] = [
     ("--raw", "", "bytes, not hexadecimal, for records (one after another) and images; a text stays a text"),
     ("--as-is", "", "write a record too that contradicts itself, which a card answers with 3"),
     ("--record", "", "the input is records, not an image"),
     ("--from", "FORM", "what the records are: text (if nothing is said), hex (a line each) or raw (one after another)"),
     ("--image", "FILE", "begin with this image, not with the empty one"),
+    ("--large", "", "for the large card, with 16 packages of 16 services, not for the small one"),
     ("--both", "", "let the second engine answer too, and fail where it differs"),
-    ("--save", "FILE", "write the image there: the one after the last record, or the converted one"),
+    ("--save", "FILE", "write the image there: the one after the last record, the converted or the enlarged one"),
     ("--each", "DIRECTORY", "write the image after each record there, as 1.image, 2.image and so on"),
     ("--reach", "", "draw who reaches whom, through others too"),
     ("--names", "FILE", "a text whose 'name' lines give packages and services their names"),

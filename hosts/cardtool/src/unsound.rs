@@ -2,7 +2,7 @@
 
 use crate::contract::{Aid, Tokens};
 use crate::fault::Fault;
-use crate::layout::{bits, Image, Table, AID, VERSION_01, VERSION_02};
+use crate::layout::{bits, Image, Layout, Table, AID, VERSION_01, VERSION_02, VERSION_03};
 use crate::names::Names;
 use crate::tables::aid;
 use crate::words::{counted, cut};
@@ -12,9 +12,13 @@ pub const OLD: &str = "the image has version 01, and has to be converted before 
 
 /// The image, where some layout has its size.
 pub fn sized(bytes: &[u8]) -> Result<Image<'_>, Fault> {
-    let [old, new] = [&VERSION_01, &VERSION_02].map(|layout| layout.size());
-    let words = || format!("an image has {new} bytes, or {old} in version 01, here are {}", bytes.len());
-    Image::new(bytes).ok_or_else(|| Fault::byte(bytes.len().min(new), words()))
+    Image::new(bytes).ok_or_else(|| {
+        let begun = Layout::ALL.into_iter().find(|layout| bytes.starts_with(&layout.header));
+        let [small, large, old] = [&VERSION_02, &VERSION_03, &VERSION_01].map(|layout| layout.size());
+        let words = format!("an image has {small} bytes, of a large card {large}, or {old} in version 01");
+        let place = bytes.len().min(begun.unwrap_or(&VERSION_02).size());
+        Fault::byte(place, format!("{words}, here are {}", bytes.len()))
+    })
 }
 
 /// Everything that keeps an image from being sound; nothing when it is sound. One of version 01 is judged by the last
@@ -96,8 +100,8 @@ impl Look<'_> {
         let at = layout.aid_at(number);
         if !self.image.used(number) {
             self.zero(at, AID, &format!("package {number} is not used, and its AID's place"));
-            let provides = (layout.provides_at(number), layout.bit_bytes());
-            self.zero(provides.0, provides.1, &format!("package {number} is not used, and its provides byte"));
+            let provides = format!("package {number} is not used, and what it provides");
+            self.zero(layout.provides_at(number), layout.bit_bytes(), &provides);
             return;
         }
         if self.valid_aid(at, &format!("the AID of {}", self.named(number))) {

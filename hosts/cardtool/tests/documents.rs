@@ -100,13 +100,13 @@ fn the_readmes_card_is_judged_as_it_says() {
 #[test]
 fn the_testers_commands_print_what_stands_there() {
     let place = Place::with("testers", "", &["examples", "docs/clubhouse.svg"]);
-    assert_eq!(place.run(&document("docs/TESTERS.md")), 37);
+    assert_eq!(place.run(&document("docs/TESTERS.md")), 45);
 }
 
 #[test]
 fn the_worked_dump_is_what_the_tool_prints() {
     let place = Place::with("formats", "", &["examples"]);
-    assert_eq!(place.run(&document("docs/FORMATS.md")), 7);
+    assert_eq!(place.run(&document("docs/FORMATS.md")), 12);
 }
 
 /// The repository's parts that a host in C or Rust takes, as `engine/`.

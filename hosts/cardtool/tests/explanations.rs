@@ -31,17 +31,17 @@ load purse
 ";
 
 fn text(records: &str) -> Text {
-    read(&format!("{NAMES}{records}"), &Names::default()).expect("a text")
+    read(&VERSION_02, &format!("{NAMES}{records}"), &Names::default()).expect("a text")
 }
 
 /// Judges each record of a text and explains it, from the empty image on. All but the last are accepted.
 fn last(records: &str) -> (Explained, Names) {
-    let Text { records, names } = text(records);
+    let Text { records, names, .. } = text(records);
     let mut image = vec![0; VERSION_02.size()];
     answering().empty(&mut image);
     let mut explained = records.iter().map(|placed| {
-        let said = explain(&image, &placed.bytes(), &names);
-        assert_eq!(said.answer, answering().judge(&mut image, &placed.bytes()).answer, "{said:?}");
+        let said = explain(&image, &placed.bytes(&VERSION_02), &names);
+        assert_eq!(said.answer, answering().judge(&mut image, &placed.bytes(&VERSION_02)).answer, "{said:?}");
         let after = Tables::of(&image, &names).expect("a sound image").contracts();
         assert_eq!(said.after, (said.answer == 0).then_some(after));
         assert_eq!(said.reasons.is_empty(), said.answer == 0);
@@ -96,7 +96,10 @@ fn cause_1_each_fault_has_its_byte() {
     let header = (Some(1), "byte 1: here is 46, and the header has 56".to_string());
     let place = (Some(4), "byte 4: package 0 is not used, and its AID's place is not zero but 05".to_string());
     assert_eq!(bytes(&image, b""), (1, vec![header, place]));
-    let size = (Some(7), "byte 7: an image has 1110 bytes, or 1094 in version 01, here are 7".to_string());
+    let size = (
+        Some(7),
+        "byte 7: an image has 1110 bytes, of a large card 3639, or 1094 in version 01, here are 7".to_string(),
+    );
     assert_eq!(bytes(&image[..7], b""), (1, vec![size]));
 }
 
@@ -121,6 +124,10 @@ fn cause_2_has_its_byte() {
     };
     malformed(b"", 0, "the record ends here, and bytes are missing");
     malformed(&[0, 4, 1, 12], 3, "the kind is 12, and there are 1 to 8 and 11");
+    let other = "the version is 2: a record of the large card, and this card is small; \
+                 'cardtool decode' makes a text of it, which is judged on either";
+    malformed(&[0, 4, 2, 12], 2, other);
+    malformed(&[0, 4, 0, 12], 2, "the version is 0, and records have 1 on the small card, 2 on the large card");
     malformed(&[0, 5, 1, 2, 4], 4, "the AID's length is 4, not 5 to 16");
     malformed(&[0, 12, 1, 4, 5, 0xF0, 0, 0, 0, 1, 0, 128], 11, "the method token is 128, not 0 to 127");
 }

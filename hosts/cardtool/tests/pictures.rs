@@ -2,7 +2,7 @@
 //! the picture and clear of each other. How it looks is not held here.
 
 use cardtool::contract::{Aid, Tokens};
-use cardtool::layout::{Layout, VERSION_02};
+use cardtool::layout::{Layout, VERSION_02, VERSION_03};
 use cardtool::names::Names;
 use cardtool::tables::{Bit, Package, Tables, Unmet, Waiting};
 use cardtool::{draw, engines, image_text, reach, record_text};
@@ -12,11 +12,11 @@ const CLUBHOUSE: &str = include_str!("../../../examples/clubhouse.txt");
 
 /// The card after the records of a text, whose answers are as expected.
 fn card(text: &str) -> (Tables, Names) {
-    let text = record_text::read(text, &Names::default()).unwrap_or_else(|fault| panic!("{fault}"));
+    let text = record_text::read(&VERSION_02, text, &Names::default()).unwrap_or_else(|fault| panic!("{fault}"));
     let mut image = vec![0; VERSION_02.size()];
     engines::answering().empty(&mut image);
     for placed in &text.records {
-        let verdict = engines::answering().judge(&mut image, &placed.bytes());
+        let verdict = engines::answering().judge(&mut image, &placed.bytes(&VERSION_02));
         let first = placed.first_line(&text.names);
         let (_, expected) = placed.expected.unwrap_or_else(|| panic!("{first}: nothing is expected"));
         assert!(expected.holds(verdict.answer, verdict.second), "{first}: {verdict:?}, not {expected}");
@@ -26,7 +26,7 @@ fn card(text: &str) -> (Tables, Names) {
 
 /// The card of an image's text, without names.
 fn image(text: &str) -> (Tables, Names) {
-    let image = image_text::read(text, &Names::default()).unwrap_or_else(|fault| panic!("{fault}"));
+    let image = image_text::read(&VERSION_02, text, &Names::default()).unwrap_or_else(|fault| panic!("{fault}"));
     (Tables::of(&image, &Names::default()).expect("a sound image"), Names::default())
 }
 
@@ -60,8 +60,6 @@ load the-purse-of-the-members-and-guests
 expect accepted
 ";
 
-static LARGE: Layout = Layout { packages: 16, services: 16, rows: 32, ..VERSION_02 };
-
 /// A card of so many packages, of which each calls every `apart`th service of the others, and whose lists are full.
 fn full(layout: &'static Layout, apart: usize) -> (Tables, Names) {
     let mut tables = Tables::empty(layout);
@@ -92,7 +90,7 @@ fn full(layout: &'static Layout, apart: usize) -> (Tables, Names) {
 fn cards() -> Vec<(Tables, Names)> {
     let one = "package 3 F000000001\nservice 2 255.127\nwaiting F000000001 grants 255.127 to F000000002\n";
     let apart = "package 0 F000000001\npackage 7 F000000002\n";
-    let fulls = [full(&VERSION_02, 1), full(&VERSION_02, 7), full(&LARGE, 1), full(&LARGE, 50)];
+    let fulls = [full(&VERSION_02, 1), full(&VERSION_02, 7), full(&VERSION_03, 1), full(&VERSION_03, 50)];
     [card(CLUBHOUSE), card(LONG), image(""), image(one), image(apart)].into_iter().chain(fulls).collect()
 }
 

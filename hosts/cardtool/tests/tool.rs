@@ -130,7 +130,8 @@ fn files_and_names() {
     let words = format!("{story}: line 1, column 1: 'l' is no hexadecimal digit");
     fails(&format!("judge --image {story}"), b"", BAD_INPUT, &words);
     // The place is in the image's file, not in that of the records.
-    let words = format!("{names}: byte 19: an image has 1110 bytes, or 1094 in version 01, here are 19");
+    let words =
+        format!("{names}: byte 19: an image has 1110 bytes, of a large card 3639, or 1094 in version 01, here are 19");
     fails(&format!("judge --raw --image {names}"), b"", BAD_INPUT, &words);
     fails(&format!("show --names {image}"), b"", BAD_INPUT, &format!("{image}: line 1, column 4: '0:' begins no line: there are load, replace, unload, add, remove, record, expect and name, the rows provides, calls, grants and needs, and to"));
 }
@@ -185,7 +186,11 @@ fn bad_input_is_1_with_its_place() {
             b"\x00\x0A\x01\x02\x05\xF0\x00\x00\x00\x01\x00\x04\x01\x0C",
             "byte 13: record 2: the kind is 12, and there are 1 to 8 and 11",
         ),
-        ("build", b"package 9", "line 1, column 9: '9' is not a number from 0 to 7"),
+        (
+            "build",
+            b"package 9",
+            "line 1, column 9: '9' is not a number from 0 to 7: a large card has it, after a line 'card large'",
+        ),
         (
             "dump --record",
             b"00 0A 01 02 04 F0 00 00 00 01",
@@ -195,8 +200,9 @@ fn bad_input_is_1_with_its_place() {
     for (command, input, words) in cases {
         fails(command, input, BAD_INPUT, &format!("standard input: {words}"));
     }
-    for command in ["show", "dump", "convert"] {
-        let words = "standard input: byte 2: an image has 1110 bytes, or 1094 in version 01, here are 2";
+    for command in ["show", "dump", "convert", "enlarge"] {
+        let words =
+            "standard input: byte 2: an image has 1110 bytes, of a large card 3639, or 1094 in version 01, here are 2";
         fails(command, b"04 56", BAD_INPUT, words);
     }
     let words = "standard input: byte 2: here is 03, and the header has 02\n\
@@ -297,6 +303,222 @@ fn an_old_image_is_converted() {
         "standard input: byte 808: package 0 does not provide service 2",
     );
     assert!(!Path::new(&absent).exists());
+}
+
+/// The records of the story for the large card, whose counts of calls, grants and needs have two bytes.
+const LARGE_HEX: &str = "\
+00 1B 02 01 05 F0 00 00 00 01 01 00 00 00 00 00 01 05 F0 00 00 00 02 00 00 00 00
+00 19 02 01 05 F0 00 00 00 03 00 00 01 05 F0 00 00 00 01 00 00 00 00 00 00
+00 21 02 01 05 F0 00 00 00 02 00 00 01 05 F0 00 00 00 01 00 00 00 00 00 01 05 F0 00 00 00 01 00 00
+00 0A 02 02 05 F0 00 00 00 01
+";
+
+/// A text is written for the card that it is judged on, and what comes of it is the same but for the sizes.
+#[test]
+fn the_large_card_takes_the_same_texts() {
+    assert_eq!(text("encode --large", STORY), LARGE_HEX);
+    let again = "# of the large card: 'cardtool encode --large' makes these bytes again\n";
+    assert_eq!(text("decode", LARGE_HEX), format!("{again}{STORY}"));
+    let raw = tool("encode --large --raw", STORY.as_bytes()).expect("bytes");
+    assert_eq!(tool("decode --raw", &raw), Ok(format!("{again}{STORY}").into_bytes()));
+    assert_eq!(text("encode --large", &text("decode", LARGE_HEX)), LARGE_HEX);
+    let both = "# of both cards: 'cardtool encode' writes all for the small card, 'cardtool encode --large' for the large one\n";
+    let hex = format!("{}{LARGE_HEX}", text("encode", STORY));
+    assert_eq!(text("decode", &hex), format!("{both}{STORY}{STORY}"));
+    let dump = text("dump --record", LARGE_HEX);
+    assert!(dump.contains("  2: 02 ") && dump.contains("# version: a record of the large card\n"), "{dump}");
+    assert!(dump.contains("  13: 00 00 ") && dump.contains("# count of calls\n"), "{dump}");
+
+    let (small, large) = (story_image("same-small"), absent("same-large"));
+    let engine = "# answers of the proved engine on a large card\n";
+    let judged = text(&format!("judge --large --save {large}"), STORY);
+    assert_eq!(judged, text("judge", STORY).replace(ENGINE, engine));
+    assert!(text("judge --from hex --large", LARGE_HEX).ends_with("\n2 accepted, 2 refused\n"));
+    let both = text("judge --large --both", STORY);
+    assert!(both.starts_with(&format!("{}, and the same of the second engine (not proved)\n", engine.trim_end())));
+    let shown = text(&format!("show {large}"), "");
+    assert_eq!(shown, format!("card large\n{}", text(&format!("show {small}"), "")));
+    let dump = fs::read_to_string(&large).expect("a file");
+    assert!(dump.starts_with("   0: 0E 37 03 ") && dump.ends_with("\n3639:\n"), "{dump}");
+    assert_eq!((text("build", &shown), text("dump", &dump)), (dump.clone(), dump.clone()));
+    let small_text = shown.replace("card large\n", "");
+    assert_eq!(text("build --large", &small_text), dump);
+    assert_eq!(
+        text("build --large", &format!("card small\n{small_text}")),
+        fs::read_to_string(&small).expect("a file")
+    );
+    let bytes = tool("build --raw", shown.as_bytes()).expect("an image");
+    assert_eq!((bytes.len(), tool("show", &bytes)), (3639, Ok(shown.into_bytes())));
+    for command in ["who IMAGE 0", "draw IMAGE", "draw IMAGE --reach"] {
+        assert_eq!(text(&command.replace("IMAGE", &large), ""), text(&command.replace("IMAGE", &small), ""));
+    }
+    let same = "the contracts are the same; the versions of the images are not\n";
+    assert_eq!(text(&format!("diff {small} {large}"), ""), same);
+    let load = "load F000000002\n    calls F000000001 0.0\n    needs F000000001 0.0\n";
+    let first = "# package 1 of a large card, read out by the proved engine\n";
+    assert_eq!(text(&format!("readout {large} 1"), ""), format!("{first}{load}"));
+    let json = text(&format!("readout {large} 1 --json"), "");
+    assert!(json.contains(LARGE_HEX.lines().nth(2).expect("a line")), "{json}");
+    assert_eq!(
+        text(&format!("judge --image {large}"), "unload F000000002"),
+        format!("{engine}1 unload F000000002: accepted, package 1\n1 accepted, 0 refused\n")
+    );
+}
+
+/// A small card is enlarged as the tool works it out itself, and then has room.
+#[test]
+fn a_card_is_enlarged() {
+    let (small, large, again) = (story_image("enlarged-small"), absent("enlarged"), absent("enlarged-again"));
+    let counts = "2 packages, 0 unmet calls, 0 waiting grants";
+    let said = format!("# enlarged by the proved engine\nenlarged to version 03: {counts}\n");
+    assert_eq!(text(&format!("enlarge {small} --save {large}"), ""), said);
+    assert_eq!(text("build --large", &text(&format!("show {small}"), "")), fs::read_to_string(&large).expect("a file"));
+    let raw = tool("build --raw", text(&format!("show {small}"), "").as_bytes()).expect("an image");
+    tool(&format!("enlarge --raw --save {again}"), &raw).expect("enlarged");
+    assert_eq!(fs::read(&again).expect("a file").len(), 3639);
+    fails(
+        &format!("enlarge {large}"),
+        b"",
+        BAD_INPUT,
+        &format!("{large}: byte 2: the card is large: there is nothing to enlarge"),
+    );
+    let words = format!("{large}: byte 2: the image has version 03: there is nothing to convert");
+    fails(&format!("convert {large}"), b"", BAD_INPUT, &words);
+    let old = "the image has version 01, and has to be converted before it can be judged: 'cardtool convert'";
+    fails("enlarge", OLD.as_bytes(), BAD_INPUT, &format!("standard input: byte 2: {old}"));
+    // One that is not sound is not enlarged, and nothing is saved.
+    let (unsound, none) =
+        (fs::read_to_string(&small).expect("a file").replace("340: 00 01", "340: 00 00"), absent("not-enlarged"));
+    let words = "standard input: byte 284: calls: package 0 does not grant package 1 its service 0";
+    fails(&format!("enlarge --save {none}"), unsound.as_bytes(), BAD_INPUT, words);
+    assert!(!Path::new(&none).exists());
+    let words = "--large and --image: an image says itself which card it is; 'cardtool enlarge' makes a large one of a small one";
+    fails(&format!("judge --large --image {large}"), b"", BAD_USE, words);
+}
+
+/// Each limit of the card at hand, in a text and in an answer.
+#[test]
+fn limits_are_those_of_the_card() {
+    let loads: String = (1..=17).map(|n| format!("load F0000000{n:02}\n")).collect();
+    let packages = |count: usize| (1..=count).map(|n| format!("F0000000{n:02}")).collect::<Vec<_>>().join(", ");
+    for (option, count) in [("", 8), ("--large", 16)] {
+        let full = format!("line {}: all {count} package numbers are used: {}\n", count + 1, packages(count));
+        assert!(text(&format!("judge {option}"), &loads).contains(&full));
+    }
+    let rows = |row: &str, count: usize| {
+        (0..count).map(|n| row.replace('N', &format!("{}.{}", n / 100, n % 100))).collect::<String>()
+    };
+    let load = |row: &str, count: usize| format!("load F000000001\n{}", rows(row, count));
+    let (calls, grants, provides) = ("calls F000000002 N\n", "grants N to F000000002\n", "provides N\n");
+    for (option, listed) in [("", 16), ("--large", 32)] {
+        let judged = |row: &str, count: usize| text(&format!("judge {option}"), &load(row, count));
+        assert!(judged(calls, listed).contains("1 load F000000001: accepted, package 0\n"));
+        let more = listed + 1;
+        let unmet =
+            format!("{more} calls would be unmet, at most {listed} may be, and this record brings {more} of them");
+        assert!(judged(calls, more).contains(&unmet));
+        let waiting = format!("{more} grants would wait, at most {listed} may, and this record brings {more} of them");
+        assert!(judged(grants, more).contains(&waiting));
+    }
+    let at_most = |row: &str, most: usize, large: usize| {
+        let verb = row.split(' ').next().unwrap_or("");
+        text("encode", &load(row, most));
+        text("encode --large", &load(row, large));
+        let place = |most: usize| format!("standard input: line {}, column 1: a record of", most + 2);
+        let words = format!(
+            "{} the small card has at most {most} lines with '{verb}', one of the large card (--large) {large}",
+            place(most)
+        );
+        fails("encode", load(row, most + 1).as_bytes(), BAD_INPUT, &words);
+        let words = format!("{} the large card has at most {large} lines with '{verb}'", place(large));
+        fails("encode --large", load(row, large + 1).as_bytes(), BAD_INPUT, &words);
+    };
+    at_most(provides, 8, 16);
+    at_most(calls, 72, 272);
+    at_most(grants, 72, 272);
+    // Callers are as many on both.
+    let callers = |count: usize| {
+        let to = |n: usize| format!("to F0000001{n:02}\n");
+        format!("add F000000001 provides 0.0\n{}", (0..count).map(to).collect::<String>())
+    };
+    for (option, card) in [("", "small"), ("--large", "large")] {
+        text(&format!("encode {option}"), &callers(32));
+        let words =
+            format!("standard input: line 34, column 1: a record of the {card} card has at most 32 lines with 'to'");
+        fails(&format!("encode {option}"), callers(33).as_bytes(), BAD_INPUT, &words);
+    }
+    assert!(text("judge --large", &format!("{loads}expect refused 7\nunload F000000016\nexpect accepted 15\n"))
+        .contains("2 of 2 as expected"));
+    let words = "standard input: line 2, column 17: '8' is no package number of the small card: there are 0 to 7";
+    fails("judge", b"load F000000001\nexpect accepted 8\n", BAD_INPUT, words);
+    // Of an image's text.
+    text("build", "card large\npackage 15 F000000001\n service 15 0.0\n");
+    for (word, fault) in [
+        ("package 16 F000000001", "line 2, column 9: '16' is not a number from 0 to 15"),
+        ("package 15 F000000001\n service 16 0.0", "line 3, column 10: '16' is not a number from 0 to 15"),
+        ("package 0 F000000001\ncard small", "line 3, column 1: 'card' stands above the first package"),
+        ("card huge", "line 2, column 6: small or large is expected, not 'huge'"),
+        ("card", "line 2, column 5: small or large is missing"),
+    ] {
+        fails("build", format!("card large\n{word}").as_bytes(), BAD_INPUT, &format!("standard input: {fault}"));
+    }
+    let unmet = |count: usize| {
+        format!("card large\npackage 0 F000000001\n{}", rows("unmet F000000001 calls F000000002 N\n", count))
+    };
+    text("build", &unmet(32));
+    let words = "standard input: line 35, column 1: an image of a large card has at most 32 unmet calls";
+    fails("build", unmet(33).as_bytes(), BAD_INPUT, words);
+}
+
+/// A record of the other card's version is refused with 2, and it is said what can be done.
+#[test]
+fn a_record_of_the_other_card() {
+    let text_of = "'cardtool decode' makes a text of it, which is judged on either";
+    for (option, record, words) in [
+        ("", "00 0A 02 02 05 F0 00 00 00 01", "the version is 2: a record of the large card, and this card is small"),
+        (
+            "--large",
+            "00 0A 01 02 05 F0 00 00 00 01",
+            "the version is 1: a record of the small card, and this card is large",
+        ),
+    ] {
+        let said = text(&format!("judge {option}"), &format!("record {record}\nexpect refused 2\n"));
+        assert!(said.contains(&format!("\n    line 1: byte 2: {words}; {text_of}\n")), "{said}");
+        let said = text(&format!("judge {option} --from hex"), record);
+        let first = "1 unload F000000001: refused, 2: the record is malformed\n";
+        assert!(said.contains(&format!("{first}    line 1: byte 2: {words}; {text_of}\n")), "{said}");
+        let decoded = text("decode", record);
+        assert!(text(&format!("judge {option}"), &decoded).contains("1 unload F000000001: refused, 5: "));
+    }
+    // Records as bytes go the same way, with --raw.
+    let raw = tool("encode --raw", b"unload F000000001").expect("bytes");
+    assert_eq!(tool("decode --raw", &raw), Ok(b"unload F000000001\n".to_vec()));
+    let zero = "standard input: line 1, column 1: '\\u{0}' is no hexadecimal digit; of records' own bytes say";
+    fails("decode", b"\0\x0A", BAD_INPUT, &format!("{zero} --raw"));
+    fails("dump --record", b"\0\x0A", BAD_INPUT, &format!("{zero} --raw"));
+    fails("judge --from hex", b"\0\x0A", BAD_INPUT, &format!("{zero} --from raw"));
+    let words = "standard input: line 1, column 7: byte 2: the version is 3, and records have 1 on the small card, 2 on the large card";
+    fails("decode", b"00 0A 03 02 05 F0 00 00 00 01", BAD_INPUT, words);
+    let words = "standard input: line 1, column 31: byte 10: the count is 17, at most 16 may stand here";
+    fails("decode", b"00 0B 02 01 05 F0 00 00 00 01 11", BAD_INPUT, words);
+    let words = "standard input: line 1, column 34: byte 11: the count is 273, at most 272 may stand here";
+    fails("decode", b"00 0D 02 01 05 F0 00 00 00 01 00 01 11", BAD_INPUT, words);
+}
+
+/// An image whose length is no card's; of one that begins as a large card, the place is there.
+#[test]
+fn an_image_of_neither_size() {
+    let sizes = "an image has 1110 bytes, of a large card 3639, or 1094 in version 01";
+    for (begin, length, place) in
+        [("04 56 02", 1109, 1109), ("04 56 02", 1200, 1110), ("0E 37 03", 1200, 1200), ("0E 37 03", 3640, 3639)]
+    {
+        let words = format!("standard input: byte {place}: {sizes}, here are {length}");
+        fails("show", format!("{begin}\n{length}:").as_bytes(), BAD_INPUT, &words);
+    }
+    let words = "standard input: byte 0: here is 04, and the header has 0E\n\
+                 standard input: byte 1: here is 56, and the header has 37\n\
+                 standard input: byte 2: here is 02, and the header has 03";
+    fails("show", b"04 56 02\n3639:", BAD_INPUT, words);
 }
 
 /// Grants of services that are not provided, as records and in an image.
@@ -638,12 +860,14 @@ fn everything_is_printed_as_json_too() {
     let hex = file("json-hex", text("encode", STORY));
     for (arguments, part) in [
         (format!("encode {story}"), "\"record\": \"unload F000000001\""),
-        (format!("decode {hex}"), "\"kind\": 1"),
+        (format!("decode {hex}"), "\"card\": \"small\",\n      \"kind\": 1"),
         (format!("judge {story}"), "\"cause\": \"a met call would stand without its grant\""),
         (format!("show {image}"), "\"version\": \"02\""),
         (format!("dump {image}"), "\"words\": \"length, version\""),
         (format!("dump --record {hex}"), "\"words\": \"kind 2: remove the package\""),
         (format!("convert {old}"), "\"engine\": \"the proved engine\""),
+        (format!("enlarge {image}"), "\"card\": \"large\",\n    \"version\": \"03\""),
+        (format!("judge --large {story}"), "\"card\": \"large\""),
         (format!("who {image} 0"), "\"provided\": true"),
         (format!("readout {image} 0"), "\"number\": 0"),
         (format!("diff {image} {image}"), "\"same\": true"),
@@ -664,7 +888,7 @@ fn everything_is_printed_as_json_too() {
     let printed = fails_after(
         "show --json",
         "04",
-        "standard input: byte 1: an image has 1110 bytes, or 1094 in version 01, here are 1",
+        "standard input: byte 1: an image has 1110 bytes, of a large card 3639, or 1094 in version 01, here are 1",
     );
     assert!(well_formed(&printed) && printed.contains("\"byte\": 1"), "{printed}");
 }
@@ -729,14 +953,14 @@ fn what_editors_leave_is_taken() {
     fails("encode", format!("load {long}").as_bytes(), BAD_INPUT, &words);
 }
 
-const COMMANDS: &str = "encode, decode, judge, show, build, who, readout, diff, draw, dump, convert";
+const COMMANDS: &str = "encode, decode, judge, show, build, who, readout, diff, draw, dump, convert, enlarge";
 
 #[test]
 fn bad_use_is_2() {
     let there = format!("there are {COMMANDS}, --help and --version");
     fails("code", b"", BAD_USE, &format!("'code' is no command; {there}"));
     fails("", b"", BAD_USE, &format!("a command is missing; {there}"));
-    let words = "'--both' is no option of encode; there are --raw, --as-is, --names, --out, --json";
+    let words = "'--both' is no option of encode; there are --large, --raw, --as-is, --names, --out, --json";
     fails("encode --both", b"", BAD_USE, words);
     fails("encode --out", b"", BAD_USE, "--out lacks its FILE");
     fails("judge --each", b"", BAD_USE, "--each lacks its DIRECTORY");

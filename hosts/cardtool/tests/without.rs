@@ -26,6 +26,12 @@ fn every_answer_says_whose_it_is() {
     assert!(judged.starts_with(&format!("# answers of {second}\n1 load log: accepted, package 0\n")), "{judged}");
     assert!(printed(&["judge", "--json", "examples/club.txt"]).contains(&format!("\"engine\": \"{second}\"")));
     assert!(printed(&["convert", "examples/old.image"]).starts_with(&format!("# converted by {second}\n")));
+    let judged = printed(&["judge", "--large", "examples/county.txt"]);
+    assert!(judged.starts_with(&format!("# answers of {second} on a large card\n1 load log: accepted, package 0\n")));
+    assert!(judged.ends_with("12 accepted, 2 refused, 14 of 14 as expected\n"), "{judged}");
+    let image = concat!(env!("CARGO_TARGET_TMPDIR"), "/without.image");
+    printed(&["judge", "examples/club.txt", "--save", image]);
+    assert!(printed(&["enlarge", image]).starts_with(&format!("# enlarged by {second}\n")));
 }
 
 #[test]

@@ -4,7 +4,7 @@ use super::{Command, Takes, Trouble, OPTIONS};
 use crate::dump;
 use crate::fault::{Fault, Place};
 use crate::hexadecimal;
-use crate::layout::{Image, Layout, VERSION_02};
+use crate::layout::{Image, Layout, VERSION_02, VERSION_03};
 use crate::names::Names;
 use crate::program::Failure;
 use crate::record_text::{self, Text};
@@ -44,6 +44,7 @@ pub struct Call {
     pub record: bool,
     pub form: Form,
     pub image: Option<Input>,
+    pub large: bool,
     pub both: bool,
     pub save: Option<String>,
     pub each: Option<String>,
@@ -86,6 +87,7 @@ impl Call {
                 "--record" => call.record = true,
                 "--from" => call.form = form(value.as_deref())?,
                 "--image" => image = value,
+                "--large" => call.large = true,
                 "--both" => call.both = true,
                 "--save" => call.save = value,
                 "--each" => call.each = value,
@@ -95,12 +97,19 @@ impl Call {
                 _ => call.json = true,
             }
         }
+        if call.large && image.is_some() {
+            let words = "--large and --image: an image says itself which card it is";
+            return Err(
+                Failure::bad_use(format!("{words}; 'cardtool enlarge' makes a large one of a small one")).into()
+            );
+        }
         let files = call.take(command, &given)?;
         call.read = files.iter().flatten().chain(&names).chain(&image).cloned().collect();
         no_overwriting(&call.read, call.save.iter().chain(&call.out))?;
         if let Some(file) = names {
             let names = Input { bytes: read_file(&file)?, name: file };
-            call.names = names.text(&Names::default())?.names;
+            // Its records may be for any card.
+            call.names = names.text(&VERSION_03, &Names::default())?.names;
         }
         if let Some(file) = image {
             call.image = Some(Input { bytes: read_file(&file)?, name: file });
@@ -166,10 +175,7 @@ impl Call {
             return Ok(input.bytes.clone());
         }
         let read = utf8(&input.bytes).and_then(hexadecimal::dump);
-        read.map_err(|fault| match input.bytes.contains(&0) {
-            true => input.bad(Fault { words: format!("{}; of an image's own bytes say --raw", fault.words), ..fault }),
-            false => input.bad(fault),
-        })
+        read.map_err(|fault| input.no_text(fault, "of an image's own bytes say --raw"))
     }
 
     /// The tables of a sound image that was read.
@@ -188,20 +194,29 @@ impl Call {
         self.names.used_in(&text).text() + &text
     }
 
-    /// The bytes of an image of version 02 as they are written: raw, or a dump.
+    /// The bytes of an image as they are written: raw, or a dump.
     pub fn image_out(&self, image: &[u8]) -> Vec<u8> {
-        match self.raw {
-            true => image.to_vec(),
-            false => dump::image(Image { layout: &VERSION_02, bytes: image }, &self.names).into_bytes(),
+        match Image::new(image).filter(|_| !self.raw) {
+            None => image.to_vec(),
+            Some(image) => dump::image(image, &self.names).into_bytes(),
         }
     }
 
-    /// An image of the version that records are judged on.
-    pub fn judgeable(&self, input: &Input) -> Result<Vec<u8>, Trouble> {
+    /// An image that records are judged on, and its card.
+    pub fn judgeable(&self, input: &Input) -> Result<(&'static Layout, Vec<u8>), Trouble> {
         let image = self.image_bytes(input)?;
-        match *unsound::sized(&image).map_err(|fault| input.bad(fault))?.layout == VERSION_02 {
-            true => Ok(image),
+        let card = unsound::sized(&image).map_err(|fault| input.bad(fault))?.layout;
+        match card.judged() {
+            true => Ok((card, image)),
             false => Err(input.bad(Fault::byte(2, OLD))),
+        }
+    }
+
+    /// The card that is meant where no image says it.
+    pub fn card(&self) -> &'static Layout {
+        match self.large {
+            true => &VERSION_03,
+            false => &VERSION_02,
         }
     }
 }
@@ -211,9 +226,17 @@ impl Input {
         Trouble::Input(self.name.clone(), vec![fault])
     }
 
-    /// The input as a text of records, in which these names are given already.
-    pub fn text(&self, names: &Names) -> Result<Text, Trouble> {
-        utf8(&self.bytes).and_then(|text| record_text::read(text, names)).map_err(|fault| self.bad(fault))
+    /// A fault of what should be a text or hexadecimal. With zeros it is neither, and it is said what to do.
+    pub fn no_text(&self, fault: Fault, hint: &str) -> Trouble {
+        match self.bytes.contains(&0) {
+            true => self.bad(Fault { words: format!("{}; {hint}", fault.words), ..fault }),
+            false => self.bad(fault),
+        }
+    }
+
+    /// The input as a text of records for a card, in which these names are given already.
+    pub fn text(&self, card: &'static Layout, names: &Names) -> Result<Text, Trouble> {
+        utf8(&self.bytes).and_then(|text| record_text::read(card, text, names)).map_err(|fault| self.bad(fault))
     }
 }
 

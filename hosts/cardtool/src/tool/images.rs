@@ -4,11 +4,11 @@ use super::call::{on_command_line, Call};
 use super::{disagreement, records, views, Done, Trouble};
 use crate::cause;
 use crate::contract::{Aid, Contract, Tokens};
-use crate::engines::answering;
+use crate::engines::{answering, Verdict};
 use crate::fault::Fault;
 use crate::hex::to_hex;
 use crate::json::{list, object, Json};
-use crate::layout::VERSION_02;
+use crate::layout::{Layout, VERSION_02, VERSION_03};
 use crate::names::Names;
 use crate::program::Failure;
 use crate::record;
@@ -23,16 +23,16 @@ pub fn show(call: &Call) -> Result<Done, Trouble> {
     let tables = Tables::of(&image, &call.names);
     held_to_check(&image, tables.is_ok())?;
     let tables = tables.map_err(|faults| Trouble::Input(input.name.clone(), faults))?;
-    let version = if *tables.layout == VERSION_02 { String::new() } else { format!("# {}\n", unsound::OLD) };
-    let text = version + &call.with_names(image_text::write(&tables, &call.names));
+    let old = if tables.layout.judged() { String::new() } else { format!("# {}\n", unsound::OLD) };
+    let text = old + &call.with_names(image_text::write(&tables, &call.names));
     Ok(Done::new(text, views::tables(&tables, &call.names)))
 }
 
 /// What the tool finds of an image's soundness is what the engine says of it.
 fn held_to_check(image: &[u8], sound: bool) -> Result<(), Failure> {
-    let of_version_02 = image.len() == VERSION_02.size();
+    let judged = Layout::sized(image.len()).is_some_and(Layout::judged);
     let answer = answering().check(image).answer;
-    match of_version_02 && (answer == 0) != sound {
+    match judged && (answer == 0) != sound {
         false => Ok(()),
         true => {
             let found = if sound { "finds nothing wrong with it" } else { "finds it not to be sound" };
@@ -44,7 +44,7 @@ fn held_to_check(image: &[u8], sound: bool) -> Result<(), Failure> {
 
 pub fn build(call: &Call) -> Result<Done, Trouble> {
     let input = &call.inputs[0];
-    let image = utf8(&input.bytes).and_then(|text| image_text::read(text, &call.names));
+    let image = utf8(&input.bytes).and_then(|text| image_text::read(call.card(), text, &call.names));
     let image = image.map_err(|fault| input.bad(fault))?;
     held_to_check(&image, true)?;
     let json = object([("bytes", to_hex(&image).into())]);
@@ -54,7 +54,8 @@ pub fn build(call: &Call) -> Result<Done, Trouble> {
 pub fn dump(call: &Call) -> Result<Done, Trouble> {
     let input = &call.inputs[0];
     if call.record {
-        let dumps: Vec<String> = records::read(call, input)?.iter().map(dump::record).collect();
+        let records = records::read(call, input)?;
+        let dumps: Vec<String> = records.iter().map(|(card, record)| dump::record(card, record)).collect();
         return Ok(Done::new(dumps.join("\n"), object([("records", list(dumps.iter().map(|text| lines_of(text))))])));
     }
     let image = call.image_bytes(input)?;
@@ -77,24 +78,44 @@ fn lines_of(text: &str) -> Json {
 pub fn convert(call: &Call) -> Result<Done, Trouble> {
     let input = &call.inputs[0];
     let (tables, old) = call.tables(input)?;
-    if *tables.layout == VERSION_02 {
-        return Err(input.bad(Fault::byte(2, "the image has version 02: there is nothing to convert")));
+    if tables.layout.judged() {
+        let words = format!("the image has version {}: there is nothing to convert", tables.layout.version);
+        return Err(input.bad(Fault::byte(2, words)));
     }
-    let mut image = vec![0; VERSION_02.size()];
-    let answer = answering().convert(&old, &mut image).answer;
-    let converted = Tables { layout: &VERSION_02, ..tables.clone() };
-    if answer != 0 || image != converted.image() {
+    carried(call, "converted", &tables.on(&VERSION_02), |image| answering().convert(&old, image))
+}
+
+pub fn enlarge(call: &Call) -> Result<Done, Trouble> {
+    let input = &call.inputs[0];
+    let (card, small) = call.judgeable(input)?;
+    let tables = call.sound(input, &small)?;
+    if card.is_large() {
+        return Err(input.bad(Fault::byte(2, "the card is large: there is nothing to enlarge")));
+    }
+    carried(call, "enlarged", &tables.on(&VERSION_03), |large| answering().enlarge(&small, large))
+}
+
+/// A sound image that the engine carries over to another layout, where it is to have these tables.
+fn carried(
+    call: &Call,
+    carried: &'static str,
+    tables: &Tables,
+    carry: impl Fn(&mut [u8]) -> Verdict,
+) -> Result<Done, Trouble> {
+    let (name, mut image) = (answering().name(), vec![0; tables.layout.size()]);
+    let answer = carry(&mut image).answer;
+    if answer != 0 || image != tables.image() {
         let words = match answer {
-            0 => format!("{} converts the image to other tables than it has", answering().name()),
-            _ => format!("{} answers {answer} to a sound image: {}", answering().name(), cause::words(answer)),
+            0 => format!("{name} makes other tables of the image than it has"),
+            _ => format!("{name} answers {answer} to a sound image: {}", cause::words(answer)),
         };
         return Err(Failure::failed(disagreement(words)).into());
     }
-    let counts = image_text::counts(&tables);
-    let text = format!("# converted by {}\nconverted to version 02: {counts}\n", answering().name());
+    let (version, counts) = (tables.layout.version, image_text::counts(tables));
+    let text = format!("# {carried} by {name}\n{carried} to version {version}: {counts}\n");
     let json = object([
-        ("engine", answering().name().into()),
-        ("converted", views::tables(&converted, &call.names)),
+        ("engine", name.into()),
+        (carried, views::tables(tables, &call.names)),
         ("bytes", to_hex(&image).into()),
     ]);
     let saved = call.save.iter().map(|file| (file.clone(), call.image_out(&image))).collect();
@@ -116,15 +137,15 @@ fn aid(call: &Call, tables: &Tables, word: &str) -> Result<Aid, Trouble> {
 
 pub fn readout(call: &Call) -> Result<Done, Trouble> {
     let input = &call.inputs[0];
-    let image = call.judgeable(input)?;
+    let (card, image) = call.judgeable(input)?;
     let tables = call.sound(input, &image)?;
     let aid = aid(call, &tables, &call.words[0])?;
     let Some(number) = tables.number(aid) else {
         return Err(Failure::failed(format!("{} is not on the card", call.names.word(aid))).into());
     };
-    let mut buffer = vec![0; VERSION_02.longest_record];
+    let mut buffer = vec![0; card.longest_record];
     let verdict = answering().read_out(&image, number as u32, &mut buffer);
-    let read = record::read(&buffer[..(verdict.second as usize).min(buffer.len())]);
+    let read = record::read(card, &buffer[..(verdict.second as usize).min(buffer.len())]);
     let held = tables.contracts().remove(&aid);
     let record = match (verdict.answer, read) {
         (0, Ok(record)) if held == loaded(&record) => record,
@@ -133,11 +154,12 @@ pub fn readout(call: &Call) -> Result<Done, Trouble> {
             return Err(Failure::failed(disagreement(words)).into());
         }
     };
-    let first = format!("# package {number}, read out by {}\n", answering().name());
+    let of_large = if card.is_large() { " of a large card" } else { "" };
+    let first = format!("# package {number}{of_large}, read out by {}\n", answering().name());
     let json = object([
         ("engine", answering().name().into()),
         ("number", number.into()),
-        ("record", views::record(&record, &call.names)),
+        ("record", views::record(card, &record, &call.names)),
     ]);
     Ok(Done::new(first + &call.with_names(record_text::write(&record, &call.names)), json))
 }

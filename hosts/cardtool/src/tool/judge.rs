@@ -10,7 +10,7 @@ use crate::fault::Place;
 use crate::hex::to_hex;
 use crate::hexadecimal;
 use crate::json::{list, object, Json};
-use crate::layout::VERSION_02;
+use crate::layout::Layout;
 use crate::names::Names;
 use crate::program::{Failure, Progress};
 use crate::record::{self, Part};
@@ -23,17 +23,17 @@ const NO_OTHER: &str =
     "--both: this build has the second engine alone: build it with the proved one, as docs/TESTERS.md says";
 
 pub fn judge(call: &Call) -> Result<Done, Trouble> {
-    let (items, names) = items(call, &call.inputs[0])?;
     let engine = answering();
     let second = match call.both {
         false => None,
         true => Some(other().ok_or_else(|| Failure::bad_use(NO_OTHER))?),
     };
-    let image = match &call.image {
+    let (card, image) = match &call.image {
         Some(input) => call.judgeable(input)?,
-        None => empty(engine),
+        None => (call.card(), empty(engine, call.card())?),
     };
-    let mut session = Session { engine, second, names: &names, image };
+    let (items, names) = items(call, &call.inputs[0], card)?;
+    let mut session = Session { engine, second, names: &names, card, image };
     let mut progress = Progress::new("judging", items.len());
     let (mut judged, mut each, mut broken) = (Vec::new(), Vec::new(), None);
     for (n, item) in items.iter().enumerate() {
@@ -50,7 +50,7 @@ pub fn judge(call: &Call) -> Result<Done, Trouble> {
         }
     }
     drop(progress);
-    let said = Said { engine, second, names: &names, judged };
+    let said = Said { engine, second, names: &names, card, judged };
     let (text, json) = (said.text(), said.json());
     let saved = match broken {
         Some(_) => Vec::new(),
@@ -62,10 +62,16 @@ pub fn judge(call: &Call) -> Result<Done, Trouble> {
     Ok(Done { saved, failed: broken.or(said.unexpected()), ..Done::new(text, json) })
 }
 
-fn empty(engine: &dyn Engine) -> Vec<u8> {
-    let mut image = vec![0; VERSION_02.size()];
-    engine.empty(&mut image);
-    image
+fn empty(engine: &dyn Engine, card: &'static Layout) -> Result<Vec<u8>, Failure> {
+    let mut image = vec![0; card.size()];
+    let answer = engine.empty(&mut image).answer;
+    match answer == 0 && image == Tables::empty(card).image() {
+        true => Ok(image),
+        false => {
+            let words = format!("{} answers {answer}, and does not write the empty image", engine.name());
+            Err(Failure::failed(disagreement(words)))
+        }
+    }
 }
 
 /// A record to judge, and what a text says of it.
@@ -82,20 +88,21 @@ struct Item {
 impl Item {
     /// A record that stands in no text.
     fn of_bytes(bytes: &[u8], place: Option<Place>, names: &Names) -> Item {
-        let label = match record::read(bytes) {
-            Ok(read) => record_text::write(&read, names).lines().next().unwrap_or("").to_string(),
+        let label = match record::read_either(bytes) {
+            Ok((_, read)) => record_text::write(&read, names).lines().next().unwrap_or("").to_string(),
             Err(_) => format!("record of {}", counted(bytes.len(), "byte")),
         };
         Item { bytes: bytes.to_vec(), label, place, parts: BTreeMap::new(), expected: None }
     }
 }
 
-/// The records of an input, in whichever form, and the names in force for what is said of them.
-fn items(call: &Call, input: &Input) -> Result<(Vec<Item>, Names), Trouble> {
+/// The records of an input, in whichever form, and the names in force for what is said of them. A text is written for
+/// the card.
+fn items(call: &Call, input: &Input, card: &'static Layout) -> Result<(Vec<Item>, Names), Trouble> {
     if call.form == Form::Text {
-        let text = input.text(&call.names)?;
+        let text = input.text(card, &call.names)?;
         let item = |placed: &record_text::Placed| Item {
-            bytes: placed.bytes(),
+            bytes: placed.bytes(card),
             label: placed.first_line(&text.names),
             place: Some(placed.place),
             parts: placed.parts.clone(),
@@ -105,7 +112,8 @@ fn items(call: &Call, input: &Input) -> Result<(Vec<Item>, Names), Trouble> {
     }
     let names = call.names.clone();
     if call.form == Form::Hex {
-        let lines = utf8(&input.bytes).and_then(hexadecimal::records).map_err(|fault| input.bad(fault))?;
+        let read = utf8(&input.bytes).and_then(hexadecimal::records);
+        let lines = read.map_err(|fault| input.no_text(fault, "of records' own bytes say --from raw"))?;
         return Ok((lines.iter().map(|line| Item::of_bytes(&line.bytes, Some(line.place()), &names)).collect(), names));
     }
     // What is no frame is one record, and the last, as the session program takes it.
@@ -124,6 +132,7 @@ struct Session<'a> {
     /// The engine that the answers are compared with.
     second: Option<&'a dyn Engine>,
     names: &'a Names,
+    card: &'static Layout,
     image: Vec<u8>,
 }
 
@@ -169,7 +178,7 @@ impl Session<'_> {
             return Err(format!("{name} leaves other contracts than its answer {answer} says"));
         };
         // A package that was removed has the number that it had.
-        let number = record::read(&item.bytes)
+        let number = record::read(self.card, &item.bytes)
             .ok()
             .and_then(|read| left.number(read.aid).or_else(|| tables(before)?.number(read.aid)));
         match number == Some(second as usize) {
@@ -188,12 +197,14 @@ struct Said<'a> {
     engine: &'a dyn Engine,
     second: Option<&'a dyn Engine>,
     names: &'a Names,
+    card: &'static Layout,
     judged: Vec<(&'a Item, Turn)>,
 }
 
 impl Said<'_> {
     fn text(&self) -> String {
-        let mut text = format!("# answers of {}", self.engine.name());
+        let on = if self.card.is_large() { " on a large card" } else { "" };
+        let mut text = format!("# answers of {}{on}", self.engine.name());
         if let Some(second) = self.second {
             text.push_str(&format!(", and the same of {}", second.name()));
         }
@@ -265,6 +276,7 @@ impl Said<'_> {
         object([
             ("engine", self.engine.name().into()),
             ("compared_with", self.second.map(|second| second.name()).into()),
+            ("card", self.card.name.into()),
             ("records", list(records)),
             ("accepted", accepted.into()),
             ("refused", (self.judged.len() - accepted).into()),
@@ -335,6 +347,10 @@ mod tests {
             Second.convert(old, image)
         }
 
+        fn enlarge(&self, image: &[u8], large: &mut [u8]) -> Verdict {
+            Second.enlarge(image, large)
+        }
+
         fn judge(&self, image: &mut [u8], record: &[u8]) -> Verdict {
             let before = image.to_vec();
             let verdict = Second.judge(image, record);
@@ -346,21 +362,29 @@ mod tests {
         }
     }
 
+    /// Where the tokens of package 0 begin.
+    fn first_tokens(image: &[u8]) -> usize {
+        Layout::sized(image.len()).map_or(0, |card| card.tokens_at(0, 0))
+    }
+
     const STORY: &str = "load F000000001\n provides 0.0\n provides 0.1\nload F000000001\nunload F000000001\n";
 
     /// What is said of an engine, alone or beside another, at the first record where somebody disagrees.
-    fn said(engine: &dyn Engine, second: Option<&dyn Engine>) -> Option<String> {
+    fn said(card: &'static Layout, engine: &dyn Engine, second: Option<&dyn Engine>) -> Option<String> {
         let names = Names::default();
-        let text = record_text::read(STORY, &names).expect("a text");
-        let mut session = Session { engine, second, names: &names, image: empty(engine) };
-        let items = text.records.iter().map(|placed| Item::of_bytes(&placed.bytes(), None, &names));
+        let text = record_text::read(card, STORY, &names).expect("a text");
+        let image = empty(engine, card).expect("the empty image");
+        let mut session = Session { engine, second, names: &names, card, image };
+        let items = text.records.iter().map(|placed| Item::of_bytes(&placed.bytes(card), None, &names));
         items.enumerate().find_map(|(n, item)| Some(format!("{}: {}", n + 1, session.judge(&item).err()?)))
     }
 
     #[test]
     fn a_right_engine_is_held() {
-        assert_eq!(said(&Second, None), None);
-        assert_eq!(said(&Second, Some(&Second)), None);
+        for card in Layout::CARDS {
+            assert_eq!(said(card, &Second, None), None);
+            assert_eq!(said(card, &Second, Some(&Second)), None);
+        }
     }
 
     /// Each wrong engine alone is found by the contracts, at the record where it is wrong.
@@ -387,14 +411,14 @@ mod tests {
             ),
             (
                 Wrong(|verdict, _, image| {
-                    image[140] = 9;
+                    image[first_tokens(image)] = 9;
                     verdict
                 }),
                 "1: a wrong engine leaves other contracts than its answer 0 says",
             ),
             (
                 Wrong(|verdict, _, image| {
-                    image[1109] = u8::from(verdict.answer == 4);
+                    image[image.len() - 1] = u8::from(verdict.answer == 4);
                     verdict
                 }),
                 "2: a wrong engine leaves another image, though it answers 4",
@@ -404,8 +428,10 @@ mod tests {
                 "1: a wrong engine gives the number 1, which is not the package's",
             ),
         ];
-        for (wrong, words) in cases {
-            assert_eq!(said(&wrong, None).as_deref(), Some(words));
+        for (card, (wrong, words)) in
+            Layout::CARDS.into_iter().flat_map(|card| cases.iter().map(move |case| (card, case)))
+        {
+            assert_eq!(said(card, wrong, None).as_deref(), Some(*words));
         }
     }
 
@@ -414,16 +440,23 @@ mod tests {
     fn a_wrong_engine_is_found_by_the_other() {
         let swapped = Wrong(|verdict, _, image| {
             if verdict.answer == 0 {
-                image.swap(141, 143);
+                let at = first_tokens(image);
+                image.swap(at + 1, at + 3);
             }
             verdict
         });
-        assert_eq!(said(&swapped, None), None);
-        let words = "1: a wrong engine and the second engine (not proved) leave byte 141 of the image different";
-        assert_eq!(said(&swapped, Some(&Second)).as_deref(), Some(words));
+        for (card, byte) in Layout::CARDS.into_iter().zip([141, 278]) {
+            assert_eq!(said(card, &swapped, None), None);
+            let words = format!(
+                "1: a wrong engine and the second engine (not proved) leave byte {byte} of the image different"
+            );
+            assert_eq!(said(card, &swapped, Some(&Second)), Some(words));
+        }
         let numbered =
             Wrong(|verdict, _, _| Verdict { second: if verdict.answer == 0 { verdict.second } else { 0 }, ..verdict });
         let words = "2: a wrong engine answers 4 with 0, and the second engine (not proved) 4 with 255";
-        assert_eq!(said(&numbered, Some(&Second)).as_deref(), Some(words));
+        for card in Layout::CARDS {
+            assert_eq!(said(card, &numbered, Some(&Second)).as_deref(), Some(words));
+        }
     }
 }

@@ -6,23 +6,24 @@ use crate::fault::Fault;
 use crate::hex::to_hex;
 use crate::hexadecimal;
 use crate::json::{list, object};
+use crate::layout::Layout;
 use crate::record::{self, Record};
 use crate::record_text;
 use crate::words::utf8;
 
 pub fn encode(call: &Call) -> Result<Done, Trouble> {
-    let input = &call.inputs[0];
-    let text = input.text(&call.names)?;
+    let (input, card) = (&call.inputs[0], call.card());
+    let text = input.text(card, &call.names)?;
     if !call.as_is {
         let faults: Vec<Fault> = text.records.iter().filter_map(|placed| placed.consistent().err()).collect();
         if !faults.is_empty() {
             return Err(Trouble::Input(input.name.clone(), faults));
         }
     }
-    let records: Vec<Vec<u8>> = text.records.iter().map(|placed| placed.bytes()).collect();
+    let records: Vec<Vec<u8>> = text.records.iter().map(|placed| placed.bytes(card)).collect();
     let lines = text.records.iter().map(|placed| {
         let (line, words) = (placed.place.line, placed.first_line(&text.names));
-        object([("line", line.into()), ("record", words.into()), ("bytes", to_hex(&placed.bytes()).into())])
+        object([("line", line.into()), ("record", words.into()), ("bytes", to_hex(&placed.bytes(card)).into())])
     });
     let json = object([("records", list(lines))]);
     Ok(match call.raw {
@@ -33,13 +34,20 @@ pub fn encode(call: &Call) -> Result<Done, Trouble> {
 
 pub fn decode(call: &Call) -> Result<Done, Trouble> {
     let records = read(call, &call.inputs[0])?;
-    let text: String = records.iter().map(|record| record_text::write(record, &call.names)).collect();
-    let json = object([("records", list(records.iter().map(|record| views::record(record, &call.names))))]);
-    Ok(Done::new(call.with_names(text), json))
+    let text: String = records.iter().map(|(_, record)| record_text::write(record, &call.names)).collect();
+    let views = records.iter().map(|(card, record)| views::record(card, record, &call.names));
+    let json = object([("records", list(views))]);
+    let large = records.iter().filter(|(card, _)| card.is_large()).count();
+    let first = match large {
+        0 => "",
+        _ if large == records.len() => "# of the large card: 'cardtool encode --large' makes these bytes again\n",
+        _ => "# of both cards: 'cardtool encode' writes all for the small card, 'cardtool encode --large' for the large one\n",
+    };
+    Ok(Done::new(first.to_string() + &call.with_names(text), json))
 }
 
-/// The records of an input, all well formed.
-pub fn read(call: &Call, input: &Input) -> Result<Vec<Record>, Trouble> {
+/// The records of an input, each with the card that it is for; all are well formed.
+pub fn read(call: &Call, input: &Input) -> Result<Vec<(&'static Layout, Record)>, Trouble> {
     let read = match call.raw {
         true => raw(&input.bytes),
         false => utf8(&input.bytes).and_then(|text| {
@@ -47,17 +55,20 @@ pub fn read(call: &Call, input: &Input) -> Result<Vec<Record>, Trouble> {
             lines.iter().map(|digits| digits.record()).collect()
         }),
     };
-    read.map_err(|fault| input.bad(fault))
+    read.map_err(|fault| match call.raw {
+        true => input.bad(fault),
+        false => input.no_text(fault, "of records' own bytes say --raw"),
+    })
 }
 
 /// Records one after another, each as long as its length field says.
-fn raw(bytes: &[u8]) -> Result<Vec<Record>, Fault> {
+fn raw(bytes: &[u8]) -> Result<Vec<(&'static Layout, Record)>, Fault> {
     let (mut records, mut at) = (Vec::new(), 0);
     for frame in frames(bytes) {
         let ordinal = records.len() + 1;
         let part = frame.map_err(|words| Fault::byte(at, format!("record {ordinal}: {words}")))?;
         let fault = |bad: record::Malformed| Fault::byte(at + bad.at, format!("record {ordinal}: {}", bad.why));
-        records.push(record::read(part).map_err(fault)?);
+        records.push(record::read_either(part).map_err(fault)?);
         at += part.len();
     }
     Ok(records)

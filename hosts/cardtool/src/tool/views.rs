@@ -3,6 +3,7 @@
 use crate::contract::{Aid, Contract, Row, Tokens};
 use crate::hex::to_hex;
 use crate::json::{list, object, Json};
+use crate::layout::Layout;
 use crate::names::Names;
 use crate::record::{Change, Lists, Record};
 use crate::tables::Tables;
@@ -56,10 +57,11 @@ pub fn contract(own: Aid, contract: &Contract, names: &Names) -> [(&'static str,
     lists(own, &contract.provides, rows, names)
 }
 
-/// A record that was read.
-pub fn record(record: &Record, names: &Names) -> Json {
+/// A record of a card.
+pub fn record(card: &Layout, record: &Record, names: &Names) -> Json {
     let own = record.aid;
-    let mut members = vec![("kind", u32::from(record.change.kind()).into()), ("package", package(own, names))];
+    let kind = u32::from(record.change.kind());
+    let mut members = vec![("card", card.name.into()), ("kind", kind.into()), ("package", package(own, names))];
     match &record.change {
         Change::Load(Lists { provides, calls, grants, needs })
         | Change::Replace(Lists { provides, calls, grants, needs }) => {
@@ -75,7 +77,7 @@ pub fn record(record: &Record, names: &Names) -> Json {
         Change::AddCall(row) | Change::RemoveCall(row) => members.push(("calls", callee(row, names))),
         Change::AddGrant(row) | Change::RemoveGrant(row) => members.push(("grants", caller(own, row, names))),
     }
-    members.push(("bytes", to_hex(&record.bytes()).into()));
+    members.push(("bytes", to_hex(&record.bytes(card)).into()));
     Json::Object(members)
 }
 
@@ -109,6 +111,7 @@ pub fn tables(tables: &Tables, names: &Names) -> Json {
         Some(object([("callee", package(own, names)), ("grants", caller(own, &grant, names))]))
     });
     object([
+        ("card", tables.layout.name.into()),
         ("version", tables.layout.version.into()),
         ("packages", list(packages)),
         ("unmet", list(unmet)),
