@@ -80,8 +80,7 @@ pub record VerdictOfCall (image rec : List ℕ) (r : ℕ) : Type 0 where
   pub accepted-exactly : (cs : List Contract) (q : Request) → StandsFor (on image) image cs → parse (on image) rec ≡ some q
       → T (proper (on image) (q .aid) (q .change))
       → ((k : Cause) → In k (causes4to7 (on image) cs (q .aid) (q .change)) → k .number < 7 → T (k .applies) → ⊥)
-      → (answerOf r ≡ 0)
-      ↔ (T (lawful (effect (on image) cs (q .aid) (q .change))) × FitsLimits (on image) (effect (on image) cs (q .aid) (q .change)))
+      → (answerOf r ≡ 0) ↔ (T (lawful (effect (on image) cs (q .aid) (q .change))) × FitsLimits (on image) (effect (on image) cs (q .aid) (q .change)))
   -- every sound image stands for some contracts
   pub sound-stands : T (sound (on image) image) → (cs : List Contract) × StandsFor (on image) image cs
 

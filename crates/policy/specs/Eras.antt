@@ -16,8 +16,7 @@ use Rattle.policy.specs.Tables.{decode, encode, emptyImage}
 use Rattle.policy.specs.Sound.{sound}
 use Rattle.policy.specs.Judge.{Out, refusal, judge, check, readOut}
 use Rattle.policy.specs.History.{AllValid, AllAllowed, StandsFor, answers, imageAfter, machineAnswers, contractsAfter}
-use Rattle.policy.specs.Marked.{CaseOver, linesFrom, casesConverted, casesRenewed, casesNeeds, casesRetired}
-use Rattle.policy.specs.Marked.{casesLarge, casesEnlarged}
+use Rattle.policy.specs.Marked.{CaseOver, linesFrom, casesConverted, casesRenewed, casesNeeds, casesRetired, casesLarge, casesEnlarged}
 use Rattle.policy.specs.Claims.{CallsGranted, NeedsPresent}
 
 -- ---- the passage from the rules L to the rules M

@@ -370,8 +370,7 @@ casesLarge =
     }
     ∷ []
 
--- by the rules in force, enlarged, and on the large card: numbers, needs and grants are kept, and 'A record of the other card's version
--- gets 2'
+-- by the rules in force, enlarged, and on the large card: numbers, needs and grants are kept, and 'a record of the other card's version gets 2'
 abbrev pub casesEnlarged : List CaseOver
 casesEnlarged =
     record {
