@@ -1,4 +1,5 @@
 // Searches and writes that the kinds share, and the verdict that each gives: check first, write after.
+#![tactic(auto)]
 ghost use Rattle.std.specs.Prelude.{◌≡◌, ◌<◌};
 
 pub mod find;
@@ -8,7 +9,7 @@ pub mod own;
 pub mod service;
 
 // An answer of document 01 and the number that goes with it.
-#[derive(Drop)]
+#[derive(Clone, Copy)]
 pub struct Verdict {
     pub number: u8,
     pub second: u8,

@@ -1,4 +1,5 @@
 // A card's layout in code: an enum of the cards, and its numbers by cases.
+#![tactic(auto)]
 ghost use Rattle.std.specs.Prelude.{◌≡◌, ◌++◌, ◌+◌, ◌^◌, ◌≤◌, ◌<◌, length, take, drop};
 ghost use Rattle.policy.specs.Layout.{narrow, aids_at, tokens_at, provides_at, size as size_of};
 ghost use Rattle.policy.specs.Tables.{read_number, write_number};
@@ -6,7 +7,7 @@ ghost use Rattle.geometry.specs.Geometry.{layout_of, aid_at, tok_at, prov_at, ta
 ghost use Rattle.geometry.specs.Geometry.{list_at, list_end, row_size, place_at, number_in, tokens_in};
 
 // The cards of 1,110 and of 3,639 bytes.
-#[derive(Drop)]
+#[derive(Clone, Copy)]
 pub enum Card {
     Small,
     Large,
@@ -18,7 +19,7 @@ pub const SMALL: usize = 1110;
 pub const LARGE: usize = 3639;
 
 // The three tables of bits.
-#[derive(Drop)]
+#[derive(Clone, Copy)]
 pub enum Table {
     Calls,
     Grants,
@@ -26,14 +27,14 @@ pub enum Table {
 }
 
 // The two lists.
-#[derive(Drop)]
+#[derive(Clone, Copy)]
 pub enum Kept {
     UnmetCalls,
     WaitingGrants,
 }
 
 // The tokens of a service.
-#[derive(Drop)]
+#[derive(Clone, Copy)]
 pub struct Tokens {
     pub interface: u8,
     pub method: u8,

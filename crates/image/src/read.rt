@@ -11,14 +11,14 @@ ghost use Rattle.image.specs.Read.{number_or, place_or, spot_or, asked, last_of,
 use geometry::{Card, Table, Tokens};
 
 // A service of the card: package and service number.
-#[derive(Drop)]
+#[derive(Clone, Copy)]
 pub struct Place {
     pub callee: usize,
     pub service: usize,
 }
 
 // A grant that is a bit: the caller's number, and the service number.
-#[derive(Drop)]
+#[derive(Clone, Copy)]
 pub struct Spot {
     pub caller: usize,
     pub service: usize,

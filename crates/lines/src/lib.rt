@@ -1,17 +1,18 @@
 // The session program's lines and frames: what it prints, and how its input splits.
+#![tactic(auto)]
 ghost use Rattle.std.specs.Prelude.{◌+◌, ◌≤◌, ◌≡◌, [], ◌∷◌, length};
 ghost use Rattle.lines.specs.Lines.{digits, shown, line, record_line, bad_line, Wrote, Printed};
 ghost use Rattle.lines.specs.Frames.{announced, held_as};
 
 // What stands in a column of a line: a number, or `-`.
-#[derive(Drop)]
+#[derive(Clone, Copy)]
 pub enum Shown {
     Number(u8),
     None,
 }
 
 // What the two length bytes of an input say of what follows.
-#[derive(Drop)]
+#[derive(Clone, Copy)]
 pub enum Frame {
     // A record of so many bytes, its length bytes included.
     Record(usize),
@@ -20,7 +21,7 @@ pub enum Frame {
 }
 
 // What the bytes held of an input are.
-#[derive(Drop)]
+#[derive(Clone, Copy)]
 pub enum Held {
     // A record of so many bytes, whole.
     Record(usize),

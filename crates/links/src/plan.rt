@@ -11,7 +11,7 @@ use geometry::{Card, Kept, Table, Tokens};
 use record::RowKind;
 
 // One change of the tables, for the package of the record: a bit of its row in a table, by column and service; or a row of a list.
-#[derive(Drop)]
+#[derive(Clone, Copy)]
 pub enum Edit {
     Set(Table, usize, usize),
     // a grant, by caller and service
@@ -24,7 +24,7 @@ pub enum Edit {
 }
 
 // A refusal by its cause, or an acceptance: the package number and the change.
-#[derive(Drop)]
+#[derive(Clone, Copy)]
 pub enum Plan {
     Refuse(u8),
     Accept(usize, Edit),

@@ -8,7 +8,7 @@ ghost use Rattle.links.specs.Plans.{CallFound, GrantFound, BitAt};
 use geometry::{Card, Table, Tokens};
 
 // Where a call stands: package number `caller`; then callee and service number where its service is on the card.
-#[derive(Drop)]
+#[derive(Clone, Copy)]
 pub enum CallSpot {
     Absent,
     Unserved(usize),
@@ -16,7 +16,7 @@ pub enum CallSpot {
 }
 
 // Where a grant stands: package number; then the caller's and the service number where both are on the card.
-#[derive(Drop)]
+#[derive(Clone, Copy)]
 pub enum GrantSpot {
     Absent,
     Waits(usize),

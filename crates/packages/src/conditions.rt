@@ -20,7 +20,7 @@ use image::read::Place;
 use record::{Items, Row, Sought};
 
 // What the calls of a contract come to: one is not granted, or so many are on services that are not on the card.
-#[derive(Drop)]
+#[derive(Clone, Copy)]
 pub enum Called {
     Granted { unserved: usize },
     Refused,

@@ -21,7 +21,7 @@ use record::{Aid, Items, Lists, Row};
 
 // What is found of a contract that comes to package number `at`: the unmet calls that it meets and the waiting grants that are due,
 // which become bits; the unmet calls and the waiting grants that leave their lists; and the services of the number that it drops.
-#[derive(Drop)]
+#[derive(Clone, Copy)]
 pub struct Bring {
     pub at: usize,
     pub met: u32,
@@ -32,7 +32,7 @@ pub struct Bring {
 }
 
 // What is decided of it: 0 or the cause against it; and where it is accepted, what was found of it.
-#[derive(Drop)]
+#[derive(Clone, Copy)]
 pub struct Decided {
     pub number: u8,
     pub bring: Bring,

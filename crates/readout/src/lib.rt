@@ -1,4 +1,5 @@
 // Reading out a package's contract as a kind 1 record: measured first, then written from front to back.
+#![tactic(auto)]
 ghost use Rattle.std.specs.Prelude.{◌≡◌, ◌&&◌, ◌++◌, ◌≤◌, ◌<◌, ltb, length, drop};
 ghost use Rattle.policy.specs.Lookup.{contract_at};
 ghost use Rattle.policy.specs.Judge.{load_record, read_out};
@@ -15,7 +16,7 @@ mod sections;
 mod tables;
 
 // An answer of document 01, and the length of the record where it is 0.
-#[derive(Drop)]
+#[derive(Clone, Copy)]
 pub struct Outcome {
     pub number: u8,
     pub second: u16,

@@ -1,4 +1,5 @@
 // Reads a record: where its parts are, or that it is malformed. Positions count from the record's first byte.
+#![tactic(auto)]
 ghost use Rattle.std.specs.Prelude.{◌≡◌, ◌+◌, ◌-◌, ◌≤◌, ◌<◌, length, drop};
 ghost use Rattle.policy.specs.Record.{aid, tokens, a_row, valid_row, many, token_list, caller_list, a_contract, change, first_aid};
 ghost use Rattle.geometry.specs.Geometry.{layout_of, tok_of};
@@ -14,14 +15,14 @@ pub mod same;
 pub mod steps;
 
 // How many bytes a reader took of the front of its part.
-#[derive(Drop)]
+#[derive(Clone, Copy)]
 pub enum Took {
     Bytes(usize),
     Malformed,
 }
 
 // What a list holds.
-#[derive(Drop)]
+#[derive(Clone, Copy)]
 pub enum Sort {
     Service,
     Caller,
@@ -29,14 +30,14 @@ pub enum Sort {
 }
 
 // A count that was read, and how many bytes it takes.
-#[derive(Drop)]
+#[derive(Clone, Copy)]
 pub enum Count {
     Found { count: usize, size: usize },
     Malformed,
 }
 
 // A list that was read: where its things start, how many there are, and how many bytes it takes in all.
-#[derive(Drop)]
+#[derive(Clone, Copy)]
 pub enum Listed {
     Found {
         start: usize,
@@ -47,35 +48,35 @@ pub enum Listed {
 }
 
 // The bytes of an AID in the record.
-#[derive(Drop)]
+#[derive(Clone, Copy)]
 pub struct Aid {
     pub at: usize,
     pub len: usize,
 }
 
 // A row: the other end's AID, and the tokens of a service.
-#[derive(Drop)]
+#[derive(Clone, Copy)]
 pub struct Row {
     pub other: Aid,
     pub tokens: Tokens,
 }
 
 // The things of a list: where the first starts, and how many there are.
-#[derive(Drop)]
+#[derive(Clone, Copy)]
 pub struct Items {
     pub at: usize,
     pub count: usize,
 }
 
 // What a search through a list came to, and what it had left of the list.
-#[derive(Drop)]
+#[derive(Clone, Copy)]
 pub struct Sought {
     pub found: bool,
     pub rest: Items,
 }
 
 // The four lists of a contract.
-#[derive(Drop)]
+#[derive(Clone, Copy)]
 pub struct Lists {
     pub provides: Items,
     pub calls: Items,
@@ -84,14 +85,14 @@ pub struct Lists {
 }
 
 // What a record of a whole contract does with it: kinds 1 and 11.
-#[derive(Drop)]
+#[derive(Clone, Copy)]
 pub enum ContractKind {
     Load,
     Replace,
 }
 
 // What a record of one row does with it: the kinds from 5 to 8.
-#[derive(Drop)]
+#[derive(Clone, Copy)]
 pub enum RowKind {
     AddCall,
     RemoveCall,
@@ -100,7 +101,7 @@ pub enum RowKind {
 }
 
 // What follows the first AID, for the kinds from 1 to 8, and 11.
-#[derive(Drop)]
+#[derive(Clone, Copy)]
 pub enum Kind {
     Contract(ContractKind, Lists),
     Remove,
@@ -110,49 +111,49 @@ pub enum Kind {
 }
 
 // A record: the first AID, and the change of its contract.
-#[derive(Drop)]
+#[derive(Clone, Copy)]
 pub struct Record {
     pub aid: Aid,
     pub kind: Kind,
 }
 
 // A record that was read; Malformed is cause 2.
-#[derive(Drop)]
+#[derive(Clone, Copy)]
 pub enum Read {
     Whole(Record),
     Malformed,
 }
 
 // What follows the first AID, with no bytes left over.
-#[derive(Drop)]
+#[derive(Clone, Copy)]
 pub enum Body {
     Whole(Kind),
     Malformed,
 }
 
 // The four lists of a contract, with no bytes left over, or that they are malformed.
-#[derive(Drop)]
+#[derive(Clone, Copy)]
 pub enum Brought {
     Found(Lists),
     Malformed,
 }
 
 // The things of a list, or that it is malformed.
-#[derive(Drop)]
+#[derive(Clone, Copy)]
 pub enum Placed {
     Found(Items),
     Malformed,
 }
 
 // A list at a position, and the position after it; where it is malformed, a reader stays where it is.
-#[derive(Drop)]
+#[derive(Clone, Copy)]
 pub struct ListAt {
     pub list: Placed,
     pub next: usize,
 }
 
 // Three lists of rows, each after the one before it, and the position after them.
-#[derive(Drop)]
+#[derive(Clone, Copy)]
 pub struct RowsAt {
     pub calls: Placed,
     pub grants: Placed,
@@ -161,21 +162,21 @@ pub struct RowsAt {
 }
 
 // The tokens of a service, or that they are malformed.
-#[derive(Drop)]
+#[derive(Clone, Copy)]
 pub enum Service {
     Found(Tokens),
     Malformed,
 }
 
 // The tokens at a position, and the position after them; where they are malformed, a reader stays where it is.
-#[derive(Drop)]
+#[derive(Clone, Copy)]
 pub struct TokensAt {
     pub service: Service,
     pub next: usize,
 }
 
 // A row at a position, and the position after it.
-#[derive(Drop)]
+#[derive(Clone, Copy)]
 pub struct RowAt {
     pub row: Row,
     pub next: usize,

@@ -7,21 +7,21 @@ use crate::{Aid, Items, Row};
 use geometry::Tokens;
 
 // The first row of a list, and the list of the rows after it.
-#[derive(Drop)]
+#[derive(Clone, Copy)]
 pub struct RowStep {
     pub row: Row,
     pub rest: Items,
 }
 
 // The first AID of a list of callers, and the list of the AIDs after it.
-#[derive(Drop)]
+#[derive(Clone, Copy)]
 pub struct AidStep {
     pub aid: Aid,
     pub rest: Items,
 }
 
 // The first tokens of a list of services, and the list of those after them.
-#[derive(Drop)]
+#[derive(Clone, Copy)]
 pub struct TokensStep {
     pub tokens: Tokens,
     pub rest: Items,

@@ -27,6 +27,7 @@ module _ {A : Type 0} (f : A → List ℕ) where
 -- ---- rows by a mask
 module _ {A : Type 0} (mask : ℕ) where
   pub kept_in : (k : ℕ) (l : List A) {x : A} → In x (keep_from k mask l) → In x l
+  kept_in k [] {x = x} m = elim m [ ]
   kept_in k (y ∷ l) {x} m = go (bit mask k) (λ i. kept_in (suc k) l i) m
     where
       old : (In x (keep_from (suc k) mask l) → In x l) → (x ≡ y) ⊎ In x (keep_from (suc k) mask l) → In x (y ∷ l)

@@ -26,7 +26,7 @@ use geometry::{Card, Kept, Table, Tokens};
 use record::{Aid, Items};
 
 // A refusal by its cause; or the numbers of the package and of its new service, and which unmet calls and waiting grants become bits.
-#[derive(Drop)]
+#[derive(Clone, Copy)]
 pub enum Adding {
     Refuse {
         cause: u8,

@@ -1,5 +1,6 @@
 // The session program: reads records from standard input, judges each on one card, and prints a line for each at once.
 // What decides stands in `turn`; around it the program reads, writes and loops.
+#![tactic(auto)]
 ghost use Rattle.std.specs.Prelude.{◌≡◌, true, ◌+◌, ◌^◌, ◌≤◌, ◌<◌, length, take, get_or};
 ghost use Rattle.lines.specs.Lines.{record_line, Printed};
 ghost use Rattle.lines.specs.Session.{judging, turn as turn_of};
@@ -26,7 +27,7 @@ fn answer_record(image: &mut [u8], rec: &[u8], ordinal: u64, text: &mut [u8; 40]
 }
 
 // What a turn calls for.
-#[derive(Drop)]
+#[derive(Clone, Copy)]
 pub enum Then {
     // Bytes of the input, up to so many.
     Read(usize),

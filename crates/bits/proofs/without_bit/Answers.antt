@@ -1,0 +1,7 @@
+-- `bits::without_bit` meets its contract. Assumes nothing.
+use borrow.Author.Rules.{rules}
+use Rattle.bits.proofs.Row.{and_clear}
+use Rattle.bits.proofs.without_bit.Goals as goal
+
+pub returns : goal.returns
+returns c = and_clear 16 c.args.row c.args.k c.ranges.row.fits c.requires

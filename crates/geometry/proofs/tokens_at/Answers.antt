@@ -1,0 +1,9 @@
+-- `geometry::tokens_at` meets its contract. Assumes nothing.
+use borrow.Author.Rules.{rules}
+use Rattle.geometry.proofs.tokens_at.Goals as goal
+
+pub returns-in-Small : goal.returns-in-Small
+returns-in-Small c = rw c.in-Small.is
+
+pub returns-in-Large : goal.returns-in-Large
+returns-in-Large c = rw c.in-Large.is

@@ -1,0 +1,10 @@
+-- `rows::same_quads` meets its contract.
+use borrow.Author.Rules.{rules}
+use Rattle.rows.proofs.Words.{ends_same}
+use Rattle.rows.proofs.same_quads.Goals as goal
+
+pub returns : goal.returns
+returns c =
+    let a = c.args in
+    ends_same a.a.now a.at a.b.now (λ i. (c.type_inv.a i).fits) (λ i. (c.type_inv.b i).fits) 4 c.requires.0 c.requires.1 c.requires.2
+    c.quad.ensures c.quad-2.ensures c.quad-3.ensures c.quad-4.ensures
