@@ -8,7 +8,7 @@ ghost use Rattle.record.specs.Meaning.{Places, PlacesRows, Served, Brings, Bodie
 use crate::{Body, Brought, ListAt, RowsAt, TokensAt};
 use geometry::Card;
 
-#[derive(Drop)]
+#[derive(Clone, Copy)]
 pub struct Reader<'a> {
     pub src: &'a [u8],
     pub at: usize,

@@ -1,0 +1,18 @@
+-- `image::lists::tokens` meets its contract.
+use Rattle.image.proofs.Listed.{listed}
+use Rattle.image.proofs.lists.tokens.Goals as goal
+
+pub place_at-at-requires : goal.place_at-at-requires
+place_at-at-requires c = search listed
+
+pub tokens_in-part-requires : goal.tokens_in-part-requires
+tokens_in-part-requires c = search listed
+
+pub overflow_add-at : goal.overflow_add-at
+overflow_add-at c = search listed
+
+pub tokens_in-requires : goal.tokens_in-requires
+tokens_in-requires c = search listed
+
+pub returns : goal.returns
+returns c = search listed

@@ -1,0 +1,42 @@
+-- `image::lists::with_service` meets its contract.
+use Prim.Native.Nat.{◌≤◌}
+use mathlib.Core.Path.{◌≡◌}
+use mathlib.Core.Bool.{◌&&◌}
+use lib.Dec.{eqb}
+use lib.ListN.{length, drop}
+use Rattle.policy.specs.Contract.{eq_tok}
+use Rattle.policy.specs.Tables.{decode}
+use Rattle.geometry.specs.Geometry.{layout_of, tok_of}
+use Rattle.image.specs.Read.{items_of, item_tok, item_number, mask_of}
+use Rattle.image.proofs.Listed.{masks}
+use Rattle.image.proofs.lists.with_service.Goals as goal
+
+pub count-r-requires : goal.count-r-requires
+count-r-requires c = search masks
+
+pub loop-r-init : goal.loop-r-init
+loop-r-init c = search masks
+
+pub overflow_sub-r : goal.overflow_sub-r
+overflow_sub-r c = search masks
+
+pub is_of-passes-requires : goal.is_of-passes-requires
+is_of-passes-requires c = search masks
+
+pub overflow_mul-mask : goal.overflow_mul-mask
+overflow_mul-mask c = search masks
+
+pub overflow_cast-mask : goal.overflow_cast-mask
+overflow_cast-mask c = search masks
+
+pub overflow_add-mask : goal.overflow_add-mask
+overflow_add-mask c = search masks
+
+pub loop-r-smaller : goal.loop-r-smaller
+loop-r-smaller c = search masks
+
+pub loop-r-preserved : goal.loop-r-preserved
+loop-r-preserved c = search masks
+
+pub returns : goal.returns
+returns c = search masks

@@ -1,0 +1,13 @@
+-- `record::proper::callers_proper` meets its contract: the things to come decide.
+use native.Mathlib.Omega.{arith}
+use Rattle.policy.specs.Contract.{eq_aid}
+use Rattle.policy.specs.Record.{aid, proper}
+use Rattle.record.proofs.Loops.{Left, todo_start, todo_end}
+use Rattle.record.proofs.Improper.{own_aid, others, own_stop, twice_stop, once_next}
+use Rattle.record.proofs.proper.callers_proper.Given as goal
+
+abbrev pub invariant-loop-todo : goal.invariant-loop-todo
+invariant-loop-todo l = Left aid l.rec (others (own_aid l.own) eq_aid) l.initial.todo l.todo
+
+abbrev pub decreases-loop-todo : goal.decreases-loop-todo
+decreases-loop-todo l = l.todo.count

@@ -1,0 +1,15 @@
+-- `record::proper::mark` meets its contract.
+use mathlib.Core.Path.{ap}
+use mathlib.Core.List.{List}
+use Prim.Native.Nat.{ℕ, ◌/◌}
+use native.Mathlib.Omega.{arith}
+use borrow.Author.Rules.{rules}
+use lib.ListN.{set}
+use Rattle.record.specs.Marks.{marked, with_mark}
+use Rattle.record.proofs.proper.mark.Goals as goal
+
+pub returns : goal.returns
+unfolding marked with_mark
+returns c =
+    let a = c.args in
+    (c.has_mark.ensures, ap (λ (w : ℕ). set a.seen.now (a.h / 64) w) c.with_mark.ensures)

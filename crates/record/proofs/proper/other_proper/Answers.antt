@@ -1,0 +1,7 @@
+-- `record::proper::other_proper` meets its contract, alike for each of the four kinds.
+use borrow.Author.Rules.{rules}
+use Rattle.record.proofs.Improper.{row_proper}
+use Rattle.record.proofs.proper.other_proper.Goals as goal
+
+pub returns : goal.returns
+returns c = row_proper _ _ c.same_bytes.ensures

@@ -1,0 +1,92 @@
+-- `record::read_record` meets its contract: the header, the first AID, and what follows it.
+use Prim.Native.Nat.{◌≤◌, ◌+◌, ◌*◌}
+use mathlib.Core.Path.{◌≡◌, sym, ◌∙◌}
+use native.Mathlib.Omega.{arith}
+use lib.ListN.{length, get_or, drop}
+use borrow.Author.Rules.{rules}
+use Rattle.policy.specs.Record.{aid}
+use Rattle.geometry.specs.Geometry.{layout_of}
+use Rattle.record.specs.Meaning.{Takes}
+use Rattle.record.specs.declared.Took.TheVariants.{Bytes}
+use Rattle.record.proofs.Fronts.{at_part}
+use Rattle.record.proofs.Header.{record_short, record_length, record_version, record_aid, aid_inside, record_body, record_whole}
+use Rattle.record.proofs.read_record.Goals as goal
+
+-- the tests of the header
+pub record Headed (c : tie.Start) : Type 0 where
+  pub four : 4 ≤ length c.args.rec.now
+  pub long : get_or c.args.rec.now 0 0 * 256 + get_or c.args.rec.now 1 0 ≡ length c.args.rec.now
+  pub kept : get_or c.args.rec.now 2 0 ≡ (layout_of c.args.c).version
+
+pub returns-then-rec-lt4 : goal.returns-then-rec-lt4
+returns-then-rec-lt4 c = record_short _ _ c.if-rec-lt4.true
+
+pub overflow_cast-length : goal.overflow_cast-length
+overflow_cast-length c = omega (arith, c.type_inv.rec 0)
+
+pub overflow_mul-length : goal.overflow_mul-length
+overflow_mul-length c = omega (arith, c.type_inv.rec 0)
+
+pub overflow_cast-length-2 : goal.overflow_cast-length-2
+overflow_cast-length-2 c = omega (arith, c.type_inv.rec 1)
+
+pub overflow_add-length : goal.overflow_add-length
+overflow_add-length c = omega (arith, c.type_inv.rec 0, c.type_inv.rec 1)
+
+pub returns-then-length-rec : goal.returns-then-length-rec
+returns-then-length-rec c = record_length _ _ c.if-rec-lt4.false c.if-length-rec.true
+
+pub returns-then-rec-version : goal.returns-then-rec-version
+returns-then-rec-version c = record_version _ _ c.if-rec-lt4.false c.if-length-rec.false (λ e. c.if-rec-version.true (e ∙ sym c.version-version.ensures))
+
+pub returns-in_default : goal.returns-in_default
+returns-in_default c =
+    let h = (record {
+      four = c.if-rec-lt4.false;
+      long = c.if-length-rec.false;
+      kept = c.if-rec-version.false ∙ c.version-version.ensures;
+    }) in
+    record_aid _ _ h.four h.long h.kept
+    (at_part c.args.rec.now 4 c.in_default.is c.aid_end.ensures)
+
+pub overflow_add-n : goal.overflow_add-n
+overflow_add-n c =
+    omega (arith, (aid_inside c.args.rec.now ((record {
+      four = c.if-rec-lt4.false;
+      long = c.if-length-rec.false;
+      kept = c.if-rec-version.false ∙ c.version-version.ensures;
+    })).four ((at_part c.args.rec.now 4 c.in-Bytes.is c.aid_end.ensures))))
+
+pub read_body-requires : goal.read_body-requires
+read_body-requires c =
+    ((aid_inside c.args.rec.now ((record {
+      four = c.if-rec-lt4.false;
+      long = c.if-length-rec.false;
+      kept = c.if-rec-version.false ∙ c.version-version.ensures;
+    })).four ((at_part c.args.rec.now 4 c.in-Bytes.is c.aid_end.ensures)))).2
+
+pub returns-in_default-read_body : goal.returns-in_default-read_body
+returns-in_default-read_body c =
+    let h = (record {
+      four = c.if-rec-lt4.false;
+      long = c.if-length-rec.false;
+      kept = c.if-rec-version.false ∙ c.version-version.ensures;
+    }) in
+    record_body _ _ h.four h.long h.kept ((at_part c.args.rec.now 4 c.in-Bytes.is c.aid_end.ensures)) (rw c.in_default-read_body.is at c.read_body.ensures)
+
+pub overflow_sub-len : goal.overflow_sub-len
+overflow_sub-len c =
+    omega (arith, (aid_inside c.args.rec.now ((record {
+      four = c.if-rec-lt4.false;
+      long = c.if-length-rec.false;
+      kept = c.if-rec-version.false ∙ c.version-version.ensures;
+    })).four ((at_part c.args.rec.now 4 c.in-Bytes.is c.aid_end.ensures))))
+
+pub returns : goal.returns
+returns c =
+    let h = (record {
+      four = c.if-rec-lt4.false;
+      long = c.if-length-rec.false;
+      kept = c.if-rec-version.false ∙ c.version-version.ensures;
+    }) in
+    record_whole _ _ h.four h.long h.kept ((at_part c.args.rec.now 4 c.in-Bytes.is c.aid_end.ensures)) (rw c.in-Whole.is at c.read_body.ensures)

@@ -1,0 +1,15 @@
+-- `lists::rows_differ` meets its contract.
+use mathlib.Core.Path.{◌≡◌, refl}
+use mathlib.Core.Bool.{true}
+use Prim.Native.Nat.{◌-◌, ◌≤◌}
+use native.Mathlib.Omega.{arith}
+use Rattle.policy.specs.Lists.{every, upto}
+use Rattle.policy.proofs.Pieces.{row_ends}
+use Rattle.bits.proofs.Loops.{every_more, every_fails, every_done}
+use Rattle.soundness.specs.Check.{new_row}
+use Rattle.soundness.proofs.Tests.{turns}
+use Rattle.soundness.proofs.Marks.{Marked, marked_none, marked_more, rows_mark, row_low, row_met}
+use Rattle.soundness.proofs.lists.rows_differ.Given as goal
+
+abbrev pub invariant-loop-r : goal.invariant-loop-r
+invariant-loop-r l = (l.r ≤ l.n) × (every (new_row l.img l.at l.w) (upto l.r) ≡ true) × Marked (rows_mark l.img l.at l.w) (row_low l.img l.at l.w) l.seen l.r
