@@ -7,7 +7,3 @@ pub mod Loops
 pub mod Alike
 pub mod Improper
 pub mod Marks
-mod Answers
-mod Held
-mod Thin
-mod Moving

@@ -178,6 +178,7 @@ module _ (L : Layout) (lf : Full L) (l : List ℕ) (bytes : Bytes l) (len : leng
     may = cond (bit (used_row L l) i) (prov_row L l j) 0
 
     may_bit : (b : Bool) (x k : ℕ) → T b → T (bit x k) → T (bit (cond b x 0) k)
+    may_bit false x k u s = elim u [ ]
     may_bit true x k u s = s
 
     pair_ok : T (rows_fit need call grant may)

@@ -101,7 +101,7 @@ module _ (L : Layout) (lf : Full L) (l : List ℕ) (bytes : Bytes l) (len : leng
       let p1 = split l L.header _ 0 3 lf.ok.header_size e in
       let p2 = split l (write_bits L n t.used) _ (used_at L) w (length_bits L n t.used) p1.1 in
       let p3 = split l aids _ (aids_at L) (n * aid_size) (length_table (λ i. write_aid (t.aid i)) aid_size n a) p2.1 in
-      let p4 = split l toks _ (tokens_at L) (n * (m * 2)) (length_table _ (m * 2) n (λ j p. length_table _ 2 m (λ k q. refl))) p3.1 in
+      let p4 = split l toks _ (tokens_at L) (n * (m * 2)) (length_table (λ j. flat (λ k. write_tok (t.tok j k)) (upto m)) (m * 2) n (λ j p. length_table (λ k. write_tok (t.tok j k)) 2 m (λ k q. refl))) p3.1 in
       let p5 = split l (write_line L t.provides) _ (provides_at L) (n * w) (length_line L t.provides) p4.1 in
       let p6 = split l (write_table L t.calls) _ (calls_at L) (n * (n * w)) (length_lines L t.calls) p5.1 in
       let p7 = split l (write_table L t.grants) _ (grants_at L) (n * (n * w)) (length_lines L t.grants) p6.1 in

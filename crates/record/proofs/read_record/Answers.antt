@@ -12,12 +12,6 @@ use Rattle.record.proofs.Fronts.{at_part}
 use Rattle.record.proofs.Header.{record_short, record_length, record_version, record_aid, aid_inside, record_body, record_whole}
 use Rattle.record.proofs.read_record.Goals as goal
 
--- the tests of the header
-pub record Headed (c : tie.Start) : Type 0 where
-  pub four : 4 ≤ length c.args.rec.now
-  pub long : get_or c.args.rec.now 0 0 * 256 + get_or c.args.rec.now 1 0 ≡ length c.args.rec.now
-  pub kept : get_or c.args.rec.now 2 0 ≡ (layout_of c.args.c).version
-
 pub returns-then-rec-lt4 : goal.returns-then-rec-lt4
 returns-then-rec-lt4 c = record_short _ _ c.if-rec-lt4.true
 
@@ -41,52 +35,25 @@ returns-then-rec-version c = record_version _ _ c.if-rec-lt4.false c.if-length-r
 
 pub returns-in_default : goal.returns-in_default
 returns-in_default c =
-    let h = (record {
-      four = c.if-rec-lt4.false;
-      long = c.if-length-rec.false;
-      kept = c.if-rec-version.false ∙ c.version-version.ensures;
-    }) in
-    record_aid _ _ h.four h.long h.kept
+    record_aid _ _ c.if-rec-lt4.false c.if-length-rec.false (c.if-rec-version.false ∙ c.version-version.ensures)
     (at_part c.args.rec.now 4 c.in_default.is c.aid_end.ensures)
 
 pub overflow_add-n : goal.overflow_add-n
 overflow_add-n c =
-    omega (arith, (aid_inside c.args.rec.now ((record {
-      four = c.if-rec-lt4.false;
-      long = c.if-length-rec.false;
-      kept = c.if-rec-version.false ∙ c.version-version.ensures;
-    })).four ((at_part c.args.rec.now 4 c.in-Bytes.is c.aid_end.ensures))))
+    omega (arith, (aid_inside c.args.rec.now c.if-rec-lt4.false (at_part c.args.rec.now 4 c.in-Bytes.is c.aid_end.ensures)))
 
 pub read_body-requires : goal.read_body-requires
 read_body-requires c =
-    ((aid_inside c.args.rec.now ((record {
-      four = c.if-rec-lt4.false;
-      long = c.if-length-rec.false;
-      kept = c.if-rec-version.false ∙ c.version-version.ensures;
-    })).four ((at_part c.args.rec.now 4 c.in-Bytes.is c.aid_end.ensures)))).2
+    (aid_inside c.args.rec.now c.if-rec-lt4.false (at_part c.args.rec.now 4 c.in-Bytes.is c.aid_end.ensures)).2
 
 pub returns-in_default-read_body : goal.returns-in_default-read_body
 returns-in_default-read_body c =
-    let h = (record {
-      four = c.if-rec-lt4.false;
-      long = c.if-length-rec.false;
-      kept = c.if-rec-version.false ∙ c.version-version.ensures;
-    }) in
-    record_body _ _ h.four h.long h.kept ((at_part c.args.rec.now 4 c.in-Bytes.is c.aid_end.ensures)) (rw c.in_default-read_body.is at c.read_body.ensures)
+    record_body _ _ c.if-rec-lt4.false c.if-length-rec.false (c.if-rec-version.false ∙ c.version-version.ensures) (at_part c.args.rec.now 4 c.in-Bytes.is c.aid_end.ensures) (rw c.in_default-read_body.is at c.read_body.ensures)
 
 pub overflow_sub-len : goal.overflow_sub-len
 overflow_sub-len c =
-    omega (arith, (aid_inside c.args.rec.now ((record {
-      four = c.if-rec-lt4.false;
-      long = c.if-length-rec.false;
-      kept = c.if-rec-version.false ∙ c.version-version.ensures;
-    })).four ((at_part c.args.rec.now 4 c.in-Bytes.is c.aid_end.ensures))))
+    omega (arith, (aid_inside c.args.rec.now c.if-rec-lt4.false (at_part c.args.rec.now 4 c.in-Bytes.is c.aid_end.ensures)))
 
 pub returns : goal.returns
 returns c =
-    let h = (record {
-      four = c.if-rec-lt4.false;
-      long = c.if-length-rec.false;
-      kept = c.if-rec-version.false ∙ c.version-version.ensures;
-    }) in
-    record_whole _ _ h.four h.long h.kept ((at_part c.args.rec.now 4 c.in-Bytes.is c.aid_end.ensures)) (rw c.in-Whole.is at c.read_body.ensures)
+    record_whole _ _ c.if-rec-lt4.false c.if-length-rec.false (c.if-rec-version.false ∙ c.version-version.ensures) (at_part c.args.rec.now 4 c.in-Bytes.is c.aid_end.ensures) (rw c.in-Whole.is at c.read_body.ensures)

@@ -18,15 +18,12 @@ returns-in_default c =
 pub row_at-r-requires : goal.row_at-r-requires
 row_at-r-requires c =
     let a = c.args in
-    rw (valid_only (layout_of a.c) sort.Row _ _ _ (took ((let a = c.args in
-    at_part a.rec.now a.at c.in-Bytes.is c.row_end.ensures))).1) tt
+    rw (valid_only (layout_of a.c) sort.Row _ _ _ (took (at_part a.rec.now a.at c.in-Bytes.is c.row_end.ensures)).1) tt
 
 pub returns-then-r-rec : goal.returns-then-r-rec
 returns-then-r-rec c =
-    row_left c.args.c _ _ _ c.requires.1 c.requires.2 ((let c = c.args in
-    at_part c.?rec.now c.?at c.in-Bytes.is c.row_end.ensures)) c.row_at-r.ensures c.if-r-rec.true
+    row_left c.args.c _ _ _ c.requires.1 c.requires.2 (at_part c.args.rec.now c.args.at c.in-Bytes.is c.row_end.ensures) c.row_at-r.ensures c.if-r-rec.true
 
 pub returns : goal.returns
 returns c =
-    row_good c.args.c _ _ _ c.requires.1 c.requires.2 ((let c = c.args in
-    at_part c.?rec.now c.?at c.in-Bytes.is c.row_end.ensures)) c.row_at-r.ensures c.row_kind.ensures c.if-r-rec.false
+    row_good c.args.c _ _ _ c.requires.1 c.requires.2 (at_part c.args.rec.now c.args.at c.in-Bytes.is c.row_end.ensures) c.row_at-r.ensures c.row_kind.ensures c.if-r-rec.false

@@ -25,3 +25,17 @@ pub loop-todo-preserved : goal.loop-todo-preserved
 loop-todo-preserved c =
     once_next (own_aid _) eq_aid c.take_aid-r.ensures.split c.loop-todo.invariant c.aid_is.ensures c.if-aid_is.false
     c.has_aid.ensures c.if-has_aid.false
+
+pub returns-then-aid_is : goal.returns-then-aid_is
+unfolding proper
+returns-then-aid_is c k t = own_stop (own_aid _) eq_aid c.take_aid-r.ensures.split c.loop-todo.invariant c.aid_is.ensures c.if-aid_is.true
+
+pub returns-then-has_aid : goal.returns-then-has_aid
+unfolding proper
+returns-then-has_aid c k t =
+    twice_stop (own_aid _) eq_aid c.take_aid-r.ensures.split c.loop-todo.invariant c.aid_is.ensures c.if-aid_is.false
+    c.has_aid.ensures c.if-has_aid.true
+
+pub returns : goal.returns
+unfolding proper
+returns c k t = todo_end c.loop-todo.invariant c.loop-todo-test.false

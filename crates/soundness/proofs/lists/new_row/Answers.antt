@@ -5,6 +5,7 @@ use Prim.Native.Nat.{◌-◌}
 use Rattle.policy.proofs.Pieces.{row_ends}
 use Rattle.soundness.specs.Check.{other_row, new_row}
 use Rattle.soundness.proofs.Tests.{Shown, turns}
+use Rattle.bits.proofs.Loops.{every_fails}
 use Rattle.soundness.proofs.lists.new_row.Goals as goal
 
 pub overflow_mul-row : goal.overflow_mul-row
@@ -41,7 +42,9 @@ same_row-requires c = let a = c.args in let i = row_ends c.loop-q.q a.r a.w c.lo
 
 pub returns-then-same_row : goal.returns-then-same_row
 unfolding new_row
-returns-then-same_row c = let e = ap not c.same_row.ensures in let h = ap (λ (b : Bool). not (not b)) c.if-same_row.true in search turns
+returns-then-same_row c =
+    let a = c.args in
+    every_fails (other_row a.img.now a.at a.w a.r) a.r c.loop-q.q (ap not c.same_row.ensures) (ap (λ (b : Bool). not (not b)) c.if-same_row.true) c.loop-q-test.true
 
 pub overflow_step-q : goal.overflow_step-q
 unfolding new_row
