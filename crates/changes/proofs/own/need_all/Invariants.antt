@@ -1,0 +1,11 @@
+-- `changes::own::need_all` meets its contract.
+use Rattle.geometry.specs.Geometry.{layout_of}
+use Rattle.changes.proofs.ItemLoops.{turning_here, turning_end, items}
+use Rattle.changes.proofs.OwnWrites.{needed, RowsLeft}
+use Rattle.changes.proofs.own.need_all.Given as goal
+
+abbrev pub invariant-loop-todo : goal.invariant-loop-todo
+invariant-loop-todo l = RowsLeft l.c (needed (layout_of l.c) l.n) l.initial.img l.rec l.initial.todo l.img l.todo
+
+abbrev pub decreases-loop-todo : goal.decreases-loop-todo
+decreases-loop-todo l = l.todo.count

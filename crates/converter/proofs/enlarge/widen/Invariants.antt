@@ -1,0 +1,13 @@
+-- `converter::enlarge::widen` meets its contract. Assumes nothing.
+use Prim.Native.Nat.{◌+◌, ◌-◌}
+use native.Mathlib.Omega.{arith}
+use mathlib.Core.Path.{refl}
+use mathlib.Core.List.{[]}
+use lib.ListN.{get_or}
+use borrow.Author.Rules.{rules}
+use Rattle.policy.specs.Tables.{write_number}
+use Rattle.converter.proofs.Laid.{Laid, laid_none, laid_on, laid_all}
+use Rattle.converter.proofs.enlarge.widen.Given as goal
+
+abbrev pub invariant-loop-j : goal.invariant-loop-j
+invariant-loop-j l = Laid (λ j. write_number 2 (get_or l.img (l.from + j) 0) []) 2 l.to l.n l.initial.out l.out l.j
