@@ -14,11 +14,11 @@ use Rattle.lines.proofs.Columns.{shown_most}
 use Rattle.lines.proofs.write_line.Goals as goal
 
 -- how long the columns are at most
-record Sizes (ordinal : ℕ) (kind : Shown) (answer : ℕ) (second : Shown) : Type 0 where
-  ordinal : length (digits ordinal) ≤ 20
-  kind : length (shown kind) ≤ 3
-  answer : length (digits answer) ≤ 3
-  second : length (shown second) ≤ 3
+record Sizes (o : ℕ) (k : Shown) (a : ℕ) (s : Shown) : Type 0 where
+  ordinal : length (digits o) ≤ 20
+  kind : length (shown k) ≤ 3
+  answer : length (digits a) ≤ 3
+  second : length (shown s) ≤ 3
 
 sizes : (ordinal : ℕ) (kind : Shown) (answer : ℕ) (second : Shown) {vs us : List Val} → ordinal < 10 ^ 20 → answer < 10 ^ 3 → Is the_row kind vs → Is the_row second us
     → Sizes ordinal kind answer second
@@ -30,5 +30,31 @@ sizes ordinal kind answer second {vs = vs} {us = us} o a k s = record {
 }
 
 pub write_number-at-requires : goal.write_number-at-requires
-write_number-at-requires c = let s = ? in omega arith
+write_number-at-requires c =
+    omega (arith, sizes c.args.ordinal c.args.kind c.args.answer c.args.second (omega arith) (omega arith) c.well_formed.1.1.0 c.well_formed.1.1.1.1.0)
 
+pub write_column-at-requires : goal.write_column-at-requires
+write_column-at-requires c =
+    omega (arith, sizes c.args.ordinal c.args.kind c.args.answer c.args.second (omega arith) (omega arith) c.well_formed.1.1.0 c.well_formed.1.1.1.1.0)
+
+pub write_column-at-requires-2 : goal.write_column-at-requires-2
+write_column-at-requires-2 c =
+    omega (arith, sizes c.args.ordinal c.args.kind c.args.answer c.args.second (omega arith) (omega arith) c.well_formed.1.1.0 c.well_formed.1.1.1.1.0)
+
+pub write_column-at-requires-3 : goal.write_column-at-requires-3
+write_column-at-requires-3 c =
+    omega (arith, sizes c.args.ordinal c.args.kind c.args.answer c.args.second (omega arith) (omega arith) c.well_formed.1.1.0 c.well_formed.1.1.1.1.0)
+
+pub put_byte-requires : goal.put_byte-requires
+put_byte-requires c =
+    omega (arith, sizes c.args.ordinal c.args.kind c.args.answer c.args.second (omega arith) (omega arith) c.well_formed.1.1.0 c.well_formed.1.1.1.1.0)
+
+pub returns : goal.returns
+returns c =
+    let s = sizes c.args.ordinal c.args.kind c.args.answer c.args.second (omega arith) (omega arith) c.well_formed.1.1.0 c.well_formed.1.1.1.1.0 in
+    print _ _ _ _ (omega arith)
+    (after _ _ _ _ _ _ _ _ (omega arith) c.write_number-at.ensures
+    (after _ _ _ _ _ _ _ _ (omega arith) c.write_column-at.ensures
+    (after _ _ _ _ _ _ _ _ (omega arith) c.write_column-at-2.ensures
+    (after _ _ _ _ _ _ _ _ (omega arith) c.write_column-at-3.ensures
+    c.put_byte.ensures))))

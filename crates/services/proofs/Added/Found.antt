@@ -44,6 +44,7 @@ module _ (L : Layout) (t : Tables) (a : Bytes) (n r : ℕ) (e : n ≡ L.packages
 
 -- a used package's AID
 pub used_same : (b x r : Bool) → T b → r ≡ b && x → r ≡ x
+used_same false x r h e = elim h [ ]
 used_same true x r h e = e
 
 -- unmet call r, which the mask m names, is by one of the callers l, or a waiting grant is to its caller

@@ -1,0 +1,45 @@
+-- `packages::conditions::others_rights` meets its contract. Assumes nothing.
+use native.Mathlib.Omega.{arith}
+use Prim.Native.Nat.{◌-◌, ◌≤◌, ◌<◌}
+use mathlib.Core.Path.{◌≡◌}
+use mathlib.Core.Bool.{true}
+use lib.ListN.{length}
+use Rattle.policy.specs.Lists.{implies, every, upto}
+use Rattle.policy.specs.Record.{a_row}
+use Rattle.policy.specs.Tables.{bit, decode}
+use Rattle.geometry.specs.Geometry.{layout_of}
+use Rattle.bits.proofs.Loops.{early}
+use Rattle.image.specs.Read.{unmet_row}
+use Rattle.image.proofs.Laid.{sound_laid}
+use Rattle.record.specs.Meaning.{items_in}
+use Rattle.packages.specs.Conditions.{granted_to}
+use Rattle.changes.proofs.SoundRows.{caller_in}
+use Rattle.packages.proofs.conditions.others_rights.Goals as goal
+
+pub count-n-requires : goal.count-n-requires
+count-n-requires c = sound_laid _ c.requires.sound
+
+pub loop-r-init : goal.loop-r-init
+loop-r-init c = search early
+
+pub named_granted-requires : goal.named_granted-requires
+named_granted-requires c =
+    let x = c.args in
+    let L = layout_of x.c in
+    let q : c.loop-r.r < length (decode L x.img.now).unmet = omega (arith, c.loop-r-test.true, c.count-n.ensures) in
+    record { laid = sound_laid L c.requires.sound; inside = q; caller = caller_in L x.img.now c.loop-r.r c.requires.sound q; stands = c.requires.stands }
+
+pub returns-then-not-named_granted : goal.returns-then-not-named_granted
+returns-then-not-named_granted c = search early
+
+pub overflow_step-r : goal.overflow_step-r
+overflow_step-r c = search early
+
+pub loop-r-smaller : goal.loop-r-smaller
+loop-r-smaller c = search early
+
+pub loop-r-preserved : goal.loop-r-preserved
+loop-r-preserved c = search early
+
+pub returns : goal.returns
+returns c = search early

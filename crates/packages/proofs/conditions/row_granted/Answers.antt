@@ -1,0 +1,37 @@
+-- `packages::conditions::row_granted` meets its contract. Assumes nothing.
+use Prim.Native.Nat.{◌-◌}
+use native.Mathlib.Omega.{arith}
+use Rattle.policy.specs.Lists.{implies}
+use Rattle.policy.specs.Record.{a_row}
+use Rattle.policy.specs.Tables.{bit, decode}
+use Rattle.geometry.specs.Geometry.{layout_of}
+use Rattle.record.specs.Meaning.{items_in}
+use Rattle.packages.specs.Conditions.{granted_to}
+use Rattle.packages.proofs.Checks.{Seeking, seekings}
+use Rattle.packages.proofs.conditions.row_granted.Goals as goal
+
+pub services-size-requires : goal.services-size-requires
+services-size-requires c = search seekings
+
+pub loop-k-init : goal.loop-k-init
+loop-k-init c = search seekings
+
+pub service_granted-s-requires : goal.service_granted-s-requires
+service_granted-s-requires c =
+    let p = c.requires in
+    record { laid = p.0; inside = (p.1.0.0, p.1.0.1, omega (arith, c.loop-k-test.true, c.services-size.ensures)); stands = p.1.1.0; among = c.loop-k.invariant.rest }
+
+pub returns-then-not-s : goal.returns-then-not-s
+returns-then-not-s c = search seekings
+
+pub overflow_step-k : goal.overflow_step-k
+overflow_step-k c = search seekings
+
+pub loop-k-smaller : goal.loop-k-smaller
+loop-k-smaller c = search seekings
+
+pub loop-k-preserved : goal.loop-k-preserved
+loop-k-preserved c = search seekings
+
+pub returns : goal.returns
+returns c = search seekings

@@ -1,0 +1,23 @@
+-- `services::adding::due_rows` meets its contract. Assumes nothing.
+use Prim.Native.Nat.{◌-◌, ◌≤◌, ◌<◌}
+use native.Mathlib.Omega.{arith}
+use mathlib.Core.Path.{◌≡◌, ap, ◌∙◌}
+use mathlib.Core.Bool.{Bool, ◌&&◌}
+use lib.ListN.{length, drop}
+use borrow.Author.Rules.{rules}
+use Rattle.policy.specs.Tables.{Waiting, decode}
+use Rattle.policy.specs.Draft.{installed_aid}
+use Rattle.geometry.specs.Geometry.{layout_of}
+use Rattle.geometry.specs.declared.Kept.TheVariants.{WaitingGrants}
+use Rattle.image.specs.Read.{mask_of, waiting_row}
+use Rattle.image.proofs.Masks.{mask_start, mask_turn, mask_doubles, mask_adds, mask_end}
+use Rattle.image.proofs.Listed.{list_low}
+use Rattle.changes.proofs.MaskedRows.{named}
+use Rattle.services.proofs.adding.due_rows.Given as goal
+
+abbrev pub invariant-loop-r : goal.invariant-loop-r
+invariant-loop-r l = let t = decode (layout_of l.c) l.img in
+    (l.r ≤ length t.waiting) × ((f : Waiting → Bool) → l.granting ≡ mask_of f t.waiting → l.mask ≡ mask_of (λ w. f w && installed_aid (layout_of l.c) t w.caller) (drop l.r t.waiting))
+
+abbrev pub decreases-loop-r : goal.decreases-loop-r
+decreases-loop-r l = l.r

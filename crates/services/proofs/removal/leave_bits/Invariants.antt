@@ -1,0 +1,15 @@
+-- `services::removal::leave_bits` meets its contract. Assumes nothing.
+use Prim.Native.Nat.{◌-◌}
+use native.Mathlib.Omega.{arith}
+use mathlib.Core.Path.{sym, ◌∙◌}
+use borrow.Author.Rules.{rules}
+use Rattle.policy.specs.Tables.{decode}
+use Rattle.geometry.specs.Geometry.{layout_of}
+use Rattle.image.proofs.Writes.{laid_len}
+use Rattle.services.specs.Removal.{left_bit}
+use Rattle.changes.proofs.AppendedRows.{Appended, append_start, append_turn, append_room, append_end}
+use Rattle.services.proofs.Removed.Rows.{bits_left}
+use Rattle.services.proofs.removal.leave_bits.Given as goal
+
+abbrev pub invariant-loop-i : goal.invariant-loop-i
+invariant-loop-i l = let t = decode (layout_of l.c) l.initial.img in Appended (layout_of l.c) l.l t (left_bit (layout_of l.c) l.l t l.tb l.j l.k) l.callers l.i l.img
