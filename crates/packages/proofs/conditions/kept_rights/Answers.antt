@@ -27,9 +27,7 @@ pub loop-i-init : goal.loop-i-init
 loop-i-init c = search seekings
 
 pub caller_granted-s-requires : goal.caller_granted-s-requires
-caller_granted-s-requires c =
-    let p = c.requires in
-    record { laid = sound_laid _ p.0; inside = (p.1.0, omega (arith, c.loop-i-test.true, c.packages-size.ensures)); stands = p.1.1; among = c.loop-i.invariant.rest }
+caller_granted-s-requires c = record { laid = sound_laid _ c.requires.sound; inside = (c.requires.inside, omega (arith, c.loop-i-test.true, c.packages-size.ensures)); stands = c.requires.stands; among = c.loop-i.invariant.rest }
 
 pub returns-then-not-s : goal.returns-then-not-s
 returns-then-not-s c = search seekings

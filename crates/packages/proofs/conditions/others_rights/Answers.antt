@@ -1,14 +1,14 @@
 -- `packages::conditions::others_rights` meets its contract. Assumes nothing.
 use native.Mathlib.Omega.{arith}
 use Prim.Native.Nat.{◌-◌, ◌≤◌, ◌<◌}
-use mathlib.Core.Path.{◌≡◌}
-use mathlib.Core.Bool.{true}
+use mathlib.Core.Path.{◌≡◌, ap}
+use mathlib.Core.Bool.{true, not}
 use lib.ListN.{length}
 use Rattle.policy.specs.Lists.{implies, every, upto}
 use Rattle.policy.specs.Record.{a_row}
 use Rattle.policy.specs.Tables.{bit, decode}
 use Rattle.geometry.specs.Geometry.{layout_of}
-use Rattle.bits.proofs.Loops.{early}
+use Rattle.bits.proofs.Loops.{early, every_fails, every_done}
 use Rattle.image.specs.Read.{unmet_row}
 use Rattle.image.proofs.Laid.{sound_laid}
 use Rattle.record.specs.Meaning.{items_in}
@@ -30,7 +30,10 @@ named_granted-requires c =
     record { laid = sound_laid L c.requires.sound; inside = q; caller = caller_in L x.img.now c.loop-r.r c.requires.sound q; stands = c.requires.stands }
 
 pub returns-then-not-named_granted : goal.returns-then-not-named_granted
-returns-then-not-named_granted c = search early
+returns-then-not-named_granted c =
+    let x = c.args in
+    let L = layout_of x.c in
+    every_fails (λ k. implies (bit x.met k) (granted_to L (decode L x.img.now) (items_in a_row x.rec.now x.grants) (unmet_row (decode L x.img.now) k).caller (unmet_row (decode L x.img.now) k).tok)) (length (decode L x.img.now).unmet) c.loop-r.r c.named_granted.ensures (ap not c.if-not-named_granted.true) (omega (arith, c.loop-r-test.true, c.count-n.ensures))
 
 pub overflow_step-r : goal.overflow_step-r
 overflow_step-r c = search early
@@ -42,4 +45,7 @@ pub loop-r-preserved : goal.loop-r-preserved
 loop-r-preserved c = search early
 
 pub returns : goal.returns
-returns c = search early
+returns c =
+    let x = c.args in
+    let L = layout_of x.c in
+    every_done (λ k. implies (bit x.met k) (granted_to L (decode L x.img.now) (items_in a_row x.rec.now x.grants) (unmet_row (decode L x.img.now) k).caller (unmet_row (decode L x.img.now) k).tok)) (length (decode L x.img.now).unmet) c.loop-r.r c.loop-r.invariant.1 (omega (arith, c.loop-r-test.false, c.count-n.ensures))

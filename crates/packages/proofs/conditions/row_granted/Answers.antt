@@ -17,9 +17,7 @@ pub loop-k-init : goal.loop-k-init
 loop-k-init c = search seekings
 
 pub service_granted-s-requires : goal.service_granted-s-requires
-service_granted-s-requires c =
-    let p = c.requires in
-    record { laid = p.0; inside = (p.1.0.0, p.1.0.1, omega (arith, c.loop-k-test.true, c.services-size.ensures)); stands = p.1.1.0; among = c.loop-k.invariant.rest }
+service_granted-s-requires c = record { laid = c.requires.laid; inside = (c.requires.inside.0, c.requires.inside.1, omega (arith, c.loop-k-test.true, c.services-size.ensures)); stands = c.requires.stands; among = c.loop-k.invariant.rest }
 
 pub returns-then-not-s : goal.returns-then-not-s
 returns-then-not-s c = search seekings

@@ -4,7 +4,6 @@ use native.Mathlib.Omega.{arith}
 use mathlib.Core.Path.{sym, ap, ◌∙◌}
 use mathlib.Core.Bool.{Bool, not, ◌&&◌}
 use mathlib.Core.List.{List}
-use mathlib.Core.Logic.{⊎_elim}
 use borrow.Author.Rules.{rules}
 use Rattle.policy.specs.Contract.{Tok, has_tok}
 use Rattle.policy.specs.Record.{tokens}
@@ -16,6 +15,7 @@ use Rattle.bits.proofs.Row.{row_bit}
 use Rattle.bits.proofs.Gathered.{Gathers, gathers_start, gathers_on, gathers_off, gathers_end}
 use Rattle.record.specs.Meaning.{items_in}
 use Rattle.packages.proofs.decide.dropped_services.Goals as goal
+use Rattle.packages.proofs.decide.dropped_services.Goals.{then-is_dropped, else-is_dropped}
 
 pub loop-k-init : goal.loop-k-init
 loop-k-init c = gathers_start _
@@ -36,10 +36,10 @@ loop-k-preserved c =
     (row_bit (layout_of a.c).services (t.provides a.n) c.provided_row-row.result c.provided_row-row.ensures k (omega (arith, c.loop-k-test.true, c.services-size.ensures))) in
     let is = sym same ∙ sym c.is_dropped.ensures in
     let low : c.services-size.result ≤ 16 = omega (arith, c.services-size.ensures, (limits a.c).services_low) in
-    ⊎_elim
-    (λ h. gathers_on c.loop-k.invariant c.loop-k-test.true low _ (h.2 ∙ h.1.ensures) (is ∙ h.0.taken))
-    (λ h. rw h.1 (gathers_off c.loop-k.invariant c.loop-k-test.true low (is ∙ h.0.left)))
-    c.if-is_dropped.branch
+    elim c.if-is_dropped.branch [
+      then-is_dropped w ↦ gathers_on c.loop-k.invariant c.loop-k-test.true low _ (w.mask-is ∙ w.with_bit-mask.ensures) (is ∙ w.if-is_dropped.true)
+      | else-is_dropped w ↦ rw w.mask-is (gathers_off c.loop-k.invariant c.loop-k-test.true low (is ∙ w.if-is_dropped.false))
+    ]
 
 pub returns : goal.returns
 returns c =

@@ -15,7 +15,7 @@ pub entry-row-requires : goal.entry-row-requires
 entry-row-requires c = record { laid = c.requires.laid; inside = (omega (arith, c.loop-i-test.true, c.packages-size.ensures), c.requires.inside) }
 
 pub offset_bounds-rows-i : goal.offset_bounds-rows-i
-offset_bounds-rows-i c = search (rules, (omega (arith, c.loop-i.invariant.long, c.packages-size.ensures, limits c.args.c)))
+offset_bounds-rows-i c = omega (arith, c.loop-i.invariant.long, c.packages-size.ensures, limits c.args.c)
 
 -- the number of a package
 pub bounds-rows-i : goal.bounds-rows-i
