@@ -23,7 +23,7 @@ clear_bit-requires-in-Uncall-2 c =
           at c.requires.inside }
 
 pub append_row-requires : goal.append_row-requires
-append_row-requires c = let asked = (c.requires.laid, rw c.in-Add.is at c.requires.inside) in record { laid = asked.0; room = asked.1.0; short = asked.1.1.0; inside = asked.1.1.1 }
+append_row-requires c = let p = rw c.in-Add.is at c.requires.inside in record { laid = c.requires.laid; room = p.0; short = p.1.0; inside = p.1.1 }
 
 pub returns-in-Set : goal.returns-in-Set
 returns-in-Set c = rw c.in-Set.is c.set_bit.ensures
