@@ -1,0 +1,16 @@
+-- `judging::add_service` meets its contract. Assumes nothing.
+use mathlib.Core.Bool.{not}
+use mathlib.Core.Path.{ap}
+use borrow.Author.Rules.{rules}
+use Rattle.geometry.specs.Geometry.{tok_of}
+use Rattle.judging.proofs.Judged.{improper, asked, settles}
+use Rattle.judging.proofs.add_service.Goals as goal
+
+pub returns-then-not-callers_proper : goal.returns-then-not-callers_proper
+returns-then-not-callers_proper c = improper _ _ _ _ (c.callers_proper.ensures c.args.c (tok_of c.args.t)) (ap not c.if-not-callers_proper.true) c.refused.ensures
+
+pub add_service-requires : goal.add_service-requires
+add_service-requires c = record { asked = asked _ _ _ _ (c.callers_proper.ensures c.args.c (tok_of c.args.t)) (ap not c.if-not-callers_proper.false) c.requires.taken; stands = c.requires.stands }
+
+pub returns : goal.returns
+returns c = settles _ _ _ _ (c.callers_proper.ensures c.args.c (tok_of c.args.t)) (ap not c.if-not-callers_proper.false) c.add_service.ensures
