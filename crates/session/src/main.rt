@@ -9,8 +9,12 @@ ghost use Rattle.policy.specs.Layout.{small, size};
 ghost use Rattle.session.specs.Turned.{Turned, last_ordinal, Ready, started, took_in, gave_out, stopped, Advanced, Ran};
 
 use geometry::Card;
-use libc::{STDIN_FILENO, STDOUT_FILENO};
 use lines::Held;
+
+// The descriptors of standard input and output.
+const STDIN: i32 = 0;
+
+const STDOUT: i32 = 1;
 
 // One record: judged on the image, and its line put into text.
 fn answer_record(image: &mut [u8], rec: &[u8], ordinal: u64, text: &mut [u8; 40]) -> usize
@@ -54,7 +58,7 @@ fn turn(image: &mut [u8], held: &[u8], ended: bool, ordinal: u64, text: &mut [u8
 }
 
 // How far a run has come.
-#[derive(Drop)]
+#[derive(Clone, Copy)]
 pub struct Progress {
     // The ordinal of the next line.
     pub ordinal: u64,
@@ -132,15 +136,15 @@ fn advance(image: &mut [u8], buf: &mut [u8], p: Progress) -> Progress
     match turn(image, &buf[..have], p.ended, p.ordinal, &mut text) {
         Then::Read(to) => {
             let want = to - have;
-            let got = io::read_full(STDIN_FILENO, &mut buf[have..to]);
+            let got = io::read_full(STDIN, &mut buf[have..to]);
             took(p, want, got)
         }
         Then::Line(n) => {
-            let taken = io::write_all(STDOUT_FILENO, &text[..n]);
+            let taken = io::write_all(STDOUT, &text[..n]);
             gave(p, taken)
         }
         Then::Last(n) => {
-            io::write_all(STDOUT_FILENO, &text[..n]);
+            io::write_all(STDOUT, &text[..n]);
             stop(p)
         }
         Then::End => stop(p),

@@ -1,0 +1,7 @@
+-- `session::answer_record` meets its contract, by those of the engine and of the line. Assumes nothing.
+use borrow.Author.Rules.{rules}
+use Rattle.session.proofs.Answered.{answered}
+use Rattle.session.proofs.answer_record.Goals as goal
+
+pub returns : goal.returns
+returns c = let both = answered _ _ c.judge-v.ensures c.record_line.ensures in record { printed = both.0; image_after = both.1 }
