@@ -1,5 +1,6 @@
 // Rows of bits, held in a number.
 #![tactic(auto)]
+
 ghost use Rattle.std.specs.Prelude.{◌≡◌, not, ◌&&◌, ◌||◌, ◌<◌, eqb, length};
 ghost use Rattle.policy.specs.Lists.{implies, every, keep, first, upto, or_else};
 ghost use Rattle.policy.specs.Tables.{bit, row_of};

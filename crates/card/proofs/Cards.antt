@@ -9,7 +9,6 @@ use mathlib.Core.Option.{Option, none, some}
 use lib.Dec.{T, eqb, eqb→eq}
 use lib.ListN.{length, get_or}
 use borrow.Author.Tests.{ne_eqb}
-use Rattle.policy.specs.Contract.{Contract}
 use Rattle.policy.specs.Layout.{Layout, LayoutOk, size}
 use Rattle.policy.specs.Record.{Request, parse}
 use Rattle.policy.specs.Judge.{Out, judge}

@@ -1,6 +1,7 @@
 // The engine's C functions, on the cards of 1,110 and 3,639 bytes, by the rules in force. Each takes any bytes of any length: none asks
 // anything of its caller.
 #![tactic(auto)]
+
 ghost use Rattle.std.specs.Prelude.{◌≡◌, cond, get_or};
 ghost use Rattle.card.specs.Packed.{joined};
 ghost use Rattle.card.specs.Calls.{sized, versioned, Checked, Emptied, Converted, Enlarged, Judged, ReadInto, AidFound};

@@ -7,7 +7,6 @@ use mathlib.Core.List.{List, [], ◌∷◌, ◌++◌}
 use mathlib.Core.Option.{Option, none}
 use lib.ListN.{length, take, drop}
 use Rattle.policy.specs.Lists.{keep, is_some}
-use Rattle.policy.specs.ShortCheck.{count}
 use Rattle.policy.specs.Layout.{Layout}
 use Rattle.policy.specs.Tables.{Tables, decode}
 use Rattle.policy.proofs.Sets.{length_snoc}

@@ -1,5 +1,6 @@
 // Searches and writes that the kinds share, and the verdict that each gives: check first, write after.
 #![tactic(auto)]
+
 ghost use Rattle.std.specs.Prelude.{◌≡◌, ◌<◌};
 
 pub mod find;

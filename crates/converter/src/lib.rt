@@ -1,5 +1,6 @@
 // R-2's converter: a sound image of version 01 into a buffer of version 02's size.
 #![tactic(auto)]
+
 ghost use Rattle.std.specs.Prelude.{◌≡◌, ◌++◌, ◌+◌, ◌≤◌, ◌<◌, T, length, get_or};
 ghost use Rattle.policy.specs.Lists.{flat, upto};
 ghost use Rattle.policy.specs.Layout.{narrow, small, size as size_of};

@@ -1,5 +1,6 @@
 // A card's layout in code: an enum of the cards, and its numbers by cases.
 #![tactic(auto)]
+
 ghost use Rattle.std.specs.Prelude.{◌≡◌, ◌++◌, ◌+◌, ◌^◌, ◌≤◌, ◌<◌, length, take, drop};
 ghost use Rattle.policy.specs.Layout.{narrow, aids_at, tokens_at, provides_at, size as size_of};
 ghost use Rattle.policy.specs.Tables.{read_number, write_number};

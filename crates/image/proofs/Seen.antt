@@ -4,16 +4,15 @@ use native.Mathlib.Omega.{arith}
 use mathlib.Core.Path.{◌≡◌, refl, sym, ap, ap₂, ◌∙◌}
 use mathlib.Core.Bool.{Bool, true, false, not, ◌&&◌, and-true, and-false}
 use mathlib.Core.List.{List, [], ◌∷◌, ◌++◌, append-nil}
-use lib.Dec.{eqb}
 use lib.ListN.{length, get_or, take, drop, length-take, length-drop, drop_of_length-le, replicate, get_or-replicate, get_or-append}
 use lib.Seq.{get_or-drop, get_or-append-add}
-use borrow.Author.Tests.{not-true, not-false, ne_eqb}
+use borrow.Author.Tests.{not-true, not-false}
 use Rattle.policy.specs.Lists.{eq_bytes, first, upto}
 use Rattle.policy.specs.Contract.{Aid, eq_aid, Tok, eq_tok}
 use Rattle.policy.specs.Layout.{size}
 use Rattle.policy.specs.Tables.{read_number, write_aid, row_of, bit, decode}
 use Rattle.policy.specs.Lookup.{number_of, service_of, free_number, free_service}
-use Rattle.policy.proofs.Sets.{T_false, false_T, upto_in}
+use Rattle.policy.proofs.Sets.{T_false, upto_in}
 use Rattle.policy.proofs.Equal.{eq_aid→}
 use Rattle.policy.proofs.Bits.{row_of_lt, bit_row_of}
 use Rattle.policy.proofs.Pieces.{length_aid}

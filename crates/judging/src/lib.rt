@@ -1,5 +1,6 @@
 // Judging a record on an image: the causes in the order of document 01, then one function for each kind.
 #![tactic(auto)]
+
 ghost use Rattle.policy.specs.Record.{add_service, tokens, aid};
 ghost use Rattle.policy.specs.Judge.{judge as judgement};
 ghost use Rattle.policy.specs.Settled.{Gives};

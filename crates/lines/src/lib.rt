@@ -1,5 +1,6 @@
 // The session program's lines and frames: what it prints, and how its input splits.
 #![tactic(auto)]
+
 ghost use Rattle.std.specs.Prelude.{◌+◌, ◌≤◌, ◌≡◌, [], ◌∷◌, length};
 ghost use Rattle.lines.specs.Lines.{digits, shown, line, record_line, bad_line, Wrote, Printed};
 ghost use Rattle.lines.specs.Frames.{announced, held_as};

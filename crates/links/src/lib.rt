@@ -1,5 +1,6 @@
 // Kinds 5 to 8: one call or grant of a package. A plan first, then the writes.
 #![tactic(auto)]
+
 ghost use Rattle.policy.specs.Settled.{settled, Gives};
 ghost use Rattle.geometry.specs.Geometry.{layout_of, tables_of};
 ghost use Rattle.image.specs.Laid.{Laid};

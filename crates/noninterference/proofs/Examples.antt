@@ -9,7 +9,6 @@ use mathlib.Core.List.Memᴰ.{tail as there}
 use mathlib.Core.List.{Memᴰ as In}
 use mathlib.Core.Option.{Option}
 use lib.Dec.{T, eqb→eq}
-use lib.ListN.{length}
 use Rattle.policy.specs.Lists.{SameSet, implies, every, exists, or_else}
 use Rattle.policy.specs.Contract.{Aid, eq_aid, eq_tok, eq_row, Contract}
 use Rattle.policy.specs.Layout.{Layout, small}

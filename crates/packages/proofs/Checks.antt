@@ -13,7 +13,7 @@ use mir.Syntax.{w64}
 use mir.Val.{Fits}
 use borrow.Author.Tests.{not-true, not-false, eq-eqb, ne_eqb, lt-leb, le-leb}
 use borrow.Author.Rules.{rules}
-use Rattle.policy.specs.Lists.{implies, every, exists, is_some, or_else, upto}
+use Rattle.policy.specs.Lists.{implies, every, is_some, or_else, upto}
 use Rattle.policy.specs.Contract.{Aid, eq_aid, Tok, eq_tok, Row, Contract, has_tok}
 use Rattle.policy.specs.Layout.{Layout}
 use Rattle.policy.specs.Record.{Got, got, bad, and_then, many, a_row}

@@ -1,5 +1,5 @@
 -- Kinds 1 and 11, a contract that comes: what its short check asks, in the parts that the code decides.
-use Rattle.std.specs.Prelude.{ℕ, ◌+◌, ◌-◌, Bool, not, ◌&&◌, ◌||◌, cond, ◌≡◌, List, eqb, leb}
+use Rattle.std.specs.Prelude.{ℕ, ◌+◌, Bool, not, ◌&&◌, ◌||◌, cond, ◌≡◌, List, eqb, leb}
 use Rattle.std.proofs.Math.Option.{none, some}
 use Rattle.std.specs.Int.Bits.{bit_or}
 use Rattle.policy.specs.Lists.{is_some}

@@ -1,5 +1,6 @@
 // Kinds 1, 2 and 11: a package comes, goes, and gets a new contract. A contract is decided first, and written after.
 #![tactic(auto)]
+
 ghost use Rattle.policy.specs.Settled.{settled, Gives};
 ghost use Rattle.geometry.specs.Geometry.{layout_of};
 ghost use Rattle.record.specs.Meaning.{ListsStand, load_in, replace_in, whole_in};

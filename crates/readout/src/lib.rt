@@ -1,5 +1,6 @@
 // Reading out a package's contract as a kind 1 record: measured first, then written from front to back.
 #![tactic(auto)]
+
 ghost use Rattle.std.specs.Prelude.{◌≡◌, ◌&&◌, ◌++◌, ◌≤◌, ◌<◌, ltb, length, drop};
 ghost use Rattle.policy.specs.Lookup.{contract_at};
 ghost use Rattle.policy.specs.Judge.{load_record, read_out};

@@ -1,5 +1,6 @@
 // Reads a record: where its parts are, or that it is malformed. Positions count from the record's first byte.
 #![tactic(auto)]
+
 ghost use Rattle.std.specs.Prelude.{◌≡◌, ◌+◌, ◌-◌, ◌≤◌, ◌<◌, length, drop};
 ghost use Rattle.policy.specs.Record.{aid, tokens, a_row, valid_row, many, token_list, caller_list, a_contract, change, first_aid};
 ghost use Rattle.geometry.specs.Geometry.{layout_of, tok_of};

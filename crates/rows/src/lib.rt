@@ -1,5 +1,6 @@
 // Bytes compared and put in place; and a list area, a part of an image: a count byte, then rows of `width` bytes, then zeros to its end.
 #![tactic(auto)]
+
 ghost use Rattle.std.specs.Prelude.{◌≡◌, ◌+◌, ◌≤◌, length, get_or, replicate};
 ghost use Rattle.policy.specs.Lists.{eq_bytes, flat};
 ghost use Rattle.rows.specs.Area.{part, over, little, rows_in, IsArea, HasRoom, keep_rows, appended, dropped};

@@ -1,4 +1,5 @@
 // Kinds 3 and 4: a service comes, and goes.
 #![tactic(auto)]
+
 pub mod adding;
 pub mod removal;

@@ -1,6 +1,7 @@
 // The session program: reads records from standard input, judges each on one card, and prints a line for each at once.
 // What decides stands in `turn`; around it the program reads, writes and loops.
 #![tactic(auto)]
+
 ghost use Rattle.std.specs.Prelude.{◌≡◌, true, ◌+◌, ◌^◌, ◌≤◌, ◌<◌, length, take, get_or};
 ghost use Rattle.lines.specs.Lines.{record_line, Printed};
 ghost use Rattle.lines.specs.Session.{judging, turn as turn_of};

@@ -1,5 +1,6 @@
 // The check of an image: whether it is sound, and how many packages it holds.
 #![tactic(auto)]
+
 ghost use Rattle.std.specs.Prelude.{◌≡◌, ◌≤◌, length, take};
 ghost use Rattle.policy.specs.Lists.{eq_bytes};
 ghost use Rattle.policy.specs.Layout.{narrow, size as size_of};

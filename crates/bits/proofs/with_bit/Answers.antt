@@ -1,5 +1,4 @@
 -- `bits::with_bit` meets its contract. Assumes nothing.
-use borrow.Author.Rules.{rules}
 use Rattle.bits.proofs.Row.{or_set}
 use Rattle.bits.proofs.with_bit.Goals as goal
 

@@ -1,5 +1,4 @@
 -- `bits::with_mark` meets its contract. Assumes nothing.
-use borrow.Author.Rules.{rules}
 use Rattle.bits.proofs.Row.{or_set}
 use Rattle.bits.proofs.with_mark.Goals as goal
 

@@ -1,5 +1,4 @@
 -- `bits::without_bit` meets its contract. Assumes nothing.
-use borrow.Author.Rules.{rules}
 use Rattle.bits.proofs.Row.{and_clear}
 use Rattle.bits.proofs.without_bit.Goals as goal
 

@@ -1,5 +1,4 @@
 -- `card::card_convert` meets its contract.
-use borrow.Author.Rules.{rules}
 use Rattle.policy.specs.Layout.{narrow, small}
 use Rattle.card.proofs.Packs.{conversion}
 use Rattle.card.proofs.card_convert.Goals as goal

@@ -1,5 +1,4 @@
 -- `card::card_enlarge` meets its contract.
-use borrow.Author.Rules.{rules}
 use Rattle.policy.specs.Layout.{small, large}
 use Rattle.card.proofs.Packs.{conversion}
 use Rattle.card.proofs.card_enlarge.Goals as goal

@@ -1,6 +1,5 @@
 -- `card::card_of_record` meets its contract.
 use mathlib.Core.Path.{sym, ◌∙◌}
-use borrow.Author.Rules.{rules}
 use Rattle.geometry.specs.declared.Card.TheVariants.{Large}
 use Rattle.card.proofs.Cards.{versioned_as, versioned_else, short_version}
 use Rattle.card.proofs.card_of_record.Goals as goal

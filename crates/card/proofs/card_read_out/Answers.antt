@@ -1,5 +1,4 @@
 -- `card::card_read_out` meets its contract.
-use borrow.Author.Rules.{rules}
 use Rattle.geometry.specs.declared.Card.{Card}
 use Rattle.geometry.specs.Geometry.{layout_of}
 use Rattle.policy.specs.Judge.{read_out}

@@ -1,5 +1,4 @@
 -- `card::taken` meets its contract.
-use borrow.Author.Rules.{rules}
 use Rattle.card.proofs.taken.Goals as goal
 
 pub returns-then-took : goal.returns-then-took

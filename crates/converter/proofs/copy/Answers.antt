@@ -2,7 +2,6 @@
 use mathlib.Core.Path.{ap, ◌∙◌}
 use mathlib.Core.List.{List}
 use Prim.Native.Nat.{ℕ}
-use borrow.Author.Rules.{rules}
 use Rattle.rows.specs.Area.{over}
 use Rattle.converter.proofs.Laid.{part_end}
 use Rattle.converter.proofs.copy.Goals as goal

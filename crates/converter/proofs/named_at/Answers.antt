@@ -1,7 +1,6 @@
 -- `converter::named_at` meets its contract. Assumes nothing.
 use Prim.Native.Nat.{◌+◌}
 use native.Mathlib.Omega.{arith}
-use borrow.Author.Rules.{rules}
 use Rattle.converter.proofs.named_at.Goals as goal
 
 pub overflow_cast-callee : goal.overflow_cast-callee

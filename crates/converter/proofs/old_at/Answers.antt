@@ -1,6 +1,5 @@
 -- `converter::old_at` meets its contract. Assumes nothing.
 use native.Mathlib.Omega.{arith}
-use borrow.Author.Rules.{rules}
 use Rattle.converter.proofs.old_at.Goals as goal
 
 pub overflow_mul-result : goal.overflow_mul-result

@@ -1,7 +1,4 @@
 -- `converter::write_rows` meets its contract. Assumes nothing.
-use Prim.Native.Nat.{◌-◌}
-use Rattle.converter.specs.Converted.{new_row}
-use Rattle.converter.proofs.Laid.{Laid}
 use Rattle.converter.proofs.Written.{writes}
 use Rattle.converter.proofs.write_rows.Goals as goal
 

@@ -1,6 +1,5 @@
 -- `geometry::aid_at` meets its contract. Assumes nothing.
 use native.Mathlib.Omega.{arith}
-use borrow.Author.Rules.{rules}
 use Rattle.geometry.proofs.Bounds.{limits, aid_in_lem}
 use Rattle.geometry.proofs.aid_at.Goals as goal
 

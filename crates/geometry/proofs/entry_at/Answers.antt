@@ -1,7 +1,6 @@
 -- `geometry::entry_at` meets its contract. Assumes nothing.
 use native.Mathlib.Omega.{arith}
-use borrow.Author.Rules.{rules}
-use Rattle.geometry.proofs.Bounds.{limits, entry_sum}
+use Rattle.geometry.proofs.Bounds.{entry_sum}
 use Rattle.geometry.proofs.entry_at.Goals as goal
 
 pub overflow_mul-line : goal.overflow_mul-line

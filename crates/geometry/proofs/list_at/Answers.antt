@@ -1,5 +1,4 @@
 -- `geometry::list_at` meets its contract. Assumes nothing.
-use borrow.Author.Rules.{rules}
 use Rattle.geometry.proofs.list_at.Goals as goal
 
 pub returns-in-UnmetCalls : goal.returns-in-UnmetCalls

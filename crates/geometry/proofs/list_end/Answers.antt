@@ -1,5 +1,4 @@
 -- `geometry::list_end` meets its contract. Assumes nothing.
-use borrow.Author.Rules.{rules}
 use Rattle.geometry.proofs.list_end.Goals as goal
 
 pub returns-in-UnmetCalls : goal.returns-in-UnmetCalls

@@ -1,7 +1,6 @@
 -- `geometry::number_at` meets its contract. Assumes nothing.
 use Prim.Native.Nat.{◌+◌}
 use native.Mathlib.Omega.{arith}
-use borrow.Author.Rules.{rules}
 use Rattle.geometry.proofs.Numbers.{one_read, two_read}
 use Rattle.geometry.proofs.number_at.Goals as goal
 

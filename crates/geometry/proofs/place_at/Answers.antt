@@ -1,6 +1,5 @@
 -- `geometry::place_at` meets its contract. Assumes nothing.
 use native.Mathlib.Omega.{arith}
-use borrow.Author.Rules.{rules}
 use Rattle.geometry.proofs.Bounds.{limits, row_wide, list_in}
 use Rattle.geometry.proofs.place_at.Goals as goal
 

@@ -1,7 +1,6 @@
 -- `geometry::prov_at` meets its contract. Assumes nothing.
 use native.Mathlib.Omega.{arith}
-use borrow.Author.Rules.{rules}
-use Rattle.geometry.proofs.Bounds.{limits, prov_sum}
+use Rattle.geometry.proofs.Bounds.{prov_sum}
 use Rattle.geometry.proofs.prov_at.Goals as goal
 
 pub overflow_mul-result : goal.overflow_mul-result

@@ -1,5 +1,4 @@
 -- `geometry::provides_at` meets its contract. Assumes nothing.
-use borrow.Author.Rules.{rules}
 use Rattle.geometry.proofs.provides_at.Goals as goal
 
 pub returns-in-Small : goal.returns-in-Small

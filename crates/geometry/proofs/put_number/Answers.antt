@@ -2,7 +2,6 @@
 use Prim.Native.Nat.{ℕ, ◌^◌}
 use mathlib.Core.Path.{ap}
 use native.Mathlib.Omega.{arith}
-use borrow.Author.Rules.{rules}
 use lib.ListN.{length-set}
 use Rattle.geometry.proofs.Numbers.{one_written, two_written}
 use Rattle.geometry.proofs.put_number.Goals as goal

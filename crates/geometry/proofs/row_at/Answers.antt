@@ -1,6 +1,5 @@
 -- `geometry::row_at` meets its contract. Assumes nothing.
 use native.Mathlib.Omega.{arith}
-use borrow.Author.Rules.{rules}
 use Rattle.geometry.proofs.Bounds.{limits}
 use Rattle.geometry.proofs.row_at.Goals as goal
 

@@ -1,5 +1,4 @@
 -- `geometry::size` meets its contract. Assumes nothing.
-use borrow.Author.Rules.{rules}
 use Rattle.geometry.proofs.size.Goals as goal
 
 pub returns-in-Small : goal.returns-in-Small

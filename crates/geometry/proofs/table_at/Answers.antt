@@ -1,5 +1,4 @@
 -- `geometry::table_at` meets its contract. Assumes nothing.
-use borrow.Author.Rules.{rules}
 use Rattle.geometry.proofs.table_at.Goals as goal
 
 pub returns-in-Calls : goal.returns-in-Calls

@@ -1,6 +1,5 @@
 -- `geometry::tok_at` meets its contract. Assumes nothing.
 use native.Mathlib.Omega.{arith}
-use borrow.Author.Rules.{rules}
 use Rattle.geometry.proofs.Bounds.{limits, tok_sum}
 use Rattle.geometry.proofs.tok_at.Goals as goal
 

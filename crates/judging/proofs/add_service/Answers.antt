@@ -1,7 +1,6 @@
 -- `judging::add_service` meets its contract. Assumes nothing.
 use mathlib.Core.Bool.{not}
 use mathlib.Core.Path.{ap}
-use borrow.Author.Rules.{rules}
 use Rattle.geometry.specs.Geometry.{tok_of}
 use Rattle.judging.proofs.Judged.{improper, asked, settles}
 use Rattle.judging.proofs.add_service.Goals as goal

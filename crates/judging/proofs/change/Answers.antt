@@ -1,7 +1,6 @@
 -- `judging::change` meets its contract. Assumes nothing.
 use mathlib.Core.Bool.{not}
 use mathlib.Core.Path.{ap, sym}
-use borrow.Author.Rules.{rules}
 use Rattle.record.specs.Meaning.{row_in}
 use Rattle.judging.proofs.Judged.{improper, asked, settles}
 use Rattle.judging.proofs.change.Goals as goal

@@ -1,7 +1,6 @@
 -- `judging::contract` meets its contract. Assumes nothing.
 use mathlib.Core.Bool.{not}
 use mathlib.Core.Path.{ap}
-use borrow.Author.Rules.{rules}
 use Rattle.judging.proofs.Judged.{improper, asked, settles}
 use Rattle.judging.proofs.contract.Goals as goal
 

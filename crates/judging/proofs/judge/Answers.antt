@@ -1,7 +1,6 @@
 -- `judging::judge` meets its contract: the causes in turn. Assumes nothing.
 use mathlib.Core.Bool.{not}
 use mathlib.Core.Path.{ap}
-use borrow.Author.Rules.{rules}
 use Rattle.record.proofs.Header.{parsed_fits}
 use Rattle.judging.proofs.Judged.{unsound, malformed, taken, judges}
 use Rattle.judging.proofs.judge.Goals as goal

@@ -1,5 +1,4 @@
 -- `judging::judge_read` meets its contract, kind by kind. Assumes nothing.
-use borrow.Author.Rules.{rules}
 use Rattle.judging.proofs.Judged.{asked_always, settles_always, remove_proper, service_proper}
 use Rattle.judging.proofs.judge_read.Goals as goal
 

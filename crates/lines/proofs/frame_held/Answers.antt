@@ -1,5 +1,4 @@
 -- `lines::frame_held` meets its contract: each return by the tests that led there. Assumes nothing.
-use borrow.Author.Rules.{rules}
 use borrow.Author.Tests.{eq-eqb, ne_eqb, le-leb, lt-leb}
 use Rattle.lines.proofs.Holding.{held_short, held_long}
 use Rattle.lines.proofs.frame_held.Goals as goal

@@ -1,5 +1,4 @@
 -- `lines::frame_length` meets its contract: each return by the tests that led there. Assumes nothing.
-use borrow.Author.Rules.{rules}
 use borrow.Author.Tests.{lt-leb, le-leb}
 use Rattle.lines.proofs.frame_length.Goals as goal
 

@@ -1,6 +1,5 @@
 -- `lines::put_byte` meets its contract. Assumes nothing.
 use mathlib.Core.Path.{refl}
-use borrow.Author.Rules.{rules}
 use Rattle.lines.proofs.Text.{set_over}
 use Rattle.lines.proofs.put_byte.Goals as goal
 

@@ -1,5 +1,4 @@
 -- `lines::record_line` meets its contract: the answer says whether a number is shown. Assumes nothing.
-use borrow.Author.Rules.{rules}
 use borrow.Author.Tests.{eq-eqb, ne_eqb}
 use Rattle.lines.proofs.record_line.Goals as goal
 

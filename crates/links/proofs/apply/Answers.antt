@@ -1,6 +1,5 @@
 -- `links::apply` meets its contract: in each arm the change is what it was matched with.
 use mathlib.Core.Bool.{false}
-use borrow.Author.Rules.{rules}
 use Rattle.policy.specs.Tables.{decode}
 use Rattle.geometry.specs.declared.Table.TheVariants.{Calls, Needs}
 use Rattle.geometry.specs.Geometry.{layout_of}
@@ -19,8 +18,11 @@ clear_bit-requires-in-Uncall c = record { laid = c.requires.laid; inside = rw c.
 
 pub clear_bit-requires-in-Uncall-2 : goal.clear_bit-requires-in-Uncall-2
 clear_bit-requires-in-Uncall-2 c =
-    record { laid = c.clear_bit-in-Uncall.ensures.laid; inside = rw c.in-Uncall.is
-          at c.requires.inside }
+    record {
+      laid = c.clear_bit-in-Uncall.ensures.laid;
+      inside = rw c.in-Uncall.is
+          at c.requires.inside;
+    }
 
 pub append_row-requires : goal.append_row-requires
 append_row-requires c = let p = rw c.in-Add.is at c.requires.inside in record { laid = c.requires.laid; room = p.0; short = p.1.0; inside = p.1.1 }

@@ -1,6 +1,5 @@
 -- `packages::bring` meets its contract. Assumes nothing.
 use mathlib.Core.Path.{subst}
-use borrow.Author.Rules.{rules}
 use Rattle.geometry.specs.Geometry.{layout_of}
 use Rattle.record.specs.declared.ContractKind.{ContractKind}
 use Rattle.record.specs.Meaning.{whole_in}

@@ -1,6 +1,5 @@
 -- `packages::load` meets its contract. Assumes nothing.
 use native.Mathlib.Omega.{arith}
-use borrow.Author.Rules.{rules}
 use Rattle.geometry.proofs.Bounds.{limits}
 use Rattle.packages.proofs.Brought.Accepted.{decided_refused, decided_done}
 use Rattle.packages.proofs.Loaded.Written.{number_in_lem}

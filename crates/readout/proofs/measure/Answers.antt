@@ -1,5 +1,4 @@
 -- `readout::measure` meets its contract. Assumes nothing.
-use borrow.Author.Rules.{rules}
 use Rattle.readout.proofs.Records.{body_short, measured}
 use Rattle.readout.proofs.measure.Goals as goal
 

@@ -2,7 +2,6 @@
 use mathlib.Core.Bool.{not}
 use mathlib.Core.Path.{ap}
 use native.Mathlib.Omega.{arith}
-use borrow.Author.Rules.{rules}
 use Rattle.readout.proofs.Records.{is_laid, is_inside, gives_unsound, gives_absent, gives_no_room, gives_record}
 use Rattle.readout.proofs.read_out.Goals as goal
 

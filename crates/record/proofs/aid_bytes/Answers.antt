@@ -1,5 +1,4 @@
 -- `record::aid_bytes` meets its contract.
-use borrow.Author.Rules.{rules}
 use native.Mathlib.Nat.{add-sub_cancel_left}
 use mathlib.Core.Path.{refl}
 use Rattle.record.proofs.aid_bytes.Goals as goal

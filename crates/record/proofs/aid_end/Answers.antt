@@ -1,5 +1,4 @@
 -- `record::aid_end` meets its contract: at each `return` the tests that led there say whether an AID stands there.
-use borrow.Author.Rules.{rules}
 use native.Mathlib.Omega.{arith}
 use Rattle.policy.specs.Record.{aid}
 use Rattle.record.proofs.Fronts.{aid_good, aid_bad, takes, takes_bad}

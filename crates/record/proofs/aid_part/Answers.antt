@@ -1,7 +1,6 @@
 -- `record::aid_part` meets its contract: the part that the read record names.
 use mathlib.Core.Path.{◌∙◌}
 use Rattle.record.proofs.Header.{parsed_fits, first_none, first_some}
-use borrow.Author.Rules.{rules}
 use Rattle.record.proofs.aid_part.Goals as goal
 
 pub returns-in_default : goal.returns-in_default

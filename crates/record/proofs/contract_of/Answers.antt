@@ -1,5 +1,4 @@
 -- `record::contract_of` meets its contract: each list that is not malformed is told by its things.
-use borrow.Author.Rules.{rules}
 use borrow.Author.Tests.{lt-ltb, le-ltb}
 use Rattle.record.proofs.contract_of.Goals as goal
 

@@ -1,5 +1,3 @@
-
-use borrow.Author.Rules.{rules}
 use Rattle.record.proofs.item_end.Goals as goal
 
 pub returns-in-Service : goal.returns-in-Service

@@ -1,12 +1,7 @@
 -- `record::items_end` meets its contract. The loop's invariant is `Still`; the measure is how many rows are to come.
-use mathlib.Core.Path.{refl}
-use borrow.Author.Rules.{rules}
-use native.Mathlib.Omega.{arith}
-use lib.ListN.{drop, length-drop}
 use Rattle.geometry.specs.Geometry.{layout_of}
-use Rattle.record.specs.Meaning.{Takes, valid_reader}
-use Rattle.record.specs.declared.Took.TheVariants.{Bytes}
-use Rattle.record.proofs.Fronts.{at_part, Still, still_next, still_bad, still_done}
+use Rattle.record.specs.Meaning.{valid_reader}
+use Rattle.record.proofs.Fronts.{Still}
 use Rattle.record.proofs.items_end.Given as goal
 
 abbrev pub invariant-loop-left : goal.invariant-loop-left

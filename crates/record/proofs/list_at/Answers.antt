@@ -2,7 +2,6 @@
 use native.Mathlib.Omega.{arith}
 use lib.ListN.{length-drop}
 use Rattle.record.proofs.Places.{placed_bad, placed_good, list_found}
-use borrow.Author.Rules.{rules}
 use Rattle.record.proofs.list_at.Goals as goal
 
 pub returns-in_default : goal.returns-in_default

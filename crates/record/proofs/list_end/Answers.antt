@@ -1,12 +1,7 @@
 -- `record::list_end` meets its contract: a count that fits, and the things after it.
 use native.Mathlib.Omega.{arith}
-use lib.ListN.{drop, length-drop}
-use borrow.Author.Rules.{rules}
-use Rattle.policy.specs.Record.{many}
+use lib.ListN.{length-drop}
 use Rattle.geometry.specs.Geometry.{layout_of}
-use Rattle.record.specs.Meaning.{Takes, Counts, valid_reader, width_of}
-use Rattle.record.specs.declared.Took.TheVariants.{Bytes}
-use Rattle.record.specs.declared.Count.TheVariants as count
 use Rattle.record.proofs.Fronts.{at_part, valid_only, list_none, list_over, list_bad, list_good}
 use Rattle.record.proofs.list_end.Goals as goal
 

@@ -3,7 +3,6 @@ use mathlib.Core.Path.{◌≡◌}
 use mathlib.Core.Logic.{inl, inr}
 use native.Mathlib.Omega.{arith}
 use Rattle.record.proofs.Bodies.{reads_8, kind_is, kind_none, kind_contract, remove_left, remove_good}
-use borrow.Author.Rules.{rules}
 use Rattle.record.proofs.read_body.Goals as goal
 
 pub returns-then-at-rec : goal.returns-then-at-rec

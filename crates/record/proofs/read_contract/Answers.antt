@@ -1,5 +1,4 @@
 -- `record::read_contract` meets its contract: the lists that were read, for what is done with them.
-use borrow.Author.Rules.{rules}
 use Rattle.record.proofs.read_contract.Goals as goal
 
 pub returns-in_default : goal.returns-in_default

@@ -1,6 +1,5 @@
 -- `record::read_count` meets its contract: a number of as many bytes as the card has for the sort, if they are there.
 use native.Mathlib.Omega.{arith}
-use borrow.Author.Rules.{rules}
 use Rattle.record.proofs.Fronts.{count_bytes, count_none, count_some}
 use Rattle.record.proofs.read_count.Goals as goal
 

@@ -1,13 +1,6 @@
 -- `record::read_record` meets its contract: the header, the first AID, and what follows it.
-use Prim.Native.Nat.{◌≤◌, ◌+◌, ◌*◌}
-use mathlib.Core.Path.{◌≡◌, sym, ◌∙◌}
+use mathlib.Core.Path.{sym, ◌∙◌}
 use native.Mathlib.Omega.{arith}
-use lib.ListN.{length, get_or, drop}
-use borrow.Author.Rules.{rules}
-use Rattle.policy.specs.Record.{aid}
-use Rattle.geometry.specs.Geometry.{layout_of}
-use Rattle.record.specs.Meaning.{Takes}
-use Rattle.record.specs.declared.Took.TheVariants.{Bytes}
 use Rattle.record.proofs.Fronts.{at_part}
 use Rattle.record.proofs.Header.{record_short, record_length, record_version, record_aid, aid_inside, record_body, record_whole}
 use Rattle.record.proofs.read_record.Goals as goal

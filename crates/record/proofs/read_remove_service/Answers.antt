@@ -1,6 +1,5 @@
 -- `record::read_remove_service` meets its contract: tokens, and nothing after them.
 use Rattle.record.proofs.Bodies.{alone_bad, alone_left, alone_good}
-use borrow.Author.Rules.{rules}
 use Rattle.record.proofs.read_remove_service.Goals as goal
 
 pub returns-in_default : goal.returns-in_default

@@ -1,13 +1,8 @@
 -- `record::read_row` meets its contract: one row, and nothing after it.
-use lib.ListN.{drop}
-use Rattle.policy.specs.Record.{valid_row}
 use Rattle.geometry.specs.Geometry.{layout_of}
-use Rattle.record.specs.Meaning.{Takes}
 use Rattle.record.specs.declared.Sort.TheVariants as sort
-use Rattle.record.specs.declared.Took.TheVariants.{Bytes}
 use Rattle.record.proofs.Fronts.{at_part, took, took_bad, valid_only}
 use Rattle.record.proofs.Bodies.{row_bad, row_left, row_good}
-use borrow.Author.Rules.{rules}
 use Rattle.record.proofs.read_row.Goals as goal
 
 pub returns-in_default : goal.returns-in_default

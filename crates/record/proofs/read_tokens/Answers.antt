@@ -1,7 +1,6 @@
 -- `record::read_tokens` meets its contract.
 use Rattle.record.proofs.Fronts.{at_part}
 use Rattle.record.proofs.Places.{served_bad, served_two, served_good}
-use borrow.Author.Rules.{rules}
 use Rattle.record.proofs.read_tokens.Goals as goal
 
 pub returns-in_default : goal.returns-in_default

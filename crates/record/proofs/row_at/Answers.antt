@@ -1,6 +1,6 @@
 -- `record::row_at` meets its contract: what stands at `at` is a row.
 use native.Mathlib.Omega.{arith}
-use Rattle.record.proofs.Places.{RowHere, row_here}
+use Rattle.record.proofs.Places.{row_here}
 use Rattle.record.proofs.row_at.Goals as goal
 
 pub bounds-rec-at : goal.bounds-rec-at

@@ -1,11 +1,7 @@
 -- `record::row_end` meets its contract: an AID, and then tokens.
 use native.Mathlib.Omega.{arith}
 use lib.ListN.{length-drop}
-use Rattle.policy.specs.Record.{aid}
-use Rattle.record.specs.Meaning.{Takes}
-use Rattle.record.specs.declared.Took.TheVariants.{Bytes}
 use Rattle.record.proofs.Fronts.{at_part, row_none, row_short, row_good}
-use borrow.Author.Rules.{rules}
 use Rattle.record.proofs.row_end.Goals as goal
 
 pub returns-in_default : goal.returns-in_default

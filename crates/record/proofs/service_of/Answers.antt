@@ -1,5 +1,4 @@
 -- `record::service_of` meets its contract: tokens and a list that are not malformed are told by what they are.
-use borrow.Author.Rules.{rules}
 use borrow.Author.Tests.{lt-ltb, le-ltb}
 use Rattle.record.proofs.service_of.Goals as goal
 

@@ -1,6 +1,5 @@
 -- `record::tokens_end` meets its contract: at each `return` the tests that led there say whether tokens of the card stand there.
 use native.Mathlib.Omega.{arith}
-use borrow.Author.Rules.{rules}
 use Rattle.record.proofs.Fronts.{tokens_none, tokens_two}
 use Rattle.record.proofs.tokens_end.Goals as goal
 

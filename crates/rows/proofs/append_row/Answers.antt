@@ -1,5 +1,4 @@
 -- `rows::append_row` meets its contract.
-use borrow.Author.Rules.{rules}
 use Rattle.rows.proofs.Area.{append_is}
 use Rattle.rows.proofs.append_row.Goals as goal
 

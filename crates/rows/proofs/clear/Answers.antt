@@ -1,9 +1,8 @@
 -- `rows::clear` meets its contract.
 use mathlib.Core.Path.{sym}
-use Prim.Native.Nat.{◌-◌}
 use native.Mathlib.Omega.{arith}
 use lib.ListN.{replicate, length-replicate, get_or-replicate}
-use Rattle.rows.proofs.Over.{Copied, copied_none, copied_on, copied_all}
+use Rattle.rows.proofs.Over.{copied_none, copied_on, copied_all}
 use Rattle.rows.proofs.clear.Goals as goal
 
 pub loop-j-init : goal.loop-j-init

@@ -1,7 +1,6 @@
 -- `rows::close_up` meets its contract.
-use Prim.Native.Nat.{◌-◌}
 use native.Mathlib.Omega.{arith}
-use Rattle.rows.proofs.Area.{Closed, closed_none, closed_skip, closed_keep, closed_all, kept_within}
+use Rattle.rows.proofs.Area.{closed_none, closed_skip, closed_keep, closed_all, kept_within}
 use Rattle.rows.proofs.close_up.Goals as goal
 
 pub overflow_cast-n : goal.overflow_cast-n

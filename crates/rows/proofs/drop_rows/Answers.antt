@@ -1,7 +1,6 @@
 -- `rows::drop_rows` meets its contract.
 use native.Mathlib.Omega.{arith}
 use lib.ListN.{length-set}
-use borrow.Author.Rules.{rules}
 use Rattle.rows.proofs.Area.{drop_none, kept_fits, drop_is}
 use Rattle.rows.proofs.drop_rows.Goals as goal
 

@@ -1,9 +1,8 @@
 -- `rows::put` meets its contract.
 use mathlib.Core.Path.{refl}
-use Prim.Native.Nat.{◌-◌}
 use native.Mathlib.Omega.{arith}
 use lib.ListN.{length}
-use Rattle.rows.proofs.Over.{Copied, copied_none, copied_on, copied_all}
+use Rattle.rows.proofs.Over.{copied_none, copied_on, copied_all}
 use Rattle.rows.proofs.put.Goals as goal
 
 pub loop-j-init : goal.loop-j-init

@@ -1,10 +1,5 @@
 -- `rows::same_all` meets its contract.
-use mathlib.Core.Path.{◌≡◌}
-use Prim.Native.Nat.{◌≤◌, ◌-◌}
-use lib.ListN.{length, take}
 use borrow.Author.Rules.{rules}
-use Rattle.policy.specs.Lists.{eq_bytes}
-use Rattle.rows.specs.Area.{part}
 use Rattle.rows.proofs.Same.{same_turn, same_end}
 use Rattle.rows.proofs.same_all.Goals as goal
 

@@ -1,5 +1,4 @@
 -- `rows::same_quads` meets its contract.
-use borrow.Author.Rules.{rules}
 use Rattle.rows.proofs.Words.{ends_same}
 use Rattle.rows.proofs.same_quads.Goals as goal
 

@@ -1,11 +1,11 @@
 -- `rows::slide` meets its contract.
 use mathlib.Core.Path.{ap, ◌∙◌}
 use mathlib.Core.List.{List}
-use Prim.Native.Nat.{ℕ, ◌+◌, ◌-◌}
+use Prim.Native.Nat.{ℕ, ◌+◌}
 use native.Mathlib.Omega.{arith}
 use lib.ListN.{get_or}
 use Rattle.rows.specs.Area.{part}
-use Rattle.rows.proofs.Over.{Copied, over_where_it_stands, copied_none, copied_on, copied_all, length_part, slide_byte}
+use Rattle.rows.proofs.Over.{over_where_it_stands, copied_none, copied_on, copied_all, length_part, slide_byte}
 use Rattle.rows.proofs.slide.Goals as goal
 
 pub returns-then-to-from : goal.returns-then-to-from

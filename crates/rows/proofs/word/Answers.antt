@@ -1,9 +1,7 @@
 -- `rows::word` meets its contract.
-use Prim.Native.Nat.{◌+◌, ◌-◌, ◌^◌, ◌≤◌, ◌<◌}
+use Prim.Native.Nat.{◌+◌, ◌-◌}
 use native.Mathlib.Omega.{arith}
-use mathlib.Core.Path.{◌≡◌, refl}
-use borrow.Author.Rules.{rules}
-use Rattle.rows.specs.Area.{part, little}
+use mathlib.Core.Path.{refl}
 use Rattle.rows.proofs.Words.{word_turn, word_end, word_room, word_fits}
 use Rattle.rows.proofs.word.Goals as goal
 

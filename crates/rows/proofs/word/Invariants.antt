@@ -1,10 +1,7 @@
 -- `rows::word` meets its contract.
 use Prim.Native.Nat.{◌+◌, ◌-◌, ◌^◌, ◌≤◌, ◌<◌}
-use native.Mathlib.Omega.{arith}
-use mathlib.Core.Path.{◌≡◌, refl}
-use borrow.Author.Rules.{rules}
+use mathlib.Core.Path.{◌≡◌}
 use Rattle.rows.specs.Area.{part, little}
-use Rattle.rows.proofs.Words.{word_turn, word_end, word_room, word_fits}
 use Rattle.rows.proofs.word.Given as goal
 
 abbrev pub invariant-loop-k : goal.invariant-loop-k

@@ -1,10 +1,7 @@
 -- `session::advance` meets its contract: what the turn calls for is done. Assumes nothing.
-use mathlib.Core.Path.{◌≡◌, refl, sym}
+use mathlib.Core.Path.{refl, sym}
 use native.Mathlib.Omega.{arith}
-use borrow.Author.Rules.{rules}
-use lib.ListN.{length, take}
 use lib.Seq.{length-take-le}
-use Rattle.lines.proofs.Holding.{Begun}
 use Rattle.lines.proofs.Session.{calls}
 use Rattle.session.proofs.Turning.{told_read, told_line, told_last, told_end, by_read, by_line, by_last, by_end, keeps_held}
 use Rattle.session.proofs.advance.Goals as goal

@@ -1,5 +1,4 @@
 -- `session::answer_record` meets its contract, by those of the engine and of the line. Assumes nothing.
-use borrow.Author.Rules.{rules}
 use Rattle.session.proofs.Answered.{answered}
 use Rattle.session.proofs.answer_record.Goals as goal
 

@@ -1,10 +1,8 @@
 -- `session::run` meets its contract: turn by turn, until one calls for nothing more. Assumes nothing.
-use mathlib.Core.Path.{◌≡◌}
 use native.Mathlib.Omega.{arith}
 use borrow.Author.Rules.{rules}
-use lib.ListN.{length}
 use Rattle.lines.proofs.Reached.{starts}
-use Rattle.session.proofs.Running.{Runs, left_over_lem, begins, ready, moves}
+use Rattle.session.proofs.Running.{begins, ready, moves}
 use Rattle.session.proofs.run.Goals as goal
 
 pub loop-p-init : goal.loop-p-init

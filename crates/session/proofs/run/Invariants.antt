@@ -1,10 +1,7 @@
 -- `session::run` meets its contract: turn by turn, until one calls for nothing more. Assumes nothing.
 use mathlib.Core.Path.{◌≡◌}
-use native.Mathlib.Omega.{arith}
-use borrow.Author.Rules.{rules}
 use lib.ListN.{length}
-use Rattle.lines.proofs.Reached.{starts}
-use Rattle.session.proofs.Running.{Runs, left_over_lem, begins, ready, moves}
+use Rattle.session.proofs.Running.{Runs, left_over_lem}
 use Rattle.session.proofs.run.Given as goal
 
 abbrev pub invariant-loop-p : goal.invariant-loop-p

@@ -1,6 +1,5 @@
 -- `session::turn` meets its contract: the turn of the transcript, by what the bytes held are. Assumes nothing.
 use mathlib.Core.Path.{sym, ◌∙◌}
-use borrow.Author.Rules.{rules}
 use lib.Seq.{length-take-le}
 use Rattle.lines.proofs.Holding.{whole}
 use Rattle.session.proofs.Turning.{of_record, of_start, of_bad, of_end}

@@ -1,5 +1,4 @@
 -- `is_sound` meets its contract.
-use borrow.Author.Rules.{rules}
 use Rattle.soundness.proofs.Agree.{sound_of}
 use Rattle.soundness.proofs.Tests.{end_is}
 use Rattle.soundness.proofs.is_sound.Goals as goal

@@ -1,5 +1,4 @@
 -- `is_sound_old` meets its contract.
-use borrow.Author.Rules.{rules}
 use Rattle.soundness.proofs.Agree.{old_sound_of}
 use Rattle.soundness.proofs.is_sound_old.Goals as goal
 

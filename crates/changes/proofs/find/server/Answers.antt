@@ -1,5 +1,4 @@
 -- `changes::find::server` meets its contract.
-use borrow.Author.Rules.{rules}
 use mathlib.Core.Path.{◌∙◌, ap}
 use Rattle.policy.specs.Contract.{Aid}
 use Rattle.policy.specs.Tables.{decode}

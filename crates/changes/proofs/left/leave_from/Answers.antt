@@ -1,13 +1,10 @@
 -- `changes::left::leave_from` meets its contract. Assumes nothing.
-use Prim.Native.Nat.{◌-◌}
 use native.Mathlib.Omega.{arith}
 use mathlib.Core.Path.{refl, sym, ◌∙◌}
-use borrow.Author.Rules.{rules}
-use Rattle.policy.specs.Tables.{bit, decode}
-use Rattle.geometry.specs.Geometry.{layout_of}
+use Rattle.policy.specs.Tables.{bit}
 use Rattle.image.proofs.Writes.{laid_len}
 use Rattle.changes.specs.Left.{token_in, named_one}
-use Rattle.changes.proofs.AppendedRows.{Appended, append_start, append_turn, append_room, append_end}
+use Rattle.changes.proofs.AppendedRows.{append_start, append_turn, append_room, append_end}
 use Rattle.changes.proofs.left.leave_from.Goals as goal
 
 pub loop-k-init : goal.loop-k-init
@@ -18,8 +15,13 @@ leave_tokens-requires c =
     let l = c.loop-k in
     let a = c.args in
     let p = c.requires in
-    record { laid = l.invariant.wrote.laid; inside = (p.inside.0, omega arith, p.inside.1); short = p.short; room = append_room l.invariant (λ z. named_one a.l (token_in a.tokens.now) a.aid.now a.i (bit a.row) l.k)
-              (λ u w. refl) c.loop-k-test.true c.services-size.ensures p.room }
+    record {
+      laid = l.invariant.wrote.laid;
+      inside = (p.inside.0, omega arith, p.inside.1);
+      short = p.short;
+      room = append_room l.invariant (λ z. named_one a.l (token_in a.tokens.now) a.aid.now a.i (bit a.row) l.k)
+          (λ u w. refl) c.loop-k-test.true c.services-size.ensures p.room;
+    }
 
 pub loop-k-preserved : goal.loop-k-preserved
 loop-k-preserved c =

@@ -1,13 +1,8 @@
 -- `changes::left::leave_row` meets its contract. Assumes nothing.
-use Prim.Native.Nat.{◌-◌}
-use native.Mathlib.Omega.{arith}
-use mathlib.Core.Path.{refl, sym, ◌∙◌}
-use borrow.Author.Rules.{rules}
 use Rattle.policy.specs.Tables.{bit, decode}
 use Rattle.geometry.specs.Geometry.{layout_of}
-use Rattle.image.proofs.Writes.{laid_len}
 use Rattle.changes.specs.Left.{left_one}
-use Rattle.changes.proofs.AppendedRows.{Appended, append_start, append_turn, append_room, append_end}
+use Rattle.changes.proofs.AppendedRows.{Appended}
 use Rattle.changes.proofs.left.leave_row.Given as goal
 
 abbrev pub invariant-loop-k : goal.invariant-loop-k

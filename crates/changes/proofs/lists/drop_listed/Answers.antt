@@ -1,5 +1,4 @@
 -- `changes::lists::drop_listed` meets its contract.
-use borrow.Author.Rules.{rules}
 use Rattle.policy.specs.Tables.{Tables}
 use Rattle.geometry.specs.Geometry.{layout_of}
 use Rattle.rows.specs.Area.{keep_rows}

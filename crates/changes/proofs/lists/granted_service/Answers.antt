@@ -1,5 +1,4 @@
 -- `changes::lists::granted_service` meets its contract. Assumes nothing.
-use borrow.Author.Rules.{rules}
 use Rattle.policy.specs.Tables.{decode}
 use Rattle.geometry.specs.Geometry.{layout_of}
 use Rattle.image.specs.Read.{waiting_row}

@@ -1,13 +1,8 @@
 -- `changes::lists::meet` meets its contract. Assumes nothing.
-use Prim.Native.Nat.{◌-◌}
 use native.Mathlib.Omega.{arith}
-use mathlib.Core.Path.{◌≡◌, refl}
-use lib.ListN.{length}
+use mathlib.Core.Path.{refl}
 use borrow.Author.Rules.{rules}
-use Rattle.policy.specs.Tables.{decode}
-use Rattle.geometry.specs.Geometry.{layout_of}
-use Rattle.changes.proofs.RowsToBits.{Settling, settling_start, settling_here, settling_next, settling_end}
-use Rattle.changes.proofs.RowsToBits.{calls}
+use Rattle.changes.proofs.RowsToBits.{settling_start, settling_here, settling_next, settling_end}
 use Rattle.changes.proofs.lists.meet.Goals as goal
 
 pub loop-r-init : goal.loop-r-init

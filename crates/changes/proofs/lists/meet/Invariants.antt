@@ -1,12 +1,9 @@
 -- `changes::lists::meet` meets its contract. Assumes nothing.
-use Prim.Native.Nat.{◌-◌}
-use native.Mathlib.Omega.{arith}
-use mathlib.Core.Path.{◌≡◌, refl}
+use mathlib.Core.Path.{◌≡◌}
 use lib.ListN.{length}
-use borrow.Author.Rules.{rules}
 use Rattle.policy.specs.Tables.{decode}
 use Rattle.geometry.specs.Geometry.{layout_of}
-use Rattle.changes.proofs.RowsToBits.{Settling, settling_start, settling_here, settling_next, settling_end}
+use Rattle.changes.proofs.RowsToBits.{Settling}
 use Rattle.changes.proofs.RowsToBits.{calls}
 use Rattle.changes.proofs.lists.meet.Given as goal
 

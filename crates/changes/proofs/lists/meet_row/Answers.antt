@@ -3,7 +3,6 @@ use Prim.Native.Nat.{ℕ}
 use native.Mathlib.Omega.{arith}
 use mathlib.Core.Path.{refl, sym, ◌∙◌}
 use mathlib.Core.Bool.{Bool}
-use borrow.Author.Rules.{rules}
 use Rattle.policy.specs.Tables.{decode}
 use Rattle.policy.specs.Draft.{with_calls}
 use Rattle.policy.proofs.Sets.{true_T}
@@ -24,12 +23,15 @@ set_bit-requires c =
     let x = c.args in
     let L = layout_of x.c in
     let t = decode L x.img.now in
-    let r = unmet_row t x.r in record { laid = c.requires.laid; inside = (
+    let r = unmet_row t x.r in record {
+      laid = c.requires.laid;
+      inside = (
         omega (arith, c.number-i.ensures, c.requires.numbers.0),
         c.requires.numbers.1,
         service_in L t x.n r.tok _ (number_read L t x.n r.tok _ _ _ c.find_service-k.ensures refl c.tokens-t.ensures)
             (c.requires.there (true_T (sym c.has_row.ensures ∙ c.if-has_row.true))),
-      ) }
+      );
+    }
 
 pub returns-then-has_row : goal.returns-then-has_row
 returns-then-has_row c =

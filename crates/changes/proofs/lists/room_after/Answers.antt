@@ -1,6 +1,5 @@
 -- `changes::lists::room_after` meets its contract. Assumes nothing.
 use native.Mathlib.Omega.{arith}
-use borrow.Author.Rules.{rules}
 use Rattle.geometry.proofs.Bounds.{limits}
 use Rattle.changes.proofs.ListRoom.{rows_fit_lem, gone_low, sum_fits, room_is}
 use Rattle.changes.proofs.lists.room_after.Goals as goal

@@ -1,5 +1,4 @@
 -- `changes::lists::take_in` meets its contract. Assumes nothing.
-use borrow.Author.Rules.{rules}
 use Rattle.changes.proofs.RowsToBits.{met_givers, met_dues, taken_in_lem}
 use Rattle.changes.proofs.lists.take_in.Goals as goal
 

@@ -1,6 +1,5 @@
 -- `changes::own::call_all` meets its contract.
 use Rattle.geometry.specs.Geometry.{layout_of}
-use Rattle.changes.proofs.ItemLoops.{turning_here, turning_end, items}
 use Rattle.changes.proofs.OwnWrites.{calls, RowsLeft}
 use Rattle.changes.proofs.own.call_all.Given as goal
 

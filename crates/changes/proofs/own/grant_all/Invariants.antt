@@ -1,6 +1,5 @@
 -- `changes::own::grant_all` meets its contract.
 use Rattle.geometry.specs.Geometry.{layout_of}
-use Rattle.changes.proofs.ItemLoops.{turning_here, turning_end, items}
 use Rattle.changes.proofs.OwnWrites.{grants, RowsLeft}
 use Rattle.changes.proofs.own.grant_all.Given as goal
 

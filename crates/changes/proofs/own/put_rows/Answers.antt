@@ -1,5 +1,4 @@
 -- `changes::own::put_rows` meets its contract. Assumes nothing.
-use borrow.Author.Rules.{rules}
 use Rattle.changes.proofs.OwnWrites.{own_grants_lem, own_needs, own_written}
 use Rattle.changes.proofs.own.put_rows.Goals as goal
 

@@ -1,5 +1,4 @@
 -- `changes::service::clear_bits` meets its contract. Assumes nothing.
-use borrow.Author.Rules.{rules}
 use Rattle.geometry.specs.Geometry.{layout_of}
 use Rattle.geometry.specs.declared.Table.TheVariants.{Grants, Needs}
 use Rattle.image.proofs.Clears.{wrote_then}

@@ -1,5 +1,4 @@
 -- `changes::service::clear_service` meets its contract. Assumes nothing.
-use borrow.Author.Rules.{rules}
 use Rattle.policy.specs.Tables.{no_tok}
 use Rattle.geometry.specs.Geometry.{layout_of}
 use Rattle.image.specs.Laid.{with_tok}

@@ -1,6 +1,5 @@
 -- `changes::service::close_service` meets its contract. Assumes nothing.
 use native.Mathlib.Omega.{arith}
-use borrow.Author.Rules.{rules}
 use Rattle.geometry.proofs.Bounds.{limits}
 use Rattle.changes.proofs.ClearedService.{service_fits, service_closed}
 use Rattle.changes.proofs.service.close_service.Goals as goal

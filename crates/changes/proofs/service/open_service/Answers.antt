@@ -1,5 +1,4 @@
 -- `changes::service::open_service` meets its contract. Assumes nothing.
-use borrow.Author.Rules.{rules}
 use Rattle.geometry.proofs.Bounds.{service_lt}
 use Rattle.geometry.specs.Geometry.{tok_of}
 use Rattle.changes.proofs.OpenedService.{open_fits, open_wrote}

@@ -1,10 +1,8 @@
 -- `converter::enlarge::carry_table` meets its contract. Assumes nothing.
-use Prim.Native.Nat.{◌-◌}
 use Rattle.policy.specs.Layout.{large}
 use Rattle.geometry.specs.Geometry.{table_at}
 use Rattle.converter.specs.Enlarged.{line_of}
 use Rattle.converter.proofs.Laid.{Laid}
-use Rattle.converter.proofs.Enlarging.{enlarging}
 use Rattle.converter.proofs.enlarge.carry_table.Given as goal
 
 abbrev pub invariant-loop-i : goal.invariant-loop-i

@@ -1,8 +1,6 @@
 -- `converter::enlarge::carry_tokens` meets its contract. Assumes nothing.
-use Prim.Native.Nat.{◌-◌}
 use Rattle.converter.specs.Enlarged.{tokens_of}
 use Rattle.converter.proofs.Laid.{Laid}
-use Rattle.converter.proofs.Enlarging.{enlarging}
 use Rattle.converter.proofs.enlarge.carry_tokens.Given as goal
 
 abbrev pub invariant-loop-j : goal.invariant-loop-j

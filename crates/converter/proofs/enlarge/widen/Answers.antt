@@ -1,12 +1,9 @@
 -- `converter::enlarge::widen` meets its contract. Assumes nothing.
-use Prim.Native.Nat.{◌+◌, ◌-◌}
+use Prim.Native.Nat.{◌+◌}
 use native.Mathlib.Omega.{arith}
 use mathlib.Core.Path.{refl}
-use mathlib.Core.List.{[]}
-use lib.ListN.{get_or}
 use borrow.Author.Rules.{rules}
-use Rattle.policy.specs.Tables.{write_number}
-use Rattle.converter.proofs.Laid.{Laid, laid_none, laid_on, laid_all}
+use Rattle.converter.proofs.Laid.{laid_none, laid_on, laid_all}
 use Rattle.converter.proofs.enlarge.widen.Goals as goal
 
 pub loop-j-init : goal.loop-j-init

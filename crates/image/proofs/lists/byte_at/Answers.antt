@@ -1,6 +1,5 @@
 -- `image::lists::byte_at` meets its contract.
 use native.Mathlib.Omega.{arith}
-use borrow.Author.Rules.{rules}
 use Rattle.image.proofs.lists.byte_at.Goals as goal
 
 pub overflow_cast-result : goal.overflow_cast-result

@@ -1,11 +1,4 @@
 -- `image::lists::with_number` meets its contract.
-use Prim.Native.Nat.{◌≤◌}
-use mathlib.Core.Path.{◌≡◌}
-use lib.Dec.{eqb}
-use lib.ListN.{length, drop}
-use Rattle.policy.specs.Tables.{decode}
-use Rattle.geometry.specs.Geometry.{layout_of}
-use Rattle.image.specs.Read.{items_of, item_number, mask_of}
 use Rattle.image.proofs.Listed.{masks}
 use Rattle.image.proofs.lists.with_number.Goals as goal
 

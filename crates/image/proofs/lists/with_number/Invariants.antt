@@ -6,7 +6,6 @@ use lib.ListN.{length, drop}
 use Rattle.policy.specs.Tables.{decode}
 use Rattle.geometry.specs.Geometry.{layout_of}
 use Rattle.image.specs.Read.{items_of, item_number, mask_of}
-use Rattle.image.proofs.Listed.{masks}
 use Rattle.image.proofs.lists.with_number.Given as goal
 
 abbrev pub invariant-loop-r : goal.invariant-loop-r

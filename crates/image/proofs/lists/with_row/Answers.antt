@@ -1,12 +1,4 @@
 -- `image::lists::with_row` meets its contract.
-use Prim.Native.Nat.{◌≤◌}
-use mathlib.Core.Path.{◌≡◌}
-use mathlib.Core.Bool.{◌&&◌}
-use lib.ListN.{length, drop}
-use Rattle.policy.specs.Contract.{eq_aid, eq_tok}
-use Rattle.policy.specs.Tables.{decode}
-use Rattle.geometry.specs.Geometry.{layout_of, tok_of}
-use Rattle.image.specs.Read.{items_of, item_aid, item_tok, mask_of}
 use Rattle.image.proofs.Listed.{masks}
 use Rattle.image.proofs.lists.with_row.Goals as goal
 

@@ -7,7 +7,6 @@ use Rattle.policy.specs.Contract.{eq_aid, eq_tok}
 use Rattle.policy.specs.Tables.{decode}
 use Rattle.geometry.specs.Geometry.{layout_of, tok_of}
 use Rattle.image.specs.Read.{items_of, item_aid, item_tok, mask_of}
-use Rattle.image.proofs.Listed.{masks}
 use Rattle.image.proofs.lists.with_row.Given as goal
 
 abbrev pub invariant-loop-r : goal.invariant-loop-r

@@ -1,13 +1,4 @@
 -- `image::lists::with_service` meets its contract.
-use Prim.Native.Nat.{◌≤◌}
-use mathlib.Core.Path.{◌≡◌}
-use mathlib.Core.Bool.{◌&&◌}
-use lib.Dec.{eqb}
-use lib.ListN.{length, drop}
-use Rattle.policy.specs.Contract.{eq_tok}
-use Rattle.policy.specs.Tables.{decode}
-use Rattle.geometry.specs.Geometry.{layout_of, tok_of}
-use Rattle.image.specs.Read.{items_of, item_tok, item_number, mask_of}
 use Rattle.image.proofs.Listed.{masks}
 use Rattle.image.proofs.lists.with_service.Goals as goal
 

@@ -8,7 +8,6 @@ use Rattle.policy.specs.Contract.{eq_tok}
 use Rattle.policy.specs.Tables.{decode}
 use Rattle.geometry.specs.Geometry.{layout_of, tok_of}
 use Rattle.image.specs.Read.{items_of, item_tok, item_number, mask_of}
-use Rattle.image.proofs.Listed.{masks}
 use Rattle.image.proofs.lists.with_service.Given as goal
 
 abbrev pub invariant-loop-r : goal.invariant-loop-r

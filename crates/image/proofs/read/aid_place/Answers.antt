@@ -1,7 +1,6 @@
 -- `image::read::aid_place` meets its contract.
 use native.Mathlib.Omega.{arith}
 use mathlib.Core.Path.{refl}
-use borrow.Author.Rules.{rules}
 use Rattle.geometry.proofs.Bounds.{limits, aid_in_lem}
 use Rattle.image.proofs.Seen.{laid_size, place_copied}
 use Rattle.image.proofs.read.aid_place.Goals as goal

@@ -1,11 +1,9 @@
 -- `image::read::find_aid` meets its contract.
-use Prim.Native.Nat.{ℕ, ◌+◌, ◌*◌, ◌-◌, ◌≤◌}
+use Prim.Native.Nat.{ℕ, ◌+◌, ◌*◌}
 use native.Mathlib.Omega.{arith}
 use mathlib.Core.Path.{◌≡◌, ap, ◌∙◌}
 use mathlib.Core.Bool.{Bool, ◌&&◌}
 use mathlib.Core.List.{List}
-use mathlib.Core.Option.{none}
-use Rattle.policy.specs.Lists.{first, upto}
 use Rattle.policy.specs.Contract.{eq_aid}
 use Rattle.policy.specs.Tables.{bit}
 use Rattle.bits.proofs.Loops.{first_more, first_hits, early}

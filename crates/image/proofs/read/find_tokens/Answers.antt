@@ -1,10 +1,5 @@
 -- `image::read::find_tokens` meets its contract.
-use Prim.Native.Nat.{◌-◌, ◌≤◌}
-use mathlib.Core.Path.{◌≡◌}
-use mathlib.Core.Option.{none}
-use Rattle.policy.specs.Lists.{first, upto}
 use Rattle.bits.proofs.Loops.{early}
-use Rattle.image.specs.Read.{tokens_held}
 use Rattle.image.proofs.read.find_tokens.Goals as goal
 
 pub loop-k-init : goal.loop-k-init

@@ -2,7 +2,6 @@
 use native.Mathlib.Omega.{arith}
 use mathlib.Core.Path.{refl}
 use lib.ListN.{length-take}
-use borrow.Author.Rules.{rules}
 use Rattle.geometry.proofs.Bounds.{limits, token_row}
 use Rattle.image.proofs.Seen.{laid_size, tokens_copied}
 use Rattle.image.proofs.read.token_row.Goals as goal

@@ -18,9 +18,12 @@ slice_bounds-append-end-2 c = search (tail_three, rules)
 pub append-requires : goal.append-requires
 append-requires c =
     let a = c.args in
-    let e = tail_three a.l (tok_of a.t) a.number c.tail-rest.ensures in record { short = (c.requires.short, omega (arith, e)); room = row_room a.c c.requires.laid a.l a.aid.now (tok_of a.t) a.number c.requires.short c.requires.room
+    let e = tail_three a.l (tok_of a.t) a.number c.tail-rest.ensures in record {
+      short = (c.requires.short, omega (arith, e));
+      room = row_room a.c c.requires.laid a.l a.aid.now (tok_of a.t) a.number c.requires.short c.requires.room
           c.tail-rest.result c.tail-rest.ensures c.list_at-at.result c.list_end-end.result
-          c.list_at-at.ensures c.list_end-end.ensures }
+          c.list_at-at.ensures c.list_end-end.ensures;
+    }
 
 pub returns : goal.returns
 returns c =

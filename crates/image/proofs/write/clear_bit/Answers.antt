@@ -14,8 +14,11 @@ without_bit-requires c = search writes
 
 pub put_row-requires : goal.put_row-requires
 put_row-requires c =
-    record { inside = search writes; fits = bit_fits c.args.c c.requires.laid c.args.tb _ _ _ c.requires.inside.0 c.requires.inside.1 c.entry_at-at.ensures
-          _ c.requires.inside.2 _ _ c.row_at-row.ensures _ _ c.without_bit.ensures (bit_clear _ _) }
+    record {
+      inside = search writes;
+      fits = bit_fits c.args.c c.requires.laid c.args.tb _ _ _ c.requires.inside.0 c.requires.inside.1 c.entry_at-at.ensures
+          _ c.requires.inside.2 _ _ c.row_at-row.ensures _ _ c.without_bit.ensures (bit_clear _ _);
+    }
 
 pub shape_of-img : goal.shape_of-img
 shape_of-img c = search writes

@@ -1,11 +1,9 @@
 -- `image::write::clear_column_bit` meets its contract. Assumes nothing.
-use Prim.Native.Nat.{◌-◌, ◌≤◌}
 use native.Mathlib.Omega.{arith}
 use Rattle.policy.specs.Tables.{decode}
 use Rattle.geometry.specs.Geometry.{layout_of}
-use Rattle.image.specs.Laid.{table_of, with_table}
-use Rattle.image.specs.Wrote.{Wrote}
-use Rattle.image.proofs.Clears.{cleared_by, service, row_low, service_turn, clears}
+use Rattle.image.specs.Laid.{table_of}
+use Rattle.image.proofs.Clears.{row_low, service_turn, clears}
 use Rattle.image.proofs.write.clear_column_bit.Goals as goal
 
 pub packages-size-requires : goal.packages-size-requires
@@ -22,11 +20,14 @@ row_in-column-requires c = search clears
 
 pub clear_bit-requires : goal.clear_bit-requires
 clear_bit-requires c =
-    let n = (layout_of c.args.c).packages in record { laid = search clears; inside = (
+    let n = (layout_of c.args.c).packages in record {
+      laid = search clears;
+      inside = (
         row_low c.args.tb n c.row_in-row.ensures (omega arith) (omega arith),
         row_low c.args.tb n c.row_in-column.ensures (omega arith) (omega arith),
         c.requires.inside.1,
-      ) }
+      );
+    }
 
 pub overflow_step-x : goal.overflow_step-x
 overflow_step-x c = search clears

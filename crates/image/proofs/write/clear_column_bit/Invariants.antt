@@ -1,11 +1,10 @@
 -- `image::write::clear_column_bit` meets its contract. Assumes nothing.
-use Prim.Native.Nat.{◌-◌, ◌≤◌}
-use native.Mathlib.Omega.{arith}
+use Prim.Native.Nat.{◌≤◌}
 use Rattle.policy.specs.Tables.{decode}
 use Rattle.geometry.specs.Geometry.{layout_of}
 use Rattle.image.specs.Laid.{table_of, with_table}
 use Rattle.image.specs.Wrote.{Wrote}
-use Rattle.image.proofs.Clears.{cleared_by, service, row_low, service_turn, clears}
+use Rattle.image.proofs.Clears.{cleared_by, service}
 use Rattle.image.proofs.write.clear_column_bit.Given as goal
 
 abbrev pub invariant-loop-x : goal.invariant-loop-x

@@ -1,10 +1,5 @@
 -- `image::write::clear_row` meets its contract. Assumes nothing.
-use Prim.Native.Nat.{◌-◌, ◌≤◌}
-use Rattle.policy.specs.Tables.{decode}
-use Rattle.geometry.specs.Geometry.{layout_of}
-use Rattle.image.specs.Laid.{table_of, with_table}
-use Rattle.image.specs.Wrote.{Wrote}
-use Rattle.image.proofs.Clears.{cleared_by, along_row, clears}
+use Rattle.image.proofs.Clears.{clears}
 use Rattle.image.proofs.write.clear_row.Goals as goal
 
 pub packages-size-requires : goal.packages-size-requires

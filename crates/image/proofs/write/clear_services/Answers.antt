@@ -1,9 +1,5 @@
 -- `image::write::clear_services` meets its contract. Assumes nothing.
-use Prim.Native.Nat.{◌-◌, ◌≤◌}
-use Rattle.policy.specs.Tables.{decode}
-use Rattle.geometry.specs.Geometry.{layout_of}
-use Rattle.image.specs.Wrote.{Wrote}
-use Rattle.image.proofs.Clears.{without_toks, clears}
+use Rattle.image.proofs.Clears.{clears}
 use Rattle.image.proofs.write.clear_services.Goals as goal
 
 pub set_provided-requires : goal.set_provided-requires

@@ -1,9 +1,9 @@
 -- `image::write::clear_services` meets its contract. Assumes nothing.
-use Prim.Native.Nat.{◌-◌, ◌≤◌}
+use Prim.Native.Nat.{◌≤◌}
 use Rattle.policy.specs.Tables.{decode}
 use Rattle.geometry.specs.Geometry.{layout_of}
 use Rattle.image.specs.Wrote.{Wrote}
-use Rattle.image.proofs.Clears.{without_toks, clears}
+use Rattle.image.proofs.Clears.{without_toks}
 use Rattle.image.proofs.write.clear_services.Given as goal
 
 abbrev pub invariant-loop-k : goal.invariant-loop-k

@@ -1,7 +1,6 @@
 -- `image::write::drop_rows` meets its contract. Assumes nothing.
 use Prim.Native.Nat.{◌-◌}
 use native.Mathlib.Omega.{arith}
-use borrow.Author.Rules.{rules}
 use Rattle.geometry.proofs.Bounds.{list_in}
 use Rattle.image.proofs.Lent.{rows_area, rows_dropped}
 use Rattle.image.proofs.Writes.{laid_len, items}

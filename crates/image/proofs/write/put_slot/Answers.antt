@@ -3,7 +3,6 @@ use Prim.Native.Nat.{◌+◌, ◌-◌}
 use native.Mathlib.Omega.{arith}
 use mathlib.Core.Path.{ap, ◌∙◌}
 use lib.ListN.{length, replicate, length-set}
-use borrow.Author.Rules.{rules}
 use Rattle.rows.specs.Area.{over}
 use Rattle.image.proofs.Writes.{slot_made}
 use Rattle.image.proofs.write.put_slot.Goals as goal

@@ -1,7 +1,6 @@
 -- `image::write::put_tok` meets its contract. Assumes nothing.
-use Prim.Native.Nat.{◌+◌, ◌≤◌}
 use native.Mathlib.Omega.{arith}
-use lib.ListN.{length, length-set}
+use lib.ListN.{length-set}
 use Rattle.geometry.specs.Geometry.{tok_of}
 use Rattle.geometry.proofs.Bounds.{tok_len}
 use Rattle.image.proofs.Writes.{writes, laid_len, tok_wrote}

@@ -1,5 +1,4 @@
 -- `image::write::row_in` meets its contract. Assumes nothing.
-use borrow.Author.Rules.{rules}
 use Rattle.image.proofs.write.row_in.Goals as goal
 
 pub returns-in-Calls : goal.returns-in-Calls

@@ -1,5 +1,4 @@
 -- `image::write::tail` meets its contract. Assumes nothing.
-use borrow.Author.Rules.{rules}
 use Rattle.image.proofs.write.tail.Goals as goal
 
 pub returns-in-UnmetCalls : goal.returns-in-UnmetCalls

@@ -1,5 +1,4 @@
 -- `judging::checking::check_image` meets its contract. Assumes nothing.
-use borrow.Author.Rules.{rules}
 use Rattle.judging.proofs.Checked.{sound_size, count_low, passes, fails}
 use Rattle.judging.proofs.checking.check_image.Goals as goal
 

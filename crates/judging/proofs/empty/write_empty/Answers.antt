@@ -1,6 +1,5 @@
 -- `judging::empty::write_empty` meets its contract. Assumes nothing.
 use mathlib.Core.Path.{refl}
-use borrow.Author.Rules.{rules}
 use Rattle.geometry.specs.Geometry.{layout_of}
 use Rattle.geometry.proofs.Bounds.{layout_ok}
 use Rattle.judging.proofs.EmptyImage.{not_written, written}

@@ -1,5 +1,4 @@
 -- `links::plan::plan_row` meets its contract: each arm's plan is that of its kind. Assumes nothing.
-use borrow.Author.Rules.{rules}
 use Rattle.links.proofs.plan.plan_row.Goals as goal
 
 pub returns-in-AddCall : goal.returns-in-AddCall

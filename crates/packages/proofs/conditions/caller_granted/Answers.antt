@@ -1,5 +1,4 @@
 -- `packages::conditions::caller_granted` meets its contract. Assumes nothing.
-use borrow.Author.Rules.{rules}
 use Rattle.policy.specs.Record.{a_row}
 use Rattle.policy.specs.Tables.{decode}
 use Rattle.geometry.specs.Geometry.{layout_of}

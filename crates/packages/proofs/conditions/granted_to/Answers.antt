@@ -1,5 +1,4 @@
 -- `packages::conditions::granted_to` meets its contract. Assumes nothing.
-use borrow.Author.Rules.{rules}
 use Rattle.packages.proofs.conditions.granted_to.Goals as goal
 
 pub returns : goal.returns

@@ -1,14 +1,10 @@
 -- `packages::conditions::kept_rights` meets its contract. Assumes nothing.
-use Prim.Native.Nat.{◌-◌}
 use native.Mathlib.Omega.{arith}
-use mathlib.Core.Bool.{not, ◌&&◌}
 use Rattle.policy.specs.Record.{a_row}
-use Rattle.policy.specs.Tables.{bit, decode}
 use Rattle.geometry.specs.Geometry.{layout_of}
 use Rattle.image.proofs.Laid.{sound_laid}
 use Rattle.record.specs.Meaning.{items_in}
-use Rattle.packages.specs.Conditions.{row_granted}
-use Rattle.packages.proofs.Checks.{none_called, Seeking, seekings}
+use Rattle.packages.proofs.Checks.{none_called, seekings}
 use Rattle.packages.proofs.conditions.kept_rights.Goals as goal
 
 pub provided_row-requires : goal.provided_row-requires

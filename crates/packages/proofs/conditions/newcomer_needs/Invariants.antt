@@ -1,11 +1,9 @@
 -- `packages::conditions::newcomer_needs` meets its contract. Assumes nothing.
-use native.Mathlib.Omega.{arith}
-use borrow.Author.Rules.{rules}
 use Rattle.policy.specs.Lists.{every}
 use Rattle.policy.specs.Record.{a_row}
 use Rattle.policy.specs.Tables.{decode}
 use Rattle.geometry.specs.Geometry.{layout_of}
-use Rattle.record.proofs.Loops.{Left, todo_start, todo_end, every_stop, every_next}
+use Rattle.record.proofs.Loops.{Left}
 use Rattle.changes.specs.Own.{served}
 use Rattle.packages.proofs.conditions.newcomer_needs.Given as goal
 

@@ -4,7 +4,7 @@ use mir.Syntax.{w64}
 use mir.Val.{Fits}
 use Rattle.policy.specs.Tables.{decode}
 use Rattle.geometry.specs.Geometry.{layout_of}
-use Rattle.packages.proofs.Checks.{Tally, tally_start, place_in, tallies}
+use Rattle.packages.proofs.Checks.{tally_start, place_in, tallies}
 use Rattle.packages.proofs.conditions.newcomer_rights.Goals as goal
 
 pub packages-size-requires : goal.packages-size-requires

@@ -1,10 +1,7 @@
 -- `packages::conditions::newcomer_rights` meets its contract. Assumes nothing.
-use native.Mathlib.Omega.{arith}
-use mir.Syntax.{w64}
-use mir.Val.{Fits}
 use Rattle.policy.specs.Tables.{decode}
 use Rattle.geometry.specs.Geometry.{layout_of}
-use Rattle.packages.proofs.Checks.{Tally, tally_start, place_in, tallies}
+use Rattle.packages.proofs.Checks.{Tally}
 use Rattle.packages.proofs.conditions.newcomer_rights.Given as goal
 
 abbrev pub invariant-loop-todo : goal.invariant-loop-todo

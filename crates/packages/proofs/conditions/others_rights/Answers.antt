@@ -1,10 +1,10 @@
 -- `packages::conditions::others_rights` meets its contract. Assumes nothing.
 use native.Mathlib.Omega.{arith}
-use Prim.Native.Nat.{◌-◌, ◌≤◌, ◌<◌}
-use mathlib.Core.Path.{◌≡◌, ap}
-use mathlib.Core.Bool.{true, not}
+use Prim.Native.Nat.{◌<◌}
+use mathlib.Core.Path.{ap}
+use mathlib.Core.Bool.{not}
 use lib.ListN.{length}
-use Rattle.policy.specs.Lists.{implies, every, upto}
+use Rattle.policy.specs.Lists.{implies}
 use Rattle.policy.specs.Record.{a_row}
 use Rattle.policy.specs.Tables.{bit, decode}
 use Rattle.geometry.specs.Geometry.{layout_of}

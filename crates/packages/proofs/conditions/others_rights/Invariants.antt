@@ -1,19 +1,14 @@
 -- `packages::conditions::others_rights` meets its contract. Assumes nothing.
-use native.Mathlib.Omega.{arith}
-use Prim.Native.Nat.{◌-◌, ◌≤◌, ◌<◌}
+use Prim.Native.Nat.{◌≤◌}
 use mathlib.Core.Path.{◌≡◌}
 use mathlib.Core.Bool.{true}
-use lib.ListN.{length}
 use Rattle.policy.specs.Lists.{implies, every, upto}
 use Rattle.policy.specs.Record.{a_row}
 use Rattle.policy.specs.Tables.{bit, decode}
 use Rattle.geometry.specs.Geometry.{layout_of}
-use Rattle.bits.proofs.Loops.{early}
 use Rattle.image.specs.Read.{unmet_row}
-use Rattle.image.proofs.Laid.{sound_laid}
 use Rattle.record.specs.Meaning.{items_in}
 use Rattle.packages.specs.Conditions.{granted_to}
-use Rattle.changes.proofs.SoundRows.{caller_in}
 use Rattle.packages.proofs.conditions.others_rights.Given as goal
 
 abbrev pub invariant-loop-r : goal.invariant-loop-r

@@ -1,13 +1,6 @@
 -- `packages::conditions::row_granted` meets its contract. Assumes nothing.
-use Prim.Native.Nat.{◌-◌}
 use native.Mathlib.Omega.{arith}
-use Rattle.policy.specs.Lists.{implies}
-use Rattle.policy.specs.Record.{a_row}
-use Rattle.policy.specs.Tables.{bit, decode}
-use Rattle.geometry.specs.Geometry.{layout_of}
-use Rattle.record.specs.Meaning.{items_in}
-use Rattle.packages.specs.Conditions.{granted_to}
-use Rattle.packages.proofs.Checks.{Seeking, seekings}
+use Rattle.packages.proofs.Checks.{seekings}
 use Rattle.packages.proofs.conditions.row_granted.Goals as goal
 
 pub services-size-requires : goal.services-size-requires

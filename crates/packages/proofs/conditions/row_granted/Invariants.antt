@@ -1,13 +1,11 @@
 -- `packages::conditions::row_granted` meets its contract. Assumes nothing.
-use Prim.Native.Nat.{◌-◌}
-use native.Mathlib.Omega.{arith}
 use Rattle.policy.specs.Lists.{implies}
 use Rattle.policy.specs.Record.{a_row}
 use Rattle.policy.specs.Tables.{bit, decode}
 use Rattle.geometry.specs.Geometry.{layout_of}
 use Rattle.record.specs.Meaning.{items_in}
 use Rattle.packages.specs.Conditions.{granted_to}
-use Rattle.packages.proofs.Checks.{Seeking, seekings}
+use Rattle.packages.proofs.Checks.{Seeking}
 use Rattle.packages.proofs.conditions.row_granted.Given as goal
 
 abbrev pub invariant-loop-k : goal.invariant-loop-k

@@ -1,13 +1,6 @@
 -- `packages::conditions::seek` meets its contract. Assumes nothing.
 use native.Mathlib.Omega.{arith}
-use borrow.Author.Rules.{rules}
-use Rattle.policy.specs.Lists.{exists}
-use Rattle.policy.specs.Record.{a_row}
-use Rattle.policy.specs.Tables.{decode}
-use Rattle.geometry.specs.Geometry.{layout_of, tok_of}
-use Rattle.record.specs.Meaning.{Among}
-use Rattle.record.proofs.Loops.{Left, todo_start, todo_end, exists_stop, exists_next, among_all, among_next}
-use Rattle.packages.specs.Conditions.{grant_fits}
+use Rattle.record.proofs.Loops.{todo_start, todo_end, exists_stop, exists_next, among_all, among_next}
 use Rattle.packages.proofs.conditions.seek.Goals as goal
 
 pub loop-rest-init : goal.loop-rest-init

@@ -1,5 +1,4 @@
 -- `packages::decide::bits_on` meets its contract. Assumes nothing.
-use borrow.Author.Rules.{rules}
 use Rattle.policy.specs.Tables.{decode}
 use Rattle.geometry.specs.Geometry.{layout_of}
 use Rattle.packages.proofs.Checks.{column_off}

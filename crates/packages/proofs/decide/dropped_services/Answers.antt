@@ -1,18 +1,16 @@
 -- `packages::decide::dropped_services` meets its contract. Assumes nothing.
-use Prim.Native.Nat.{ℕ, ◌-◌, ◌≤◌}
+use Prim.Native.Nat.{◌≤◌}
 use native.Mathlib.Omega.{arith}
 use mathlib.Core.Path.{sym, ap, ◌∙◌}
 use mathlib.Core.Bool.{Bool, not, ◌&&◌}
-use mathlib.Core.List.{List}
-use borrow.Author.Rules.{rules}
-use Rattle.policy.specs.Contract.{Tok, has_tok}
+use Rattle.policy.specs.Contract.{has_tok}
 use Rattle.policy.specs.Record.{tokens}
-use Rattle.policy.specs.Tables.{Tables, decode}
+use Rattle.policy.specs.Tables.{decode}
 use Rattle.policy.proofs.Sets.{T_false}
 use Rattle.geometry.specs.Geometry.{layout_of}
 use Rattle.geometry.proofs.Bounds.{limits}
 use Rattle.bits.proofs.Row.{row_bit}
-use Rattle.bits.proofs.Gathered.{Gathers, gathers_start, gathers_on, gathers_off, gathers_end}
+use Rattle.bits.proofs.Gathered.{gathers_start, gathers_on, gathers_off, gathers_end}
 use Rattle.record.specs.Meaning.{items_in}
 use Rattle.packages.proofs.decide.dropped_services.Goals as goal
 use Rattle.packages.proofs.decide.dropped_services.Goals.{then-is_dropped, else-is_dropped}
@@ -37,7 +35,7 @@ loop-k-preserved c =
     let is = sym same ∙ sym c.is_dropped.ensures in
     let low : c.services-size.result ≤ 16 = omega (arith, c.services-size.ensures, (limits a.c).services_low) in
     elim c.if-is_dropped.branch [
-      then-is_dropped w ↦ gathers_on c.loop-k.invariant c.loop-k-test.true low _ (w.mask-is ∙ w.with_bit-mask.ensures) (is ∙ w.if-is_dropped.true)
+      | then-is_dropped w ↦ gathers_on c.loop-k.invariant c.loop-k-test.true low _ (w.mask-is ∙ w.with_bit-mask.ensures) (is ∙ w.if-is_dropped.true)
       | else-is_dropped w ↦ rw w.mask-is (gathers_off c.loop-k.invariant c.loop-k-test.true low (is ∙ w.if-is_dropped.false))
     ]
 

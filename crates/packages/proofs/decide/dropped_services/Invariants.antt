@@ -1,19 +1,12 @@
 -- `packages::decide::dropped_services` meets its contract. Assumes nothing.
-use Prim.Native.Nat.{ℕ, ◌-◌, ◌≤◌}
-use native.Mathlib.Omega.{arith}
-use mathlib.Core.Path.{sym, ap, ◌∙◌}
+use Prim.Native.Nat.{ℕ}
 use mathlib.Core.Bool.{Bool, not, ◌&&◌}
 use mathlib.Core.List.{List}
-use mathlib.Core.Logic.{⊎_elim}
-use borrow.Author.Rules.{rules}
 use Rattle.policy.specs.Contract.{Tok, has_tok}
 use Rattle.policy.specs.Record.{tokens}
 use Rattle.policy.specs.Tables.{Tables, decode}
-use Rattle.policy.proofs.Sets.{T_false}
 use Rattle.geometry.specs.Geometry.{layout_of}
-use Rattle.geometry.proofs.Bounds.{limits}
-use Rattle.bits.proofs.Row.{row_bit}
-use Rattle.bits.proofs.Gathered.{Gathers, gathers_start, gathers_on, gathers_off, gathers_end}
+use Rattle.bits.proofs.Gathered.{Gathers}
 use Rattle.record.specs.Meaning.{items_in}
 use Rattle.packages.proofs.decide.dropped_services.Given as goal
 

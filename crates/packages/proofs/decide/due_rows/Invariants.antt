@@ -1,14 +1,10 @@
 -- `packages::decide::due_rows` meets its contract. Assumes nothing.
-use native.Mathlib.Omega.{arith}
-use Prim.Native.Nat.{◌-◌, ◌≤◌, ◌<◌}
+use Prim.Native.Nat.{◌≤◌}
 use mathlib.Core.Path.{◌≡◌}
 use lib.ListN.{length, drop}
 use Rattle.policy.specs.Tables.{decode}
-use Rattle.policy.proofs.Sets.{in_row}
 use Rattle.geometry.specs.Geometry.{layout_of}
-use Rattle.geometry.specs.declared.Kept.TheVariants.{WaitingGrants}
-use Rattle.image.specs.Read.{mask_of, waiting_row}
-use Rattle.image.proofs.Listed.{masks, list_low}
+use Rattle.image.specs.Read.{mask_of}
 use Rattle.packages.specs.Decides.{comes_due}
 use Rattle.packages.proofs.decide.due_rows.Given as goal
 

@@ -1,7 +1,6 @@
 -- `packages::decide::load` meets its contract. Assumes nothing.
 use native.Mathlib.Omega.{arith}
 use mathlib.Core.Path.{refl}
-use borrow.Author.Rules.{rules}
 use Rattle.geometry.proofs.Bounds.{limits}
 use Rattle.image.proofs.Laid.{sound_laid}
 use Rattle.packages.proofs.Loaded.Decided.{decides_4, decides_7, decides_late}

@@ -1,13 +1,10 @@
 -- `packages::decide::met_rows` meets its contract. Assumes nothing.
-use native.Mathlib.Omega.{arith}
 use Prim.Native.Nat.{◌≤◌}
 use mathlib.Core.Path.{◌≡◌}
 use lib.ListN.{length, drop}
 use Rattle.policy.specs.Tables.{decode}
 use Rattle.geometry.specs.Geometry.{layout_of}
 use Rattle.image.specs.Read.{mask_of}
-use Rattle.geometry.specs.declared.Kept.TheVariants.{UnmetCalls}
-use Rattle.image.proofs.Listed.{masks, list_low}
 use Rattle.record.specs.Meaning.{contract_in}
 use Rattle.policy.specs.ShortCheck.{now_met}
 use Rattle.packages.proofs.decide.met_rows.Given as goal

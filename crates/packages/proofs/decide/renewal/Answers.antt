@@ -1,6 +1,5 @@
 -- `packages::decide::renewal` meets its contract. Assumes nothing.
 use mathlib.Core.Path.{refl}
-use borrow.Author.Rules.{rules}
 use Rattle.packages.proofs.decide.renewal.Goals as goal
 
 pub returns : goal.returns

@@ -2,7 +2,6 @@
 use mathlib.Core.Bool.{not}
 use native.Mathlib.Omega.{arith}
 use mathlib.Core.Path.{ap, refl}
-use borrow.Author.Rules.{rules}
 use Rattle.geometry.proofs.Bounds.{limits}
 use Rattle.image.proofs.Laid.{sound_laid}
 use Rattle.packages.proofs.Replaced.Decided.{decides_5, decides_8, decides_late}

@@ -1,16 +1,7 @@
 -- `packages::decide::waiters_fit` meets its contract. Assumes nothing.
 use native.Mathlib.Omega.{arith}
-use mathlib.Core.Bool.{not}
-use lib.Dec.{leb}
-use borrow.Author.Rules.{rules}
-use Rattle.policy.specs.Record.{tokens, a_row}
-use Rattle.policy.specs.Tables.{decode}
-use Rattle.policy.specs.ShortCheck.{count}
-use Rattle.geometry.specs.Geometry.{layout_of}
-use Rattle.record.specs.Meaning.{items_in}
-use Rattle.record.proofs.Loops.{Todo, todo_start}
+use Rattle.record.proofs.Loops.{todo_start}
 use Rattle.changes.proofs.ItemRoom.{room_stop, room_next, room_end}
-use Rattle.packages.specs.Decides.{both_there}
 use Rattle.packages.proofs.decide.waiters_fit.Goals as goal
 
 pub loop-todo-init : goal.loop-todo-init

@@ -1,6 +1,5 @@
 -- `packages::removal::clear_package` meets its contract. Assumes nothing.
 use mathlib.Core.List.{[]}
-use borrow.Author.Rules.{rules}
 use Rattle.geometry.specs.Geometry.{layout_of}
 use Rattle.image.specs.Laid.{with_aid}
 use Rattle.image.specs.Wrote.{without_services}

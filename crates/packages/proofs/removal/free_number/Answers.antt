@@ -1,6 +1,5 @@
 -- `packages::removal::free_number` meets its contract. Assumes nothing.
 use native.Mathlib.Omega.{arith}
-use borrow.Author.Rules.{rules}
 use Rattle.geometry.proofs.Bounds.{limits}
 use Rattle.packages.proofs.Removed.Cleared.{number_fits, number_freed}
 use Rattle.packages.proofs.removal.free_number.Goals as goal

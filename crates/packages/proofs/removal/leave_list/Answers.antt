@@ -1,5 +1,4 @@
 -- `packages::removal::leave_list` meets its contract. Assumes nothing.
-use borrow.Author.Rules.{rules}
 use Rattle.geometry.specs.Geometry.{layout_of}
 use Rattle.packages.proofs.Removed.Rows.{own_dropped, left_room, list_left}
 use Rattle.packages.proofs.removal.leave_list.Goals as goal

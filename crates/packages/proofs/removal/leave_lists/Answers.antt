@@ -1,5 +1,4 @@
 -- `packages::removal::leave_lists` meets its contract. Assumes nothing.
-use borrow.Author.Rules.{rules}
 use Rattle.geometry.specs.Geometry.{layout_of}
 use Rattle.packages.proofs.Removed.Rows.{waiting_room, lists_left}
 use Rattle.packages.proofs.removal.leave_lists.Goals as goal

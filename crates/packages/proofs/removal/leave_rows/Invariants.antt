@@ -1,16 +1,9 @@
 -- `packages::removal::leave_rows` meets its contract. Assumes nothing.
-use Prim.Native.Nat.{◌-◌}
-use native.Mathlib.Omega.{arith}
-use mathlib.Core.Path.{sym, ◌∙◌}
-use borrow.Author.Rules.{rules}
-use Rattle.policy.specs.Tables.{bit, decode}
+use Rattle.policy.specs.Tables.{decode}
 use Rattle.geometry.specs.Geometry.{layout_of}
 use Rattle.image.specs.Laid.{table_of}
-use Rattle.image.proofs.Writes.{laid_len}
 use Rattle.changes.specs.Left.{by_list, left_row}
-use Rattle.changes.proofs.AppendedRows.{Appended, append_start, append_apart, append_turn, append_room, append_end}
-use Rattle.changes.proofs.LeftRows.{table_apart, by_list_in}
-use Rattle.packages.proofs.Removed.Rows.{row_left}
+use Rattle.changes.proofs.AppendedRows.{Appended}
 use Rattle.packages.proofs.removal.leave_rows.Given as goal
 
 abbrev pub invariant-loop-i : goal.invariant-loop-i

@@ -1,6 +1,5 @@
 -- `packages::removal::remove_cause` meets its contract. Assumes nothing.
 use mathlib.Core.Path.{◌∙◌}
-use borrow.Author.Rules.{rules}
 use Rattle.policy.specs.Tables.{decode}
 use Rattle.geometry.specs.Geometry.{layout_of}
 use Rattle.geometry.specs.declared.Table.TheVariants.{Needs}

@@ -1,6 +1,5 @@
 -- `packages::write::bring_in` meets its contract. Assumes nothing.
 use mathlib.Core.List.{[]}
-use borrow.Author.Rules.{rules}
 use Rattle.policy.specs.Tables.{decode}
 use Rattle.geometry.specs.Geometry.{layout_of}
 use Rattle.record.specs.Meaning.{contract_in}

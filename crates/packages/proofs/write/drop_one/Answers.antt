@@ -1,6 +1,5 @@
 -- `packages::write::drop_one` meets its contract. Assumes nothing.
 use mathlib.Core.Path.{refl}
-use borrow.Author.Rules.{rules}
 use Rattle.policy.specs.Tables.{decode}
 use Rattle.geometry.specs.Geometry.{layout_of}
 use Rattle.geometry.proofs.Bounds.{service_lt}

@@ -1,12 +1,8 @@
 -- `packages::write::drop_services` meets its contract. Assumes nothing.
-use Prim.Native.Nat.{◌-◌}
 use native.Mathlib.Omega.{arith}
 use mathlib.Core.Path.{refl, sym, ◌∙◌}
-use borrow.Author.Rules.{rules}
-use Rattle.policy.specs.Tables.{decode}
-use Rattle.geometry.specs.Geometry.{layout_of}
 use Rattle.image.proofs.Writes.{laid_len}
-use Rattle.packages.proofs.Dropped.{GoingOff, going_turn, going_end}
+use Rattle.packages.proofs.Dropped.{going_turn, going_end}
 use Rattle.packages.proofs.write.drop_services.Goals as goal
 
 pub loop-k-init : goal.loop-k-init

@@ -1,7 +1,6 @@
 -- `packages::write::has_kept` meets its contract. Assumes nothing.
 use mathlib.Core.Bool.{not}
 use mathlib.Core.Path.{ap, ◌∙◌}
-use borrow.Author.Rules.{rules}
 use Rattle.policy.specs.Contract.{Tok, eq_tok}
 use Rattle.geometry.specs.Geometry.{tok_of}
 use Rattle.geometry.proofs.Bounds.{service_lt}

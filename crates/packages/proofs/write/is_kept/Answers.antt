@@ -1,10 +1,5 @@
 -- `packages::write::is_kept` meets its contract. Assumes nothing.
-use Prim.Native.Nat.{◌-◌, ◌≤◌}
-use mathlib.Core.Path.{◌≡◌}
-use mathlib.Core.Bool.{false, ◌&&◌}
-use Rattle.policy.specs.Lists.{exists, upto}
-use Rattle.policy.specs.Contract.{eq_tok}
-use Rattle.policy.specs.Tables.{bit, decode}
+use Rattle.policy.specs.Tables.{decode}
 use Rattle.bits.proofs.Loops.{early}
 use Rattle.geometry.specs.Geometry.{layout_of, tok_of}
 use Rattle.packages.proofs.Placed.{none_kept}

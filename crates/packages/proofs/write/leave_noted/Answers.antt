@@ -1,15 +1,13 @@
 -- `packages::write::leave_noted` meets its contract. Assumes nothing.
-use Prim.Native.Nat.{◌-◌}
 use native.Mathlib.Omega.{arith}
 use mathlib.Core.Path.{refl, sym, ◌∙◌}
 use lib.ListN.{get_or}
-use borrow.Author.Rules.{rules}
-use Rattle.policy.specs.Tables.{bit, decode}
+use Rattle.policy.specs.Tables.{bit}
 use Rattle.geometry.specs.Geometry.{layout_of}
 use Rattle.geometry.specs.declared.Kept.TheVariants.{UnmetCalls}
 use Rattle.image.proofs.Writes.{laid_len}
 use Rattle.changes.specs.Left.{token_in, named_row}
-use Rattle.changes.proofs.AppendedRows.{Appended, append_start, append_turn, append_room, append_end}
+use Rattle.changes.proofs.AppendedRows.{append_start, append_turn, append_room, append_end}
 use Rattle.packages.proofs.write.leave_noted.Goals as goal
 
 pub loop-i-init : goal.loop-i-init
@@ -21,8 +19,13 @@ bounds-rows-i c = omega (arith, c.loop-i-test.true, c.packages-size.ensures, c.r
 pub leave_from-requires : goal.leave_from-requires
 leave_from-requires c =
     let a = c.args in
-    let L = layout_of a.c in record { laid = c.loop-i.invariant.wrote.laid; inside = (omega (arith, c.loop-i-test.true, c.packages-size.ensures), c.requires.inside.1); short = c.requires.short; room = append_room c.loop-i.invariant (λ z. named_row L UnmetCalls (token_in a.tokens.now) a.aid.now c.loop-i.i (bit (get_or a.rows.now c.loop-i.i 0)))
-              (λ u w. refl) c.loop-i-test.true c.packages-size.ensures c.requires.room }
+    let L = layout_of a.c in record {
+      laid = c.loop-i.invariant.wrote.laid;
+      inside = (omega (arith, c.loop-i-test.true, c.packages-size.ensures), c.requires.inside.1);
+      short = c.requires.short;
+      room = append_room c.loop-i.invariant (λ z. named_row L UnmetCalls (token_in a.tokens.now) a.aid.now c.loop-i.i (bit (get_or a.rows.now c.loop-i.i 0)))
+          (λ u w. refl) c.loop-i-test.true c.packages-size.ensures c.requires.room;
+    }
 
 pub loop-i-preserved : goal.loop-i-preserved
 loop-i-preserved c =

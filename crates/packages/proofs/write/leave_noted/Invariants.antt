@@ -1,15 +1,10 @@
 -- `packages::write::leave_noted` meets its contract. Assumes nothing.
-use Prim.Native.Nat.{◌-◌}
-use native.Mathlib.Omega.{arith}
-use mathlib.Core.Path.{refl, sym, ◌∙◌}
 use lib.ListN.{get_or}
-use borrow.Author.Rules.{rules}
 use Rattle.policy.specs.Tables.{bit, decode}
 use Rattle.geometry.specs.Geometry.{layout_of}
 use Rattle.geometry.specs.declared.Kept.TheVariants.{UnmetCalls}
-use Rattle.image.proofs.Writes.{laid_len}
 use Rattle.changes.specs.Left.{token_in, named_row}
-use Rattle.changes.proofs.AppendedRows.{Appended, append_start, append_turn, append_room, append_end}
+use Rattle.changes.proofs.AppendedRows.{Appended}
 use Rattle.packages.proofs.write.leave_noted.Given as goal
 
 abbrev pub invariant-loop-i : goal.invariant-loop-i

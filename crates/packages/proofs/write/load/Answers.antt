@@ -1,5 +1,4 @@
 -- `packages::write::load` meets its contract. Assumes nothing.
-use borrow.Author.Rules.{rules}
 use Rattle.image.proofs.Laid.{sound_laid}
 use Rattle.packages.proofs.Loaded.Written.{number_in_lem, aid_short, load_brings, load_written}
 use Rattle.packages.proofs.write.load.Goals as goal

@@ -1,5 +1,4 @@
 -- `packages::write::name` meets its contract. Assumes nothing.
-use borrow.Author.Rules.{rules}
 use Rattle.geometry.proofs.Bounds.{package_lt}
 use Rattle.packages.proofs.Placed.{used_fits, named_wrote}
 use Rattle.packages.proofs.write.name.Goals as goal

@@ -1,11 +1,7 @@
 -- `packages::write::note_calls` meets its contract. Assumes nothing.
-use Prim.Native.Nat.{◌-◌}
-use native.Mathlib.Omega.{arith}
-use borrow.Author.Rules.{rules}
 use Rattle.policy.specs.Tables.{decode}
 use Rattle.geometry.specs.Geometry.{layout_of}
-use Rattle.geometry.proofs.Bounds.{limits}
-use Rattle.packages.proofs.Dropped.{Noted, noted_start, noted_turn, noted_end}
+use Rattle.packages.proofs.Dropped.{Noted}
 use Rattle.packages.proofs.write.note_calls.Given as goal
 
 abbrev pub invariant-loop-i : goal.invariant-loop-i

@@ -1,7 +1,6 @@
 -- `packages::write::place` meets its contract. Assumes nothing.
 use native.Mathlib.Omega.{arith}
 use mathlib.Core.Path.{refl}
-use borrow.Author.Rules.{rules}
 use Rattle.policy.specs.Tables.{decode}
 use Rattle.geometry.specs.Geometry.{layout_of, tok_of}
 use Rattle.packages.proofs.Placed.{place_kept, place_open, place_full}

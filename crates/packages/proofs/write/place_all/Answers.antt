@@ -1,15 +1,13 @@
 -- `packages::write::place_all` meets its contract. Assumes nothing.
 use Prim.Native.Nat.{ℕ}
-use mathlib.Core.Path.{◌≡◌, ap}
-use lib.ListN.{length}
+use mathlib.Core.Path.{ap}
 use Rattle.policy.specs.Record.{tokens}
 use Rattle.policy.specs.Tables.{decode}
 use Rattle.geometry.specs.Geometry.{layout_of}
 use Rattle.record.specs.Meaning.{items_in}
 use Rattle.changes.proofs.AppendedRows.{wrote_as}
-use Rattle.changes.proofs.ItemLoops.{Turning, turning_end, items}
+use Rattle.changes.proofs.ItemLoops.{turning_end, items}
 use Rattle.packages.specs.Writes.{placed_all}
-use Rattle.packages.proofs.Placed.{placing}
 use Rattle.packages.proofs.write.place_all.Goals as goal
 
 pub provided_row-kept-requires : goal.provided_row-kept-requires

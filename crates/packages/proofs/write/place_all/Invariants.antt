@@ -1,14 +1,11 @@
 -- `packages::write::place_all` meets its contract. Assumes nothing.
-use Prim.Native.Nat.{ℕ}
-use mathlib.Core.Path.{◌≡◌, ap}
+use mathlib.Core.Path.{◌≡◌}
 use lib.ListN.{length}
 use Rattle.policy.specs.Record.{tokens}
 use Rattle.policy.specs.Tables.{decode}
 use Rattle.geometry.specs.Geometry.{layout_of}
 use Rattle.record.specs.Meaning.{items_in}
-use Rattle.changes.proofs.AppendedRows.{wrote_as}
-use Rattle.changes.proofs.ItemLoops.{Turning, turning_end, items}
-use Rattle.packages.specs.Writes.{placed_all}
+use Rattle.changes.proofs.ItemLoops.{Turning}
 use Rattle.packages.proofs.Placed.{placing}
 use Rattle.packages.proofs.write.place_all.Given as goal
 

@@ -1,6 +1,5 @@
 -- `packages::write::replace` meets its contract. Assumes nothing.
 use native.Mathlib.Omega.{arith}
-use borrow.Author.Rules.{rules}
 use Rattle.geometry.proofs.Bounds.{limits}
 use Rattle.image.proofs.Laid.{sound_laid}
 use Rattle.packages.proofs.Replaced.Written.{number_in_lem, aid_short, replace_brings, replace_room, replace_written}

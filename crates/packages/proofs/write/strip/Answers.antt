@@ -1,5 +1,4 @@
 -- `packages::write::strip` meets its contract. Assumes nothing.
-use borrow.Author.Rules.{rules}
 use Rattle.policy.specs.Lookup.{places}
 use Rattle.geometry.specs.Geometry.{layout_of}
 use Rattle.image.proofs.Clears.{wrote_then}

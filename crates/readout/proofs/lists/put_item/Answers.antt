@@ -1,5 +1,4 @@
 -- `readout::lists::put_item` meets its contract. Assumes nothing.
-use borrow.Author.Rules.{rules}
 use Rattle.image.proofs.Listed.{row_lt, tokens_sum}
 use Rattle.readout.proofs.Writers.{short_as, put_as}
 use Rattle.readout.proofs.Placed.{item_skipped, item_inside, item_here}

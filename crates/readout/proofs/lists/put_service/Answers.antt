@@ -25,9 +25,12 @@ put_tokens-requires c =
     let a = c.args in
     let p = c.requires.inside in
     let z = c.tok_at-from.ensures in
-    let img = a.img.now in record { inside = tok_fits_lem a.c img c.requires.laid a.n a.k _ p.0 p.1 z; short = short_as _ 0 _ _ img img
+    let img = a.img.now in record {
+      inside = tok_fits_lem a.c img c.requires.laid a.n a.k _ p.0 p.1 z;
+      short = short_as _ 0 _ _ img img
           (service_here a.c img c.requires.laid _ _ _ _ p.0 p.1 c.provided_row-row.ensures c.has_bit.ensures _ (ap not c.if-not-has_bit.false) z)
-          c.requires.short }
+          c.requires.short;
+    }
 
 pub shape_of-out : goal.shape_of-out
 shape_of-out c = search geo

@@ -1,6 +1,5 @@
 -- `readout::pen::put` meets its contract: nothing is written where the bytes do not fit. Assumes nothing.
 use mathlib.Core.Path.{refl}
-use borrow.Author.Rules.{rules}
 use Rattle.readout.proofs.Writers.{put_past}
 use Rattle.readout.proofs.pen.put.Goals as goal
 

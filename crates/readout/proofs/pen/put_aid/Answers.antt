@@ -1,5 +1,4 @@
 -- `readout::pen::put_aid` meets its contract. Assumes nothing.
-use borrow.Author.Rules.{rules}
 use Rattle.readout.proofs.Writers.{aid_part, short_as, put_as}
 use Rattle.readout.proofs.pen.put_aid.Goals as goal
 

@@ -1,6 +1,5 @@
 -- `readout::pen::put_count` meets its contract. Assumes nothing.
 use mathlib.Core.List.{[]}
-use borrow.Author.Rules.{rules}
 use Rattle.readout.proofs.Writers.{count_one, count_two, short_as, put_as}
 use Rattle.readout.proofs.pen.put_count.Goals as goal
 

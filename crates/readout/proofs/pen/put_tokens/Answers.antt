@@ -1,5 +1,4 @@
 -- `readout::pen::put_tokens` meets its contract. Assumes nothing.
-use borrow.Author.Rules.{rules}
 use Rattle.readout.proofs.Writers.{tokens_part, put_as}
 use Rattle.readout.proofs.pen.put_tokens.Goals as goal
 

@@ -13,13 +13,20 @@ put_count-rows-requires c =
 
 pub put_table-list-requires : goal.put_table-list-requires
 put_table-list-requires c =
-    let a = c.args in record { laid = c.requires.laid; inside = c.requires.inside; short = (kept_short (layout_of a.c) (decode (layout_of a.c) a.img.now) a.n a.l _ c.table_beside-tb.ensures _ c.count_rows-count.ensures _ c.requires.short
-            ).second _ c.put_count-rows.ensures.ends }
+    let a = c.args in record {
+      laid = c.requires.laid;
+      inside = c.requires.inside;
+      short = (kept_short (layout_of a.c) (decode (layout_of a.c) a.img.now) a.n a.l _ c.table_beside-tb.ensures _ c.count_rows-count.ensures _ c.requires.short
+          ).second _ c.put_count-rows.ensures.ends;
+    }
 
 pub put_list-requires : goal.put_list-requires
 put_list-requires c =
-    let a = c.args in record { laid = c.requires.laid; short = (kept_short (layout_of a.c) (decode (layout_of a.c) a.img.now) a.n a.l _ c.table_beside-tb.ensures _ c.count_rows-count.ensures _ c.requires.short
-          ).third _ _ c.put_count-rows.ensures.ends c.put_table-list.ensures.ends }
+    let a = c.args in record {
+      laid = c.requires.laid;
+      short = (kept_short (layout_of a.c) (decode (layout_of a.c) a.img.now) a.n a.l _ c.table_beside-tb.ensures _ c.count_rows-count.ensures _ c.requires.short
+          ).third _ _ c.put_count-rows.ensures.ends c.put_table-list.ensures.ends;
+    }
 
 pub returns : goal.returns
 returns c =

@@ -1,17 +1,13 @@
 -- `readout::tables::count_rows` meets its contract. Assumes nothing.
-use Prim.Native.Nat.{◌-◌}
 use native.Mathlib.Omega.{arith}
 use mathlib.Core.Path.{sym, ◌∙◌}
-use mathlib.Core.List.{map}
 use lib.ListN.{length-map}
-use borrow.Author.Rules.{rules}
 use Rattle.policy.specs.Lists.{keep, upto}
 use Rattle.policy.specs.Tables.{decode}
 use Rattle.geometry.specs.Geometry.{layout_of}
 use Rattle.geometry.proofs.Bounds.{limits}
 use Rattle.image.specs.Laid.{table_of}
-use Rattle.readout.specs.Parts.{bit_row}
-use Rattle.readout.proofs.Turns.{Counted, counted_none, counted_on, counted_all, row_count, few}
+use Rattle.readout.proofs.Turns.{counted_none, counted_on, counted_all, row_count, few}
 use Rattle.readout.proofs.tables.count_rows.Goals as goal
 
 pub loop-j-init : goal.loop-j-init

@@ -1,10 +1,6 @@
 -- `readout::tables::put_column` meets its contract. Assumes nothing.
-use Prim.Native.Nat.{◌-◌}
 use native.Mathlib.Omega.{arith}
-use Rattle.policy.specs.Tables.{decode}
-use Rattle.geometry.specs.Geometry.{layout_of}
-use Rattle.readout.specs.Parts.{bit_bytes}
-use Rattle.readout.proofs.Turns.{Turned, turn_short, turned}
+use Rattle.readout.proofs.Turns.{turn_short, turned}
 use Rattle.readout.proofs.tables.put_column.Goals as goal
 
 pub entry-row-requires : goal.entry-row-requires

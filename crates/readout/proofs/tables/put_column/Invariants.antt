@@ -1,10 +1,8 @@
 -- `readout::tables::put_column` meets its contract. Assumes nothing.
-use Prim.Native.Nat.{◌-◌}
-use native.Mathlib.Omega.{arith}
 use Rattle.policy.specs.Tables.{decode}
 use Rattle.geometry.specs.Geometry.{layout_of}
 use Rattle.readout.specs.Parts.{bit_bytes}
-use Rattle.readout.proofs.Turns.{Turned, turn_short, turned}
+use Rattle.readout.proofs.Turns.{Turned}
 use Rattle.readout.proofs.tables.put_column.Given as goal
 
 abbrev pub invariant-loop-k : goal.invariant-loop-k

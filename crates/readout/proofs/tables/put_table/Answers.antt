@@ -1,10 +1,6 @@
 -- `readout::tables::put_table` meets its contract. Assumes nothing.
-use Prim.Native.Nat.{◌-◌}
 use native.Mathlib.Omega.{arith}
-use Rattle.policy.specs.Tables.{decode}
-use Rattle.geometry.specs.Geometry.{layout_of}
-use Rattle.readout.specs.Parts.{column_bytes}
-use Rattle.readout.proofs.Turns.{Turned, turn_short, turned}
+use Rattle.readout.proofs.Turns.{turn_short, turned}
 use Rattle.readout.proofs.tables.put_table.Goals as goal
 
 pub packages-m-requires : goal.packages-m-requires

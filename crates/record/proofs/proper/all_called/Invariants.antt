@@ -1,11 +1,9 @@
 -- `record::proper::all_called` meets its contract: the rows to come decide, and the search goes on among the calls.
-use native.Mathlib.Omega.{arith}
-use borrow.Author.Tests.{not-true, not-false}
 use Rattle.policy.specs.Lists.{every}
 use Rattle.policy.specs.Contract.{has_row}
 use Rattle.policy.specs.Record.{a_row}
 use Rattle.record.specs.Meaning.{Among, items_in}
-use Rattle.record.proofs.Loops.{Left, todo_start, todo_end, every_stop, every_next, among_all}
+use Rattle.record.proofs.Loops.{Left}
 use Rattle.record.proofs.proper.all_called.Given as goal
 
 abbrev pub invariant-loop-todo : goal.invariant-loop-todo

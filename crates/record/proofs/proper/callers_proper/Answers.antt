@@ -1,9 +1,9 @@
 -- `record::proper::callers_proper` meets its contract: the things to come decide.
 use native.Mathlib.Omega.{arith}
 use Rattle.policy.specs.Contract.{eq_aid}
-use Rattle.policy.specs.Record.{aid, proper}
-use Rattle.record.proofs.Loops.{Left, todo_start, todo_end}
-use Rattle.record.proofs.Improper.{own_aid, others, own_stop, twice_stop, once_next}
+use Rattle.policy.specs.Record.{proper}
+use Rattle.record.proofs.Loops.{todo_start, todo_end}
+use Rattle.record.proofs.Improper.{own_aid, own_stop, twice_stop, once_next}
 use Rattle.record.proofs.proper.callers_proper.Goals as goal
 
 pub loop-todo-init : goal.loop-todo-init

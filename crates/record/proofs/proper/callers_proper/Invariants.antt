@@ -1,9 +1,8 @@
 -- `record::proper::callers_proper` meets its contract: the things to come decide.
-use native.Mathlib.Omega.{arith}
 use Rattle.policy.specs.Contract.{eq_aid}
-use Rattle.policy.specs.Record.{aid, proper}
-use Rattle.record.proofs.Loops.{Left, todo_start, todo_end}
-use Rattle.record.proofs.Improper.{own_aid, others, own_stop, twice_stop, once_next}
+use Rattle.policy.specs.Record.{aid}
+use Rattle.record.proofs.Loops.{Left}
+use Rattle.record.proofs.Improper.{own_aid, others}
 use Rattle.record.proofs.proper.callers_proper.Given as goal
 
 abbrev pub invariant-loop-todo : goal.invariant-loop-todo

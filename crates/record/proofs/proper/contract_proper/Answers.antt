@@ -1,7 +1,6 @@
 -- `record::proper::contract_proper` meets its contract: the answers so far decide.
 use mathlib.Core.Bool.{not}
 use mathlib.Core.Path.{ap, refl}
-use borrow.Author.Rules.{rules}
 use Rattle.record.proofs.Improper.{stop_1, stop_2, stop_3, stop_4, last_decides}
 use Rattle.record.proofs.proper.contract_proper.Goals as goal
 

@@ -1,10 +1,6 @@
 -- `record::proper::has_aid` meets its contract: the things to come decide.
 use native.Mathlib.Omega.{arith}
-use Rattle.policy.specs.Lists.{exists}
-use Rattle.policy.specs.Contract.{eq_aid}
-use Rattle.policy.specs.Record.{aid}
-use Rattle.record.specs.Meaning.{aid_in}
-use Rattle.record.proofs.Loops.{Left, todo_start, todo_end, exists_stop, exists_next}
+use Rattle.record.proofs.Loops.{todo_start, todo_end, exists_stop, exists_next}
 use Rattle.record.proofs.proper.has_aid.Goals as goal
 
 pub loop-todo-init : goal.loop-todo-init

@@ -1,11 +1,6 @@
 -- `record::proper::has_tokens` meets its contract: the tokens to come decide.
 use native.Mathlib.Omega.{arith}
-use borrow.Author.Rules.{rules}
-use Rattle.policy.specs.Lists.{exists}
-use Rattle.policy.specs.Contract.{eq_tok}
-use Rattle.policy.specs.Record.{tokens}
-use Rattle.geometry.specs.Geometry.{tok_of}
-use Rattle.record.proofs.Loops.{Left, todo_start, todo_end, exists_stop, exists_next}
+use Rattle.record.proofs.Loops.{todo_start, todo_end, exists_stop, exists_next}
 use Rattle.record.proofs.proper.has_tokens.Goals as goal
 
 pub loop-todo-init : goal.loop-todo-init

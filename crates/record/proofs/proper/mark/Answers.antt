@@ -1,9 +1,6 @@
 -- `record::proper::mark` meets its contract.
 use mathlib.Core.Path.{ap}
-use mathlib.Core.List.{List}
 use Prim.Native.Nat.{ℕ, ◌/◌}
-use native.Mathlib.Omega.{arith}
-use borrow.Author.Rules.{rules}
 use lib.ListN.{set}
 use Rattle.record.specs.Marks.{marked, with_mark}
 use Rattle.record.proofs.proper.mark.Goals as goal

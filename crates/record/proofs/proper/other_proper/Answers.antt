@@ -1,5 +1,4 @@
 -- `record::proper::other_proper` meets its contract, alike for each of the four kinds.
-use borrow.Author.Rules.{rules}
 use Rattle.record.proofs.Improper.{row_proper}
 use Rattle.record.proofs.proper.other_proper.Goals as goal
 

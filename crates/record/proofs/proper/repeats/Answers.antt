@@ -1,7 +1,6 @@
 -- `record::proper::repeats` meets its contract: the mark filters, the comparison decides.
 use mathlib.Core.Bool.{not}
 use mathlib.Core.Path.{ap}
-use borrow.Author.Rules.{rules}
 use Rattle.record.proofs.Marks.{mark_fits, sifts_new, sifts_met}
 use Rattle.record.proofs.proper.repeats.Goals as goal
 

@@ -1,7 +1,6 @@
 -- `record::proper::row_mark` meets its contract.
 use Prim.Native.Nat.{◌+◌, ◌-◌}
 use native.Mathlib.Omega.{arith}
-use borrow.Author.Rules.{rules}
 use Rattle.geometry.specs.Geometry.{tok_of}
 use Rattle.record.proofs.Marks.{mark_here}
 use Rattle.record.proofs.proper.row_mark.Goals as goal

@@ -1,7 +1,7 @@
 -- `record::proper::rows_proper` meets its contract: the rows so far are sifted.
 use native.Mathlib.Omega.{arith}
 use Rattle.record.proofs.Taken.{before_stands}
-use Rattle.record.proofs.Marks.{Sifting, sifting_start, sifting_own, sifting_twice, sifting_next, sifting_end}
+use Rattle.record.proofs.Marks.{sifting_start, sifting_own, sifting_twice, sifting_next, sifting_end}
 use Rattle.record.proofs.proper.rows_proper.Goals as goal
 
 pub loop-todo-init : goal.loop-todo-init

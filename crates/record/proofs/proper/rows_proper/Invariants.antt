@@ -1,7 +1,5 @@
 -- `record::proper::rows_proper` meets its contract: the rows so far are sifted.
-use native.Mathlib.Omega.{arith}
-use Rattle.record.proofs.Taken.{before_stands}
-use Rattle.record.proofs.Marks.{Sifting, sifting_start, sifting_own, sifting_twice, sifting_next, sifting_end}
+use Rattle.record.proofs.Marks.{Sifting}
 use Rattle.record.proofs.proper.rows_proper.Given as goal
 
 abbrev pub invariant-loop-todo : goal.invariant-loop-todo

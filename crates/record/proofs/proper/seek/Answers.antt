@@ -1,11 +1,6 @@
 -- `record::proper::seek` meets its contract: the things to come decide, and are among those of the list.
 use native.Mathlib.Omega.{arith}
-use Rattle.policy.specs.Lists.{exists}
-use Rattle.policy.specs.Contract.{eq_row}
-use Rattle.policy.specs.Record.{a_row}
-use Rattle.geometry.specs.Geometry.{tok_of}
-use Rattle.record.specs.Meaning.{Among, aid_in}
-use Rattle.record.proofs.Loops.{Left, todo_start, todo_end, exists_stop, exists_next, among_all, among_next}
+use Rattle.record.proofs.Loops.{todo_start, todo_end, exists_stop, exists_next, among_all, among_next}
 use Rattle.record.proofs.proper.seek.Goals as goal
 
 pub loop-todo-init : goal.loop-todo-init

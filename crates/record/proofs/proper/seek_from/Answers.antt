@@ -1,5 +1,4 @@
 -- `record::proper::seek_from` meets its contract.
-use borrow.Author.Rules.{rules}
 use Rattle.record.proofs.Loops.{seeks_on}
 use Rattle.record.proofs.proper.seek_from.Goals as goal
 

@@ -1,10 +1,8 @@
 -- `record::proper::tokens_proper` meets its contract: the tokens to come decide.
-use native.Mathlib.Omega.{arith}
 use Rattle.policy.specs.Lists.{distinct}
 use Rattle.policy.specs.Contract.{eq_tok}
 use Rattle.policy.specs.Record.{tokens}
-use Rattle.record.proofs.Loops.{Left, todo_start, todo_end}
-use Rattle.record.proofs.Improper.{distinct_stop, distinct_next}
+use Rattle.record.proofs.Loops.{Left}
 use Rattle.record.proofs.proper.tokens_proper.Given as goal
 
 abbrev pub invariant-loop-todo : goal.invariant-loop-todo

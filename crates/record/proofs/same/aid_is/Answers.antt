@@ -1,5 +1,4 @@
 -- `record::same::aid_is` meets its contract.
-use borrow.Author.Rules.{rules}
 use Rattle.record.proofs.same.aid_is.Goals as goal
 
 pub returns : goal.returns

@@ -1,5 +1,4 @@
 -- `record::same::same_aid` meets its contract.
-use borrow.Author.Rules.{rules}
 use Rattle.record.proofs.same.same_aid.Goals as goal
 
 pub returns : goal.returns

@@ -1,5 +1,4 @@
 -- `record::same::same_row` meets its contract. Assumes nothing.
-use borrow.Author.Rules.{rules}
 use Rattle.geometry.specs.Geometry.{tok_of}
 use Rattle.record.specs.Meaning.{aid_in}
 use Rattle.record.proofs.Alike.{row_differs, row_by_aids}

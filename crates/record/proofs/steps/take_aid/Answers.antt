@@ -1,8 +1,7 @@
 -- `record::steps::take_aid` meets its contract.
 use native.Mathlib.Omega.{arith}
-use Rattle.record.proofs.Places.{AidHere, aid_here}
+use Rattle.record.proofs.Places.{aid_here}
 use Rattle.record.proofs.Taken.{first_good, uncons_aid}
-use borrow.Author.Rules.{rules}
 use Rattle.record.proofs.steps.take_aid.Goals as goal
 
 pub bounds-rec-place : goal.bounds-rec-place

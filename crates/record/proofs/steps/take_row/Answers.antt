@@ -1,5 +1,4 @@
 -- `record::steps::take_row` meets its contract: the row that stands first, and the rows after it.
-use borrow.Author.Rules.{rules}
 use Rattle.record.proofs.Taken.{first_good, uncons_row}
 use Rattle.record.proofs.steps.take_row.Goals as goal
 

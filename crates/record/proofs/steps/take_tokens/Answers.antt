@@ -1,6 +1,5 @@
 -- `record::steps::take_tokens` meets its contract.
 use Rattle.record.proofs.Taken.{tokens_inside, uncons_tokens}
-use borrow.Author.Rules.{rules}
 use Rattle.record.proofs.steps.take_tokens.Goals as goal
 
 pub tokens_at-tokens-requires : goal.tokens_at-tokens-requires

@@ -1,6 +1,5 @@
 -- `services::adding::add_service` meets its contract. Assumes nothing.
 use native.Mathlib.Omega.{arith}
-use borrow.Author.Rules.{rules}
 use Rattle.geometry.proofs.Bounds.{limits}
 use Rattle.image.proofs.Laid.{sound_laid}
 use Rattle.services.proofs.Added.Outcome.{adding_refused, adding_fits, adding_done_lem}

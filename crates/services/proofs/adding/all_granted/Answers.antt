@@ -1,20 +1,18 @@
 -- `services::adding::all_granted` meets its contract. Assumes nothing.
-use Prim.Native.Nat.{◌-◌, ◌≤◌, ◌<◌}
+use Prim.Native.Nat.{◌<◌}
 use native.Mathlib.Omega.{arith}
-use mathlib.Core.Path.{ap, ◌≡◌, refl}
-use mathlib.Core.Bool.{not, Bool}
-use lib.ListN.{length, drop}
-use Rattle.policy.specs.Lists.{every}
+use mathlib.Core.Path.{ap, refl}
+use mathlib.Core.Bool.{not}
+use lib.ListN.{length}
 use Rattle.policy.specs.Record.{aid}
-use Rattle.policy.specs.Tables.{Unmet, decode}
+use Rattle.policy.specs.Tables.{decode}
 use Rattle.geometry.specs.Geometry.{layout_of}
-use Rattle.image.specs.Read.{mask_of, unmet_row}
+use Rattle.image.specs.Read.{unmet_row}
 use Rattle.image.proofs.Laid.{sound_laid}
 use Rattle.record.specs.Meaning.{items_in}
 use Rattle.services.specs.Adding.{by_callers}
 use Rattle.services.proofs.Added.Found.{row_by_lem}
 use Rattle.bits.proofs.Loops.{rows_stop, rows_next, rows_end}
-use borrow.Author.Rules.{rules}
 use Rattle.services.proofs.adding.all_granted.Goals as goal
 
 pub count-n-requires : goal.count-n-requires

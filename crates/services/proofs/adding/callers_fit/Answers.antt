@@ -1,15 +1,8 @@
 -- `services::adding::callers_fit` meets its contract. Assumes nothing.
 use native.Mathlib.Omega.{arith}
-use lib.Dec.{leb}
-use lib.ListN.{length}
-use borrow.Author.Rules.{rules}
-use Rattle.policy.specs.Lists.{keep}
-use Rattle.policy.specs.Record.{aid}
 use Rattle.policy.specs.Tables.{decode}
-use Rattle.policy.specs.ShortCheck.{count}
 use Rattle.geometry.specs.Geometry.{layout_of}
-use Rattle.record.specs.Meaning.{items_in}
-use Rattle.record.proofs.Loops.{Todo, todo_start}
+use Rattle.record.proofs.Loops.{todo_start}
 use Rattle.services.specs.Adding.{is_lone}
 use Rattle.changes.proofs.ItemRoom.{room_end, room_stop, room_next}
 use Rattle.services.proofs.adding.callers_fit.Goals as goal

@@ -1,15 +1,14 @@
 -- `services::adding::due_rows` meets its contract. Assumes nothing.
-use Prim.Native.Nat.{◌-◌, ◌≤◌, ◌<◌}
+use Prim.Native.Nat.{◌-◌, ◌<◌}
 use native.Mathlib.Omega.{arith}
-use mathlib.Core.Path.{◌≡◌, ap, ◌∙◌}
+use mathlib.Core.Path.{ap, ◌∙◌}
 use mathlib.Core.Bool.{Bool, ◌&&◌}
-use lib.ListN.{length, drop}
-use borrow.Author.Rules.{rules}
-use Rattle.policy.specs.Tables.{Waiting, decode}
+use lib.ListN.{length}
+use Rattle.policy.specs.Tables.{decode}
 use Rattle.policy.specs.Draft.{installed_aid}
 use Rattle.geometry.specs.Geometry.{layout_of}
 use Rattle.geometry.specs.declared.Kept.TheVariants.{WaitingGrants}
-use Rattle.image.specs.Read.{mask_of, waiting_row}
+use Rattle.image.specs.Read.{waiting_row}
 use Rattle.image.proofs.Masks.{mask_start, mask_turn, mask_doubles, mask_adds, mask_end}
 use Rattle.image.proofs.Listed.{list_low}
 use Rattle.changes.proofs.MaskedRows.{named}

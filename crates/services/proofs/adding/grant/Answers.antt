@@ -1,6 +1,5 @@
 -- `services::adding::grant` meets its contract. Assumes nothing.
 use native.Mathlib.Omega.{arith}
-use borrow.Author.Rules.{rules}
 use Rattle.policy.specs.Tables.{decode}
 use Rattle.geometry.specs.Geometry.{layout_of, tok_of}
 use Rattle.record.specs.Meaning.{aid_in}

@@ -1,7 +1,7 @@
 -- `services::adding::grant_all` meets its contract. Assumes nothing.
 use Prim.Native.Nat.{ℕ, ◌+◌, ◌≤◌}
 use native.Mathlib.Omega.{arith}
-use mathlib.Core.Path.{◌≡◌, refl, sym, subst}
+use mathlib.Core.Path.{refl, sym, subst}
 use lib.ListN.{length}
 use borrow.Author.Rules.{rules}
 use Rattle.policy.specs.Record.{aid}
@@ -12,8 +12,7 @@ use Rattle.image.specs.Wrote.{Wrote}
 use Rattle.record.specs.Meaning.{items_in}
 use Rattle.services.specs.Adding.{of_service, is_lone, granted_to_each}
 use Rattle.changes.proofs.MaskedRows.{mask_past}
-use Rattle.changes.proofs.ItemLoops.{Turning, turning_start, turning_here, turning_next, turning_end}
-use Rattle.services.proofs.Added.Grants.{grants}
+use Rattle.changes.proofs.ItemLoops.{turning_start, turning_here, turning_next, turning_end}
 use Rattle.services.proofs.adding.grant_all.Goals as goal
 
 pub loop-todo-init : goal.loop-todo-init

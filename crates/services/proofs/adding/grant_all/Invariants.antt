@@ -1,18 +1,11 @@
 -- `services::adding::grant_all` meets its contract. Assumes nothing.
-use Prim.Native.Nat.{ℕ, ◌+◌, ◌≤◌}
-use native.Mathlib.Omega.{arith}
-use mathlib.Core.Path.{◌≡◌, refl, sym, subst}
+use mathlib.Core.Path.{◌≡◌}
 use lib.ListN.{length}
-use borrow.Author.Rules.{rules}
 use Rattle.policy.specs.Record.{aid}
 use Rattle.policy.specs.Tables.{decode}
-use Rattle.policy.specs.ShortCheck.{count}
 use Rattle.geometry.specs.Geometry.{layout_of, tok_of}
-use Rattle.image.specs.Wrote.{Wrote}
 use Rattle.record.specs.Meaning.{items_in}
-use Rattle.services.specs.Adding.{of_service, is_lone, granted_to_each}
-use Rattle.changes.proofs.MaskedRows.{mask_past}
-use Rattle.changes.proofs.ItemLoops.{Turning, turning_start, turning_here, turning_next, turning_end}
+use Rattle.changes.proofs.ItemLoops.{Turning}
 use Rattle.services.proofs.Added.Grants.{grants}
 use Rattle.services.proofs.adding.grant_all.Given as goal
 

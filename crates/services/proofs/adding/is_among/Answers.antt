@@ -1,11 +1,6 @@
 -- `services::adding::is_among` meets its contract. Assumes nothing.
 use native.Mathlib.Omega.{arith}
-use Rattle.policy.specs.Lists.{exists}
-use Rattle.policy.specs.Contract.{eq_aid}
-use Rattle.policy.specs.Record.{aid}
-use Rattle.policy.specs.Tables.{decode}
-use Rattle.geometry.specs.Geometry.{layout_of}
-use Rattle.record.proofs.Loops.{Left, todo_start, todo_end, exists_stop, exists_next}
+use Rattle.record.proofs.Loops.{todo_start, todo_end, exists_stop, exists_next}
 use Rattle.services.proofs.adding.is_among.Goals as goal
 
 pub loop-todo-init : goal.loop-todo-init

@@ -1,16 +1,13 @@
 -- `services::adding::is_due_to` meets its contract. Assumes nothing.
-use Prim.Native.Nat.{◌-◌, ◌≤◌, ◌<◌}
+use Prim.Native.Nat.{◌<◌}
 use native.Mathlib.Omega.{arith}
-use mathlib.Core.Path.{◌≡◌, refl}
+use mathlib.Core.Path.{refl}
 use lib.Dec.{eqb}
-use lib.ListN.{length, drop}
-use borrow.Author.Rules.{rules}
+use lib.ListN.{length}
 use Rattle.policy.specs.Tables.{Waiting, decode}
 use Rattle.geometry.specs.Geometry.{layout_of}
 use Rattle.image.specs.Read.{waiting_row}
-use Rattle.changes.specs.Masks.{some_listed}
 use Rattle.changes.specs.Joins.{holder}
-use Rattle.services.specs.Adding.{due_to}
 use Rattle.changes.proofs.MaskedRows.{some_stop, some_next, some_end}
 use Rattle.services.proofs.adding.is_due_to.Goals as goal
 

@@ -1,17 +1,13 @@
 -- `services::adding::is_due_to` meets its contract. Assumes nothing.
-use Prim.Native.Nat.{◌-◌, ◌≤◌, ◌<◌}
-use native.Mathlib.Omega.{arith}
-use mathlib.Core.Path.{◌≡◌, refl}
+use Prim.Native.Nat.{◌≤◌}
+use mathlib.Core.Path.{◌≡◌}
 use lib.Dec.{eqb}
 use lib.ListN.{length, drop}
-use borrow.Author.Rules.{rules}
 use Rattle.policy.specs.Tables.{Waiting, decode}
 use Rattle.geometry.specs.Geometry.{layout_of}
-use Rattle.image.specs.Read.{waiting_row}
 use Rattle.changes.specs.Masks.{some_listed}
 use Rattle.changes.specs.Joins.{holder}
 use Rattle.services.specs.Adding.{due_to}
-use Rattle.changes.proofs.MaskedRows.{some_stop, some_next, some_end}
 use Rattle.services.proofs.adding.is_due_to.Given as goal
 
 abbrev pub invariant-loop-r : goal.invariant-loop-r

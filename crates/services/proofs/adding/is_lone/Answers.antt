@@ -1,5 +1,4 @@
 -- `services::adding::is_lone` meets its contract. Assumes nothing.
-use borrow.Author.Rules.{rules}
 use Rattle.policy.specs.Tables.{decode}
 use Rattle.geometry.specs.Geometry.{layout_of}
 use Rattle.record.specs.Meaning.{aid_in}

@@ -1,7 +1,6 @@
 -- `services::adding::plan_lists` meets its contract. Assumes nothing.
 use mathlib.Core.Bool.{not}
 use mathlib.Core.Path.{ap}
-use borrow.Author.Rules.{rules}
 use Rattle.policy.specs.Record.{aid}
 use Rattle.geometry.specs.Geometry.{layout_of, tok_of}
 use Rattle.geometry.specs.declared.Kept.TheVariants.{WaitingGrants}

@@ -2,7 +2,6 @@
 use mathlib.Core.Bool.{not}
 use mathlib.Core.Path.{ap}
 use native.Mathlib.Omega.{arith}
-use borrow.Author.Rules.{rules}
 use Rattle.geometry.specs.declared.Kept.TheVariants.{WaitingGrants}
 use Rattle.image.proofs.Listed.{list_low}
 use Rattle.bits.proofs.Tests.{unnamed, named_so}

@@ -1,5 +1,4 @@
 -- `services::adding::serve` meets its contract. Assumes nothing.
-use borrow.Author.Rules.{rules}
 use Rattle.services.proofs.Added.Writes.{opened_takes, taken_room, served_all}
 use Rattle.services.proofs.adding.serve.Goals as goal
 

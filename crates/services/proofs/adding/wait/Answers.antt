@@ -1,6 +1,5 @@
 -- `services::adding::wait` meets its contract. Assumes nothing.
 use mathlib.Core.Path.{sym, ◌∙◌}
-use borrow.Author.Rules.{rules}
 use Rattle.policy.specs.Tables.{decode}
 use Rattle.geometry.specs.Geometry.{layout_of, tok_of}
 use Rattle.record.specs.Meaning.{aid_in}

@@ -1,15 +1,13 @@
 -- `services::adding::waits` meets its contract. Assumes nothing.
-use Prim.Native.Nat.{◌-◌, ◌≤◌, ◌<◌}
+use Prim.Native.Nat.{◌<◌}
 use native.Mathlib.Omega.{arith}
-use mathlib.Core.Path.{◌≡◌, refl, ap, ◌∙◌}
-use lib.ListN.{length, drop}
-use borrow.Author.Rules.{rules}
+use mathlib.Core.Path.{refl, ap, ◌∙◌}
+use lib.ListN.{length}
 use Rattle.policy.specs.Contract.{eq_aid}
 use Rattle.policy.specs.Tables.{Waiting, decode}
 use Rattle.geometry.specs.Geometry.{layout_of}
 use Rattle.image.specs.Read.{waiting_row}
 use Rattle.record.specs.Meaning.{aid_in}
-use Rattle.changes.specs.Masks.{some_listed}
 use Rattle.services.specs.Adding.{waits_in}
 use Rattle.changes.proofs.MaskedRows.{some_none, some_stop, some_next, some_end}
 use Rattle.services.proofs.adding.waits.Goals as goal

@@ -1,17 +1,12 @@
 -- `services::adding::waits` meets its contract. Assumes nothing.
-use Prim.Native.Nat.{◌-◌, ◌≤◌, ◌<◌}
-use native.Mathlib.Omega.{arith}
-use mathlib.Core.Path.{◌≡◌, refl, ap, ◌∙◌}
+use Prim.Native.Nat.{◌≤◌}
+use mathlib.Core.Path.{◌≡◌}
 use lib.ListN.{length, drop}
-use borrow.Author.Rules.{rules}
 use Rattle.policy.specs.Contract.{eq_aid}
 use Rattle.policy.specs.Tables.{Waiting, decode}
 use Rattle.geometry.specs.Geometry.{layout_of}
-use Rattle.image.specs.Read.{waiting_row}
-use Rattle.record.specs.Meaning.{aid_in}
 use Rattle.changes.specs.Masks.{some_listed}
 use Rattle.services.specs.Adding.{waits_in}
-use Rattle.changes.proofs.MaskedRows.{some_none, some_stop, some_next, some_end}
 use Rattle.services.proofs.adding.waits.Given as goal
 
 abbrev pub invariant-loop-r : goal.invariant-loop-r

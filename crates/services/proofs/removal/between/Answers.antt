@@ -1,5 +1,4 @@
 -- `services::removal::between` meets its contract. Assumes nothing.
-use borrow.Author.Rules.{rules}
 use Rattle.services.proofs.removal.between.Goals as goal
 
 pub returns-in-Calls : goal.returns-in-Calls

@@ -1,7 +1,6 @@
 -- `services::removal::leave_bit` meets its contract. Assumes nothing.
 use mathlib.Core.Path.{sym, ap, subst}
 use mathlib.Core.List.{List}
-use borrow.Author.Rules.{rules}
 use Rattle.policy.specs.Tables.{decode}
 use Rattle.geometry.specs.Geometry.{layout_of}
 use Rattle.image.specs.Read.{Item}

@@ -1,13 +1,11 @@
 -- `services::removal::leave_bits` meets its contract. Assumes nothing.
-use Prim.Native.Nat.{◌-◌}
 use native.Mathlib.Omega.{arith}
 use mathlib.Core.Path.{sym, ◌∙◌}
-use borrow.Author.Rules.{rules}
 use Rattle.policy.specs.Tables.{decode}
 use Rattle.geometry.specs.Geometry.{layout_of}
 use Rattle.image.proofs.Writes.{laid_len}
 use Rattle.services.specs.Removal.{left_bit}
-use Rattle.changes.proofs.AppendedRows.{Appended, append_start, append_turn, append_room, append_end}
+use Rattle.changes.proofs.AppendedRows.{append_start, append_turn, append_room, append_end}
 use Rattle.services.proofs.Removed.Rows.{bits_left}
 use Rattle.services.proofs.removal.leave_bits.Goals as goal
 
@@ -18,8 +16,12 @@ pub leave_bit-requires : goal.leave_bit-requires
 leave_bit-requires c =
     let l = c.loop-i in
     let a = c.args in
-    let L = layout_of a.c in record { laid = l.invariant.wrote.laid; inside = (c.requires.inside.0, omega arith, c.requires.inside.1); room = append_room l.invariant (λ z. left_bit L a.l z a.tb a.j a.k l.i)
-            (bits_left L a.l (decode L a.img.now) a.tb a.j a.k l.i) c.loop-i-test.true c.packages-callers.ensures c.requires.room }
+    let L = layout_of a.c in record {
+      laid = l.invariant.wrote.laid;
+      inside = (c.requires.inside.0, omega arith, c.requires.inside.1);
+      room = append_room l.invariant (λ z. left_bit L a.l z a.tb a.j a.k l.i)
+          (bits_left L a.l (decode L a.img.now) a.tb a.j a.k l.i) c.loop-i-test.true c.packages-callers.ensures c.requires.room;
+    }
 
 pub loop-i-preserved : goal.loop-i-preserved
 loop-i-preserved c =

@@ -1,14 +1,8 @@
 -- `services::removal::leave_bits` meets its contract. Assumes nothing.
-use Prim.Native.Nat.{◌-◌}
-use native.Mathlib.Omega.{arith}
-use mathlib.Core.Path.{sym, ◌∙◌}
-use borrow.Author.Rules.{rules}
 use Rattle.policy.specs.Tables.{decode}
 use Rattle.geometry.specs.Geometry.{layout_of}
-use Rattle.image.proofs.Writes.{laid_len}
 use Rattle.services.specs.Removal.{left_bit}
-use Rattle.changes.proofs.AppendedRows.{Appended, append_start, append_turn, append_room, append_end}
-use Rattle.services.proofs.Removed.Rows.{bits_left}
+use Rattle.changes.proofs.AppendedRows.{Appended}
 use Rattle.services.proofs.removal.leave_bits.Given as goal
 
 abbrev pub invariant-loop-i : goal.invariant-loop-i

@@ -3,7 +3,6 @@ use Prim.Native.Nat.{◌≤◌}
 use native.Mathlib.Omega.{arith}
 use mathlib.Core.Path.{sym, ap, subst}
 use lib.ListN.{length}
-use borrow.Author.Rules.{rules}
 use Rattle.policy.specs.Contract.{Aid}
 use Rattle.policy.specs.Tables.{bit, decode}
 use Rattle.geometry.specs.Geometry.{layout_of}

@@ -1,5 +1,4 @@
 -- `services::removal::leave_service` meets its contract. Assumes nothing.
-use borrow.Author.Rules.{rules}
 use Rattle.policy.specs.Tables.{decode}
 use Rattle.geometry.specs.declared.Table.TheVariants.{Calls}
 use Rattle.geometry.specs.declared.Kept.TheVariants.{UnmetCalls}

@@ -1,5 +1,4 @@
 -- `services::removal::service_cause` meets its contract. Assumes nothing.
-use borrow.Author.Rules.{rules}
 use Rattle.policy.specs.Tables.{decode}
 use Rattle.geometry.specs.Geometry.{layout_of}
 use Rattle.geometry.proofs.Bounds.{early}

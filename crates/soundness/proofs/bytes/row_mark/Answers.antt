@@ -1,5 +1,4 @@
 -- `bytes::row_mark` meets its contract.
-use borrow.Author.Rules.{rules}
 use mathlib.Core.Path.{ap₂}
 use Prim.Native.Nat.{ℕ, ◌%◌}
 use lib.Bits.{bit_xor}

@@ -1,5 +1,4 @@
 -- `bytes::same_aid` meets its contract.
-use borrow.Author.Rules.{rules}
 use Rattle.soundness.proofs.Words.{aid_same}
 use Rattle.soundness.proofs.bytes.same_aid.Goals as goal
 

@@ -1,5 +1,4 @@
 -- `bytes::same_row` meets its contract.
-use borrow.Author.Rules.{rules}
 use Rattle.soundness.proofs.Words.{row_same}
 use Rattle.soundness.proofs.bytes.same_row.Goals as goal
 

@@ -1,13 +1,10 @@
 -- `lines::lines_fit` meets its contract.
 use mathlib.Core.Bool.{not}
-use Prim.Native.Nat.{◌-◌}
-use mathlib.Core.Path.{ap, ◌≡◌}
+use mathlib.Core.Path.{ap}
 use native.Mathlib.Omega.{arith}
-use borrow.Author.Rules.{rules}
 use Rattle.policy.specs.Tables.{bit}
 use Rattle.bits.proofs.Loops.{early, every_more, every_fails}
 use Rattle.soundness.specs.Check.{row_in, line_fits}
-use Rattle.soundness.proofs.Tests.{Shown}
 use Rattle.soundness.proofs.lines.lines_fit.Goals as goal
 
 pub loop-i-init : goal.loop-i-init

@@ -1,10 +1,5 @@
 -- `lines::lines_fit` meets its contract.
-use Prim.Native.Nat.{◌-◌}
-use mathlib.Core.Path.{◌≡◌}
-use native.Mathlib.Omega.{arith}
-use borrow.Author.Rules.{rules}
 use Rattle.policy.specs.Tables.{bit}
-use Rattle.bits.proofs.Loops.{early, every_more, every_fails}
 use Rattle.soundness.specs.Check.{row_in, line_fits}
 use Rattle.soundness.proofs.Tests.{Shown}
 use Rattle.soundness.proofs.lines.lines_fit.Given as goal

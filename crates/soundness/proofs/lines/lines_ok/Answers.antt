@@ -1,6 +1,5 @@
 -- `lines::lines_ok` meets its contract.
 use native.Mathlib.Omega.{arith}
-use borrow.Author.Rules.{rules}
 use Rattle.soundness.specs.Check.{line_ok, lines_ok}
 use Rattle.soundness.proofs.lines.lines_ok.Goals as goal
 

@@ -1,8 +1,6 @@
 -- `lines::may_row` meets its contract.
-use mathlib.Core.Path.{◌≡◌, sym, ap, ◌∙◌}
+use mathlib.Core.Path.{sym, ap, ◌∙◌}
 use mathlib.Core.Bool.{not, Bool, cond}
-use Prim.Native.Nat.{ℕ}
-use borrow.Author.Rules.{rules}
 use borrow.Author.Tests.{not-true, not-false}
 use Rattle.soundness.specs.Check.{row_in}
 use Rattle.soundness.proofs.lines.may_row.Goals as goal

@@ -1,5 +1,4 @@
 -- `lines::pair_ok` meets its contract.
-use borrow.Author.Rules.{rules}
 use Rattle.soundness.proofs.lines.pair_ok.Goals as goal
 
 pub returns : goal.returns

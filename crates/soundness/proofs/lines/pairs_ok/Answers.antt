@@ -1,13 +1,12 @@
 -- `lines::pairs_ok` meets its contract.
 use mathlib.Core.Bool.{not}
 use mathlib.Core.Path.{ap}
-use Prim.Native.Nat.{◌-◌}
 use native.Mathlib.Omega.{arith}
 use borrow.Author.Rules.{rules}
 use Rattle.policy.proofs.Pieces.{row_ends}
 use Rattle.bits.proofs.Loops.{early, every_more, every_fails}
 use Rattle.soundness.specs.Check.{pair_fits}
-use Rattle.soundness.proofs.Tests.{Shown, entry_ends}
+use Rattle.soundness.proofs.Tests.{entry_ends}
 use Rattle.soundness.proofs.lines.pairs_ok.Goals as goal
 
 pub loop-j-init : goal.loop-j-init

@@ -1,11 +1,6 @@
 -- `lines::pairs_ok` meets its contract.
-use Prim.Native.Nat.{◌-◌}
-use native.Mathlib.Omega.{arith}
-use borrow.Author.Rules.{rules}
-use Rattle.policy.proofs.Pieces.{row_ends}
-use Rattle.bits.proofs.Loops.{early, every_more, every_fails}
 use Rattle.soundness.specs.Check.{pair_fits}
-use Rattle.soundness.proofs.Tests.{Shown, entry_ends}
+use Rattle.soundness.proofs.Tests.{Shown}
 use Rattle.soundness.proofs.lines.pairs_ok.Given as goal
 
 abbrev pub invariant-loop-j : goal.invariant-loop-j

@@ -1,7 +1,6 @@
 -- `lines::rows_fit` meets its contract.
 use mathlib.Core.Path.{ap₂}
 use mathlib.Core.Bool.{◌&&◌}
-use borrow.Author.Rules.{rules}
 use Rattle.soundness.proofs.lines.rows_fit.Goals as goal
 
 pub returns : goal.returns

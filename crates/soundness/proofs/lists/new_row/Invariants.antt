@@ -1,10 +1,6 @@
 -- `lists::new_row` meets its contract.
-use mathlib.Core.Path.{ap}
-use mathlib.Core.Bool.{Bool, not}
-use Prim.Native.Nat.{◌-◌}
-use Rattle.policy.proofs.Pieces.{row_ends}
 use Rattle.soundness.specs.Check.{other_row, new_row}
-use Rattle.soundness.proofs.Tests.{Shown, turns}
+use Rattle.soundness.proofs.Tests.{Shown}
 use Rattle.soundness.proofs.lists.new_row.Given as goal
 
 abbrev pub invariant-loop-q : goal.invariant-loop-q

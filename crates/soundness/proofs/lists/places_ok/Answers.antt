@@ -1,8 +1,5 @@
 -- `lists::places_ok` meets its contract.
-use Prim.Native.Nat.{◌-◌}
-use Rattle.geometry.specs.Geometry.{layout_of}
-use Rattle.soundness.specs.Check.{place_ok}
-use Rattle.soundness.proofs.Tests.{Shown, turns}
+use Rattle.soundness.proofs.Tests.{turns}
 use Rattle.soundness.proofs.lists.places_ok.Goals as goal
 
 pub loop-r-init : goal.loop-r-init

@@ -1,8 +1,7 @@
 -- `lists::places_ok` meets its contract.
-use Prim.Native.Nat.{◌-◌}
 use Rattle.geometry.specs.Geometry.{layout_of}
 use Rattle.soundness.specs.Check.{place_ok}
-use Rattle.soundness.proofs.Tests.{Shown, turns}
+use Rattle.soundness.proofs.Tests.{Shown}
 use Rattle.soundness.proofs.lists.places_ok.Given as goal
 
 abbrev pub invariant-loop-r : goal.invariant-loop-r

@@ -1,6 +1,5 @@
 -- `lists::row_new` meets its contract.
 use mathlib.Core.Path.{sym}
-use borrow.Author.Rules.{rules}
 use Rattle.soundness.proofs.Tests.{tests}
 use Rattle.soundness.proofs.lists.row_new.Goals as goal
 

@@ -1,5 +1,4 @@
 -- `lists::row_size` meets its contract.
-use borrow.Author.Rules.{rules}
 use Rattle.soundness.proofs.Tests.{size_tokens, size_number}
 use Rattle.soundness.proofs.lists.row_size.Goals as goal
 

@@ -1,14 +1,12 @@
 -- `lists::rows_differ` meets its contract.
-use mathlib.Core.Path.{ap, ◌≡◌, refl}
-use mathlib.Core.Bool.{not, true}
-use Prim.Native.Nat.{◌-◌, ◌≤◌}
+use mathlib.Core.Path.{ap, refl}
+use mathlib.Core.Bool.{not}
 use native.Mathlib.Omega.{arith}
-use Rattle.policy.specs.Lists.{every, upto}
 use Rattle.policy.proofs.Pieces.{row_ends}
 use Rattle.bits.proofs.Loops.{every_more, every_fails, every_done}
 use Rattle.soundness.specs.Check.{new_row}
 use Rattle.soundness.proofs.Tests.{turns}
-use Rattle.soundness.proofs.Marks.{Marked, marked_none, marked_more, rows_mark, row_low, row_met}
+use Rattle.soundness.proofs.Marks.{marked_none, marked_more, rows_mark, row_low, row_met}
 use Rattle.soundness.proofs.lists.rows_differ.Goals as goal
 
 pub loop-r-init : goal.loop-r-init

@@ -1,14 +1,10 @@
 -- `lists::rows_differ` meets its contract.
-use mathlib.Core.Path.{◌≡◌, refl}
+use mathlib.Core.Path.{◌≡◌}
 use mathlib.Core.Bool.{true}
-use Prim.Native.Nat.{◌-◌, ◌≤◌}
-use native.Mathlib.Omega.{arith}
+use Prim.Native.Nat.{◌≤◌}
 use Rattle.policy.specs.Lists.{every, upto}
-use Rattle.policy.proofs.Pieces.{row_ends}
-use Rattle.bits.proofs.Loops.{every_more, every_fails, every_done}
 use Rattle.soundness.specs.Check.{new_row}
-use Rattle.soundness.proofs.Tests.{turns}
-use Rattle.soundness.proofs.Marks.{Marked, marked_none, marked_more, rows_mark, row_low, row_met}
+use Rattle.soundness.proofs.Marks.{Marked, rows_mark, row_low}
 use Rattle.soundness.proofs.lists.rows_differ.Given as goal
 
 abbrev pub invariant-loop-r : goal.invariant-loop-r

@@ -1,5 +1,4 @@
 -- `packages::has_tok` meets its contract.
-use borrow.Author.Rules.{rules}
 use Rattle.soundness.proofs.Tests.{tests}
 use Rattle.soundness.proofs.packages.has_tok.Goals as goal
 

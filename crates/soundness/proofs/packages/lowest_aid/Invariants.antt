@@ -1,9 +1,8 @@
 -- `packages::lowest_aid` meets its contract.
 use mathlib.Core.Path.{◌≡◌}
 use mathlib.Core.Option.{none}
-use Prim.Native.Nat.{◌+◌, ◌*◌, ◌≤◌, ◌-◌}
+use Prim.Native.Nat.{◌+◌, ◌*◌, ◌≤◌}
 use Rattle.policy.specs.Lists.{first, upto}
-use Rattle.bits.proofs.Loops.{early}
 use Rattle.soundness.specs.Check.{same_at}
 use Rattle.soundness.proofs.packages.lowest_aid.Given as goal
 

@@ -1,15 +1,7 @@
 -- `packages::methods_ok` meets its contract.
-use Prim.Native.Nat.{ℕ, ◌+◌, ◌*◌, ◌-◌, ◌≤◌, ◌<◌}
-use native.Mathlib.Omega.{arith}
-use mathlib.Core.Path.{◌≡◌, ap, ◌∙◌}
-use lib.ListN.{length}
-use borrow.Author.Rules.{rules}
-use borrow.Author.Tests.{lt-ltb}
-use Rattle.policy.specs.Lists.{every, upto}
-use Rattle.geometry.specs.Geometry.{layout_of, tok_at}
-use Rattle.soundness.specs.Check.{method_ok, methods_ok}
-use Rattle.soundness.proofs.Words.{Gathered, gather}
-use Rattle.soundness.proofs.Tests.{methods_top, places}
+use Prim.Native.Nat.{◌≤◌}
+use Rattle.geometry.specs.Geometry.{layout_of}
+use Rattle.soundness.proofs.Words.{Gathered}
 use Rattle.soundness.proofs.packages.methods_ok.Given as goal
 
 abbrev pub invariant-loop-k : goal.invariant-loop-k

@@ -1,6 +1,5 @@
 -- `packages::new_tok` meets its contract.
 use native.Mathlib.Omega.{arith}
-use borrow.Author.Rules.{rules}
 use Rattle.soundness.specs.Check.{new_tok}
 use Rattle.soundness.proofs.packages.new_tok.Goals as goal
 

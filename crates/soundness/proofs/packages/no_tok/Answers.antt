@@ -1,10 +1,9 @@
 -- `packages::no_tok` meets its contract.
 use mathlib.Core.Path.{ap}
 use mathlib.Core.Bool.{Bool, not}
-use Prim.Native.Nat.{◌+◌, ◌*◌, ◌-◌}
+use Prim.Native.Nat.{◌+◌, ◌*◌}
 use native.Mathlib.Omega.{arith}
-use Rattle.soundness.specs.Check.{has_tok}
-use Rattle.soundness.proofs.Tests.{Shown, turns}
+use Rattle.soundness.proofs.Tests.{turns}
 use Rattle.soundness.proofs.Words.{tok_same}
 use Rattle.soundness.proofs.packages.no_tok.Goals as goal
 

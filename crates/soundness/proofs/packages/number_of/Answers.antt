@@ -1,6 +1,5 @@
 -- `packages::number_of` meets its contract.
 use lib.ListN.{length}
-use borrow.Author.Rules.{rules}
 use Rattle.soundness.proofs.Tests.{one_package, aids_len, number_from_lem}
 use Rattle.soundness.proofs.packages.number_of.Goals as goal
 

@@ -1,8 +1,6 @@
 -- `packages::packages_ok` meets its contract.
-use Prim.Native.Nat.{◌-◌}
-use Rattle.geometry.specs.Geometry.{layout_of}
-use Rattle.soundness.specs.Check.{package_ok, packages_ok}
-use Rattle.soundness.proofs.Tests.{Shown, turns}
+use Rattle.soundness.specs.Check.{packages_ok}
+use Rattle.soundness.proofs.Tests.{turns}
 use Rattle.soundness.proofs.packages.packages_ok.Goals as goal
 
 pub packages-n-requires : goal.packages-n-requires

@@ -1,8 +1,7 @@
 -- `packages::packages_ok` meets its contract.
-use Prim.Native.Nat.{◌-◌}
 use Rattle.geometry.specs.Geometry.{layout_of}
 use Rattle.soundness.specs.Check.{package_ok, packages_ok}
-use Rattle.soundness.proofs.Tests.{Shown, turns}
+use Rattle.soundness.proofs.Tests.{Shown}
 use Rattle.soundness.proofs.packages.packages_ok.Given as goal
 
 abbrev pub invariant-loop-i : goal.invariant-loop-i

@@ -1,6 +1,5 @@
 -- `packages::tok_fits` meets its contract.
 use mathlib.Core.Path.{sym}
-use borrow.Author.Rules.{rules}
 use Rattle.soundness.proofs.Tests.{tests}
 use Rattle.soundness.proofs.packages.tok_fits.Goals as goal
 

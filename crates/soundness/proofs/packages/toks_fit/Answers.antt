@@ -1,13 +1,11 @@
 -- `packages::toks_fit` meets its contract.
-use mathlib.Core.Path.{ap, ◌≡◌, refl}
+use mathlib.Core.Path.{ap, refl}
 use mathlib.Core.Bool.{not, true}
-use Prim.Native.Nat.{◌-◌, ◌≤◌}
 use native.Mathlib.Omega.{arith}
-use Rattle.policy.specs.Lists.{every, upto}
 use Rattle.bits.proofs.Loops.{every_more, every_fails, every_done}
 use Rattle.soundness.specs.Check.{tok_fits}
 use Rattle.soundness.proofs.Tests.{turns}
-use Rattle.soundness.proofs.Marks.{Marked, marked_none, marked_more, toks_mark, tok_low, tok_met}
+use Rattle.soundness.proofs.Marks.{marked_none, marked_more, toks_mark, tok_low, tok_met}
 use Rattle.soundness.proofs.packages.toks_fit.Goals as goal
 
 pub loop-k-init : goal.loop-k-init

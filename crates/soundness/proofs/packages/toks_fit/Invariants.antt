@@ -1,13 +1,10 @@
 -- `packages::toks_fit` meets its contract.
-use mathlib.Core.Path.{◌≡◌, refl}
+use mathlib.Core.Path.{◌≡◌}
 use mathlib.Core.Bool.{true}
-use Prim.Native.Nat.{◌-◌, ◌≤◌}
-use native.Mathlib.Omega.{arith}
+use Prim.Native.Nat.{◌≤◌}
 use Rattle.policy.specs.Lists.{every, upto}
-use Rattle.bits.proofs.Loops.{every_more, every_fails, every_done}
 use Rattle.soundness.specs.Check.{tok_fits}
-use Rattle.soundness.proofs.Tests.{turns}
-use Rattle.soundness.proofs.Marks.{Marked, marked_none, marked_more, toks_mark, tok_low, tok_met}
+use Rattle.soundness.proofs.Marks.{Marked, toks_mark, tok_low}
 use Rattle.soundness.proofs.packages.toks_fit.Given as goal
 
 abbrev pub invariant-loop-k : goal.invariant-loop-k

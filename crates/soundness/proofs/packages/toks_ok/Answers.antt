@@ -1,6 +1,5 @@
 -- `packages::toks_ok` meets its contract.
 use native.Mathlib.Omega.{arith}
-use borrow.Author.Rules.{rules}
 use Rattle.soundness.specs.Check.{tok_ok, toks_ok}
 use Rattle.soundness.proofs.packages.toks_ok.Goals as goal
 
