@@ -13,8 +13,8 @@ archive:
 	if [ -n "$(CARD_ARCHIVE_DIR)" ]; then \
 	    echo "$(archive) is not there: CARD_ARCHIVE_DIR names the directory that has it" >&2; exit 1; \
 	elif ! command -v rt >/dev/null; then \
-	    echo "$(archive) is not there, and no rt on the PATH to make it: 'tools/archive' of the toolchain that" \
-	        "toolchain.txt names writes it; or name in CARD_ARCHIVE_DIR the directory that has one" >&2; exit 1; \
+	    echo "$(archive) is not there, and no rt on the PATH to make it: 'tools/archive' writes it with the" \
+	        "toolchain that toolchain.txt names; or name in CARD_ARCHIVE_DIR the directory that has one" >&2; exit 1; \
 	fi; \
 	tools/archive
 
