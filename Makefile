@@ -5,7 +5,7 @@ archive = $(or $(CARD_ARCHIVE_DIR),target/staticlib)/libcard.a
 version = $(shell sed -n 's/^.define CARD_VERSION_$(1) //p' include/card.h)
 
 all: archive
-	@echo "$(archive) is there; 'rt staticlib card' makes it anew"
+	@echo "$(archive) is there; 'tools/archive' makes it anew"
 
 # The archive is made when it is not there, and never where CARD_ARCHIVE_DIR says that it is.
 archive:
@@ -13,10 +13,10 @@ archive:
 	if [ -n "$(CARD_ARCHIVE_DIR)" ]; then \
 	    echo "$(archive) is not there: CARD_ARCHIVE_DIR names the directory that has it" >&2; exit 1; \
 	elif ! command -v rt >/dev/null; then \
-	    echo "$(archive) is not there, and no rt on the PATH to make it: 'rt staticlib card' of the toolchain that" \
-	        "toolchain.txt names writes it; or name in CARD_ARCHIVE_DIR the directory that has one" >&2; exit 1; \
+	    echo "$(archive) is not there, and no rt on the PATH to make it: 'tools/archive' writes it with the" \
+	        "toolchain that toolchain.txt names; or name in CARD_ARCHIVE_DIR the directory that has one" >&2; exit 1; \
 	fi; \
-	rt staticlib card
+	tools/archive
 
 # The file for pkg-config says where things are from its own place, so that the installed folder may be moved.
 install: archive

@@ -1,5 +1,5 @@
 /*
- * The member card's contract policy engine: seven functions, proved, in libcard.a (`rt staticlib card`).
+ * The member card's contract policy engine: seven functions, proved, in libcard.a (`tools/archive`).
  *
  * Each function takes any bytes of any length and always returns. Its result has two parts, an answer and a second number, which
  * CARD_ANSWER and CARD_SECOND take out; the result of card_aid has macros of its own. On any answer but CARD_ACCEPTED
@@ -29,7 +29,7 @@
  * An image is changed in place, and of a call that does not return nothing is promised: where the power may fail, judge on a copy, and
  * store the copy after the call.
  *
- * What the functions use, as `rt staticlib` compiles them:
+ * What the functions use, as `tools/archive` compiles them:
  *
  * - No heap and no state: no byte outlives a call, and several threads may call at once.
  * - A little stack: CARD_STACK_JUDGE and its like, below.

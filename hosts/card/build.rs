@@ -1,5 +1,5 @@
 //! Links the archive of the proved engine: `libcard.a` in the directory that `CARD_ARCHIVE_DIR` names, else the one
-//! that `rt staticlib card` writes in the repository.
+//! that `tools/archive` writes in the repository.
 
 use std::env;
 use std::fs;
@@ -23,11 +23,11 @@ fn link() -> Result<(), String> {
     let archive = directory.join("libcard.a");
     println!("cargo::rerun-if-changed={}", archive.display());
     let bytes = fs::read(&archive).map_err(|fault| {
-        let how = "make it with `rt staticlib card`, or name in CARD_ARCHIVE_DIR the directory that has libcard.a";
+        let how = "make it with `tools/archive`, or name in CARD_ARCHIVE_DIR the directory that has libcard.a";
         format!("{}: {fault}; {how}", archive.display())
     })?;
     let logic = logic(&bytes).ok_or_else(|| {
-        format!("{} does not say what it was proved with: `rt staticlib card` did not write it", archive.display())
+        format!("{} does not say what it was proved with: `tools/archive` did not write it", archive.display())
     })?;
     println!("cargo::metadata=archive={}", archive.display());
     println!("cargo::rustc-env=CARD_LOGIC={logic}");

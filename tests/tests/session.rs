@@ -18,8 +18,7 @@ const LIMIT: Duration = Duration::from_secs(20);
 fn path() -> PathBuf {
     let built = || Path::new(env!("CARGO_MANIFEST_DIR")).join("../target/bin/session");
     let path = std::env::var_os("SESSION_PROGRAM").map_or_else(built, PathBuf::from);
-    let absent =
-        format!("{} is not there: `rt check session` builds it, SESSION_PROGRAM names another", path.display());
+    let absent = format!("{} is not there: `tools/session` builds it, SESSION_PROGRAM names another", path.display());
     path.canonicalize().expect(&absent)
 }
 

@@ -729,6 +729,9 @@ fn nothing_is_overwritten() {
     );
     // A device takes both.
     text(&format!("judge {story} --save /dev/null --out /dev/null"), "");
+    // `rt all check` stops at a link anywhere below the repository.
+    #[cfg(unix)]
+    fs::remove_file(&link).expect("a link");
 }
 
 /// Who gets at a service: grants in force and waiting, calls, needs, and chains of calls.
