@@ -72,7 +72,9 @@ NeverTold L = (b : Aid) (next : List Told → List ℕ) → ((so : List Told) �
 -- ---- 4. what others do among themselves
 -- a call, a grant or a need comes or goes, on a row that names another than B: kinds 5 to 8, and 9 and 10 by the rules that read them
 abbrev pub Besides : Aid → Change → Type 0
-Besides b ch = (r : Row) × (r.aid ≡ b → ⊥) × In ch (add_call r ∷ remove_call r ∷ add_grant r ∷ remove_grant r ∷ add_need r ∷ remove_need r ∷ [])
+Besides b ch =
+    (r : Row) × (r.aid ≡ b → ⊥)
+    × In ch (add_call r ∷ remove_call r ∷ add_grant r ∷ remove_grant r ∷ add_need r ∷ remove_need r ∷ [])
 
 -- a record of another package than B about such a row
 abbrev pub AmongOthers : Layout → Aid → List ℕ → Type 0

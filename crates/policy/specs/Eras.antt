@@ -11,7 +11,8 @@ use Rattle.policy.specs.Tables.{decode, encode, empty_image}
 use Rattle.policy.specs.Sound.{sound}
 use Rattle.policy.specs.Judge.{Out, refusal, judge, check, read_out}
 use Rattle.policy.specs.History.{AllValid, AllAllowed, StandsFor, answers, image_after, machine_answers, contracts_after}
-use Rattle.policy.specs.Marked.{CaseOver, lines_from, cases_converted, cases_renewed, cases_needs, cases_retired, cases_large, cases_enlarged}
+use Rattle.policy.specs.Marked.{CaseOver, lines_from, cases_converted, cases_renewed, cases_needs, cases_retired}
+use Rattle.policy.specs.Marked.{cases_large, cases_enlarged}
 use Rattle.policy.specs.Claims.{CallsGranted, NeedsPresent}
 
 -- ---- the passage from the rules L to the rules M

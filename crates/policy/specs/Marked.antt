@@ -142,7 +142,10 @@ cases =
       lines = taken 1 0 ∷ taken 1 1 ∷ taken 1 2 ∷ refused 2 10 ∷ [];
     }
     -- a load failing on grant and on need
-    ∷ record { records = load_h ∷ load_of 4 [] (row_of 1 0 ∷ row_of 9 0 ∷ []) [] (row_of 9 0 ∷ []) ∷ []; lines = taken 1 0 ∷ refused 1 8 ∷ [] }
+    ∷ record {
+      records = load_h ∷ load_of 4 [] (row_of 1 0 ∷ row_of 9 0 ∷ []) [] (row_of 9 0 ∷ []) ∷ [];
+      lines = taken 1 0 ∷ refused 1 8 ∷ [];
+    }
     -- R-7: a method token of 127 is read, one of 128 is not: in each list of a load
     ∷ record { records = load_of 1 (127 ∷ []) [] [] [] ∷ load_of 2 (128 ∷ []) [] [] [] ∷ []; lines = taken 1 0 ∷ refused 1 2 ∷ [] }
     ∷ record {
@@ -171,7 +174,8 @@ cases =
     ∷ record { records = record_of 1 (aid_of 1 ++ (1 ∷ 255 ∷ 127 ∷ 0 ∷ 0 ∷ 0 ∷ [])) ∷ []; lines = taken 1 0 ∷ [] }
     -- R-1: 'with 5 for an absent package'; a load's causes 2 and 3
     ∷ record {
-      records = release_of 1 [] [] [] [] ∷ load_h ∷ load_of 2 [] [] [] [] ∷ release_of 1 (from 0 9) [] [] [] ∷ release_of 1 (128 ∷ []) [] [] []
+      records = release_of 1 [] [] [] [] ∷ load_h ∷ load_of 2 [] [] [] [] ∷ release_of 1 (from 0 9) [] [] []
+          ∷ release_of 1 (128 ∷ []) [] [] []
           ∷ release_of 1 (0 ∷ 0 ∷ []) [] [] [] ∷ release_of 1 [] (row_of 1 0 ∷ []) [] [] ∷ release_of 1 [] [] [] (row_of 2 0 ∷ []) ∷ [];
       lines = refused 11 5 ∷ taken 1 0 ∷ taken 1 1 ∷ refused 11 2 ∷ refused 11 2 ∷ refused 11 3 ∷ refused 11 3 ∷ refused 11 3 ∷ [];
     }
@@ -246,7 +250,8 @@ cases_converted =
     -- 'Kinds 1 and 11 no longer give 3 for it, nor kind 7 a 6': of package 1, loaded before; a grant that waits already is 6
     record {
       before = load_of 2 [] [] (row_of 1 0 ∷ []) [] ∷ load_of 1 [] [] [] [] ∷ row_change 7 1 2 0 ∷ [];
-      records = load_of 3 [] [] (row_of 2 0 ∷ []) [] ∷ row_change 7 1 2 0 ∷ row_change 7 1 2 0 ∷ row_change 8 1 2 0 ∷ row_change 8 1 2 0 ∷ [];
+      records = load_of 3 [] [] (row_of 2 0 ∷ []) [] ∷ row_change 7 1 2 0 ∷ row_change 7 1 2 0
+          ∷ row_change 8 1 2 0 ∷ row_change 8 1 2 0 ∷ [];
       lines = taken 1 1 ∷ taken 7 0 ∷ refused 7 6 ∷ taken 8 0 ∷ refused 8 6 ∷ [];
     }
     -- 'it waits until caller and service are both on the card': a call on a service added without callers is granted where its grant waited
@@ -287,7 +292,8 @@ cases_renewed =
           ∷ release_of 1 (0 ∷ []) [] (row_of 2 0 ∷ []) []
           ∷ row_change 7 1 2 0
           ∷ [];
-      records = release_of 1 [] [] [] [] ∷ add_service 1 0 ∷ release_of 1 [] [] (row_of 2 0 ∷ []) [] ∷ add_service 1 0 ∷ add_service 1 0 ∷ [];
+      records = release_of 1 [] [] [] [] ∷ add_service 1 0 ∷ release_of 1 [] [] (row_of 2 0 ∷ []) []
+          ∷ add_service 1 0 ∷ add_service 1 0 ∷ [];
       lines = taken 11 0 ∷ refused 3 8 ∷ taken 11 0 ∷ taken 3 0 ∷ refused 3 6 ∷ [];
     }
     ∷ []
@@ -302,7 +308,8 @@ cases_needs =
           ∷ refused 9 9 ∷ refused 9 2 ∷ taken 9 1 ∷ refused 9 6 ∷ refused 2 9 ∷ [];
     }
     ∷ record {
-      records = load_h ∷ load_c ∷ row_change 10 9 1 0 ∷ row_change 10 2 2 0 ∷ row_change 10 2 1 1 ∷ row_change 10 2 1 128 ∷ row_change 10 2 1 0
+      records = load_h ∷ load_c ∷ row_change 10 9 1 0 ∷ row_change 10 2 2 0 ∷ row_change 10 2 1 1
+          ∷ row_change 10 2 1 128 ∷ row_change 10 2 1 0
           ∷ row_change 10 2 1 0 ∷ removal_of 1 ∷ [];
       lines = taken 1 0 ∷ taken 1 1 ∷ refused 10 5 ∷ refused 10 3 ∷ refused 10 6 ∷ refused 10 2 ∷ taken 10 1
           ∷ refused 10 6 ∷ taken 2 0 ∷ [];
@@ -366,7 +373,8 @@ cases_large =
     }
     ∷ []
 
--- by the rules in force, enlarged, and on the large card: numbers, needs and grants are kept, and 'a record of the other card's version gets 2'
+-- by the rules in force, enlarged, and on the large card: numbers, needs and grants are kept, and 'a record of the other card's
+-- version gets 2'
 abbrev pub cases_enlarged : List CaseOver
 cases_enlarged =
     record {

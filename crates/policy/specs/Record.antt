@@ -1,12 +1,14 @@
 -- Records: document 01, 'Records'. What a list of bytes reads as; nothing here speaks of positions.
-use Rattle.std.specs.Prelude.{ℕ, zero, suc, ◌+◌, ◌*◌, Bool, true, false, not, ◌&&◌, ◌||◌, List, [], ◌∷◌, length, take, drop, get_or, leb, ltb}
+use Rattle.std.specs.Prelude.{ℕ, zero, suc, ◌+◌, ◌*◌, Bool, true, false, not, ◌&&◌, ◌||◌, leb, ltb}
+use Rattle.std.specs.Prelude.{List, [], ◌∷◌, length, take, drop, get_or}
 use Rattle.std.proofs.Math.Option.{Option, none, some}
 use Rattle.std.proofs.Math.Dec.{eqb}
 use Rattle.policy.specs.Lists.{every, distinct, or_else}
 use Rattle.policy.specs.Contract.{Aid, eq_aid, Tok, eq_tok, Row, eq_row, has_tok, has_row, valid_aid}
 use Rattle.policy.specs.Layout.{Layout}
 
--- what follows the first AID, by kind: 1 to 11 in order. R-13 retires kinds 9 and 10: `add_need` and `remove_need` are of the rules before it
+-- what follows the first AID, by kind: 1 to 11 in order. R-13 retires kinds 9 and 10: `add_need` and `remove_need` are of the rules
+-- before it
 pub data Change : Type 0 where
   load : List Tok → List Row → List Row → List Row → Change
   remove : Change

@@ -4,7 +4,8 @@ use Rattle.std.proofs.Math.Option.{Option, none, some}
 use Rattle.policy.specs.Lists.{exists}
 use Rattle.policy.specs.Contract.{Aid as Bytes, Tok, Row, Contract}
 use Rattle.policy.specs.Layout.{Layout}
-use Rattle.policy.specs.Record.{Got, got, bad, Reader, number, aid, tokens, a_row, valid_tokens, valid_row, many, counted, row_list, a_contract}
+use Rattle.policy.specs.Record.{Got, got, bad, Reader, number, aid, tokens, a_row, valid_tokens, valid_row}
+use Rattle.policy.specs.Record.{many, counted, row_list, a_contract}
 use Rattle.policy.specs.Record.{Change, load, remove, add_service, remove_service, replace, whole, Request, parse}
 use Rattle.policy.specs.Record.{add_call, remove_call, add_grant, remove_grant}
 use Rattle.geometry.specs.Geometry.{tok_of}

@@ -32,7 +32,8 @@ module _ (L : Layout) (l : Kept) (t : Tables) (tb : Table) (j k : ℕ) where
 -- ---- both lists
 module _ (L : Layout) (t : Tables) where
   abbrev pub RoomWithoutService : ℕ → ℕ → Type 0
-  RoomWithoutService j k = (rows_with_bits L UnmetCalls t Calls j k ≤ L.capacity) × (rows_with_bits L WaitingGrants t Grants j k ≤ L.capacity)
+  RoomWithoutService j k =
+      (rows_with_bits L UnmetCalls t Calls j k ≤ L.capacity) × (rows_with_bits L WaitingGrants t Grants j k ≤ L.capacity)
 
   abbrev pub lists_without_service : ℕ → ℕ → Tables
   lists_without_service j k = behind WaitingGrants (left_bits L WaitingGrants t Grants j k)

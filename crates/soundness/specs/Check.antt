@@ -1,5 +1,6 @@
 -- The check of an image, as code makes it: tests of its bytes, for the items of document 01, 'An image is sound when'.
-use Rattle.std.specs.Prelude.{ℕ, ◌+◌, ◌*◌, ◌-◌, ◌%◌, Bool, true, false, not, ◌&&◌, ◌||◌, cond, List, eqb, leb, ltb, length, get_or, take, drop}
+use Rattle.std.specs.Prelude.{ℕ, ◌+◌, ◌*◌, ◌-◌, ◌%◌, Bool, true, false, not, ◌&&◌, ◌||◌, cond, eqb, leb, ltb}
+use Rattle.std.specs.Prelude.{List, length, get_or, take, drop}
 use Rattle.std.specs.Int.Bits.{bit_xor}
 use Rattle.policy.specs.Lists.{implies, every, first, upto, or_else, eq_bytes}
 use Rattle.policy.specs.Layout.{Layout, narrow, ahead, aid_size, unmet_size, waiting_size, size}
