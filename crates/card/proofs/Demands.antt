@@ -6,7 +6,7 @@ use mathlib.Core.Logic.{◌⊎◌, inl, inr, ⊎_map}
 use mathlib.Core.Bool.{Bool, true, false, not, cond}
 use mathlib.Core.List.{List, [], ◌∷◌, map}
 use mathlib.Core.List.Memᴰ.{head as here}
-use mathlib.Core.List.Memᴰ.{not-nil as in-nil}
+use mathlib.Core.List.Memᴰ.{not-nil as in_nil}
 use mathlib.Core.List.Memᴰ.{tail as there}
 use mathlib.Core.List.{Memᴰ as In}
 use lib.Dec.{T, eqb, eqb→eq, leb, leb→le, ltb}
@@ -207,7 +207,7 @@ calls_from c image cs f ss rs left h =
 -- on an image that refuses all
 calls_refused : (image : List ℕ) → ((s : List ℕ) → judge (on image) image s ≡ refusal 1 255 image) → (ss : List (List ℕ)) (rs : List ℕ) {left : List ℕ} → Calls image ss rs left
     → ((r : ℕ) → In r rs → (answer_of r ≡ 1) × (second_of r ≡ 255)) × (left ≡ image)
-calls_refused image all [] [] e = ((λ r m. absurd (in-nil m)), e)
+calls_refused image all [] [] e = ((λ r m. absurd (in_nil m)), e)
 calls_refused image all [] (r ∷ rs) e = absurd e
 calls_refused image all (s ∷ ss) [] e = absurd e
 calls_refused image all (s ∷ ss) (r ∷ rs) {left} (mid, c, h) =

@@ -4,14 +4,14 @@ use mathlib.Core.Logic.Iff
 use mathlib.Core.Logic.{◌⊎◌, inl, inr}
 use mathlib.Core.Bool.{Bool, true, false, not, ◌||◌, cond}
 use mathlib.Core.List.{List, [], ◌∷◌, ◌++◌, map}
-use mathlib.Core.List.Memᴰ.{cases_cons as in-cons}
+use mathlib.Core.List.Memᴰ.{cases_cons as in_cons}
 use mathlib.Core.List.Memᴰ.{head as here}
 use mathlib.Core.List.Memᴰ.{tail as there}
 use mathlib.Core.List.{Memᴰ as In}
-use mathlib.Core.List.Memᴰ.{append_cases as in-append}
+use mathlib.Core.List.Memᴰ.{append_cases as in_append}
 use mathlib.Core.List.Memᴰ.{append_left as in_left}
 use mathlib.Core.List.Memᴰ.{append_right as in_right}
-use mathlib.Core.List.Memᴰ.{cast as in-cast}
+use mathlib.Core.List.Memᴰ.{cast as in_cast}
 use lib.Dec.{T, leb}
 use lib.ListN.{length, length-map}
 use Rattle.policy.specs.Lists.{SameSet, keep}
@@ -29,7 +29,7 @@ use Rattle.noninterference.proofs.Agree.{same_refl, Sets, Agrees, seen, Sees, Ag
 -- ---- sets that are changed alike
 module _ {A : Type 0} {l m : List A} (same : SameSet l m) where
   same_append : (n : List A) → SameSet (l ++ n) (m ++ n)
-  same_append n x = (λ h. go l m (same x).0 (in-append l h), λ h. go m l (same x).1 (in-append m h))
+  same_append n x = (λ h. go l m (same x).0 (in_append l h), λ h. go m l (same x).1 (in_append m h))
     where
       go : (l m : List A) → (In x l → In x m) → In x l ⊎ In x n → In x (m ++ n)
       go l m f (inl h) = in_left n (f h)
@@ -50,7 +50,7 @@ same_new : {l m : List Row} → SameSet l m → (n : List Row) → SameSet (l ++
 same_new {l} {m} same n x = (go l m (same x).0, go m l (same x).1)
   where
     go : (l m : List Row) → (In x l → In x m) → In x (l ++ keep (λ r. not (has_row r l)) n) → In x (m ++ keep (λ r. not (has_row r m)) n)
-    go l m f h = on (in-append l h)
+    go l m f h = on (in_append l h)
       where
         new : In x n → T (has_row x m) ⊎ (T (has_row x m) → ⊥) → In x (m ++ keep (λ r. not (has_row r m)) n)
         new p (inl y) = in_left (keep (λ r. not (has_row r m)) n) (has_row_lem x m y)
@@ -139,7 +139,7 @@ module _ (L : Layout) (b : Aid) where
 
   -- ---- the contracts that a record leaves
   sees_cons : (k : Contract) (cs ds : List Contract) → Sees b cs ds → Sees b (k ∷ cs) (k ∷ ds)
-  sees_cons k cs ds sees c m = go (in-cons m)
+  sees_cons k cs ds sees c m = go (in_cons m)
     where
       go : (c ≡ k) ⊎ In c cs → (d : Contract) × In d (k ∷ ds) × Agrees b c d
       go (inl e) = (k, here refl, subst (λ (z : Contract). Agrees b z k) (sym e) (same_refl (seen_by b k)))
@@ -176,7 +176,7 @@ module _ (L : Layout) (b : Aid) where
         sub cs ds sees a m =
             let (c, mc, e) = map_in (λ (c : Contract). c.aid) cs m in
             let (k, mk, p) = sees c mc in
-            in-cast (e ∙ p.aid) (in_map (λ (c : Contract). c.aid) mk)
+            in_cast (e ∙ p.aid) (in_map (λ (c : Contract). c.aid) mk)
 
     installed_is : installed cs b ≡ installed ds b
     installed_is = installed_same b ag b

@@ -8,7 +8,7 @@ use mathlib.Core.List.{List, [], ◌∷◌, ◌++◌}
 use mathlib.Core.List.Memᴰ.{head as here}
 use mathlib.Core.List.Memᴰ.{tail as there}
 use mathlib.Core.List.{Memᴰ as In}
-use mathlib.Core.List.Memᴰ.{append_cases as in-append}
+use mathlib.Core.List.Memᴰ.{append_cases as in_append}
 use mathlib.Core.List.Memᴰ.{append_left as in_left}
 use mathlib.Core.List.Memᴰ.{append_right as in_right}
 use mathlib.Core.Option.{Option, none, some}
@@ -39,7 +39,7 @@ use Rattle.noninterference.proofs.Effect.{same_agrees}
 -- ---- a row that is not asked for comes, or goes
 module _ (f : Row → Bool) (r : Row) (off : T (f r) → ⊥) where
   come : (l : List Row) → SameSet (keep f l) (keep f (l ++ (r ∷ [])))
-  come l x = (λ h. let (m, t) = keep_in f l h in in_keep f (in_left (r ∷ []) m) t, λ h. let (m, t) = keep_in f (l ++ (r ∷ [])) h in go t (in-append l m))
+  come l x = (λ h. let (m, t) = keep_in f l h in in_keep f (in_left (r ∷ []) m) t, λ h. let (m, t) = keep_in f (l ++ (r ∷ [])) h in go t (in_append l m))
     where
       go : T (f x) → In x l ⊎ In x (r ∷ []) → In x (keep f l)
       go t (inl m) = in_keep f m t

@@ -6,9 +6,9 @@ use mathlib.Core.Logic.{◌⊎◌, inl, inr, ◌↔◌}
 use mathlib.Core.Bool.{Bool, true, false, not, cond}
 use mathlib.Core.List.{List, [], ◌∷◌, ◌++◌, map}
 use mathlib.Core.List.Memᴰ.{head as here}
-use mathlib.Core.List.Memᴰ.{not-nil as in-nil}
+use mathlib.Core.List.Memᴰ.{not-nil as in_nil}
 use mathlib.Core.List.{Memᴰ as In}
-use mathlib.Core.List.Memᴰ.{append_cases as in-append}
+use mathlib.Core.List.Memᴰ.{append_cases as in_append}
 use mathlib.Core.List.Memᴰ.{append_left as in_left}
 use mathlib.Core.List.Memᴰ.{append_right as in_right}
 use lib.Dec.{T}
@@ -60,7 +60,7 @@ module _ {A : Type 0} where
     pub turned_more : (N : A → Type 0) (m : List A) → Lists N m → NoRepeat m → More i N P P' → ((x : A) → N x → P i x → ⊥) → Turned used i (λ l. l ++ m) P P'
     turned_more N m is dm h new = record {
       others = λ n _ ne l e x. (λ k. (h n x).1 (inl ((e x).0 k)), λ p. (e x).1 (other n ne x ((h n x).0 p)));
-      own = λ l e x. (λ k. (h i x).1 (to l e x (in-append l k)), λ p. back l e x ((h i x).0 p));
+      own = λ l e x. (λ k. (h i x).1 (to l e x (in_append l k)), λ p. back l e x ((h i x).0 p));
       once = λ l e d. once_append l m d dm (λ x p q. new x ((is x).0 q) ((e x).0 p));
     }
       where
@@ -77,14 +77,14 @@ module _ {A : Type 0} where
         back l e x (inr q) = in_right l ((is x).1 q.1)
 
     pub turned_one : (r : A) → More i (λ x. x ≡ r) P P' → (P i r → ⊥) → Turned used i (λ l. l ++ (r ∷ [])) P P'
-    turned_one r h new = turned_more (λ x. x ≡ r) (r ∷ []) (λ x. (each_one (λ y. y ≡ r) r refl x, λ e. here e)) (in-nil, tt) h (λ x e p. new (subst (P i) e p))
+    turned_one r h new = turned_more (λ x. x ≡ r) (r ∷ []) (λ x. (each_one (λ y. y ≡ r) r refl x, λ e. here e)) (in_nil, tt) h (λ x e p. new (subst (P i) e p))
 
     -- number i has those of m, each once
     pub turned_union : (has : A → List A → Bool) → ((x : A) (l : List A) → T (has x l) ↔ In x l) → (m : List A) → NoRepeat m → More i (λ x. In x m) P P'
         → Turned used i (λ l. l ++ keep (λ x. not (has x l)) m) P P'
     turned_union has is m dm h = record {
       others = λ n _ ne l e x. (λ k. (h n x).1 (inl ((e x).0 k)), λ p. (e x).1 (other n ne x ((h n x).0 p)));
-      own = λ l e x. (λ k. (h i x).1 (to l e x (in-append l k)), λ p. back l e x ((h i x).0 p));
+      own = λ l e x. (λ k. (h i x).1 (to l e x (in_append l k)), λ p. back l e x ((h i x).0 p));
       once = λ l e d. once_append l (keep (λ x. not (has x l)) m) d (once_keep (λ x. not (has x l)) m dm)
           (λ x p q. not_e (has x l) (keep_in (λ x. not (has x l)) m q).1 ((is x l).1 p));
     }

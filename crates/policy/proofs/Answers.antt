@@ -5,9 +5,9 @@ use mathlib.Core.Path.{◌≡◌, refl, ap, ◌∙◌}
 use mathlib.Core.Logic.{◌⊎◌, inl, inr}
 use mathlib.Core.Bool.{Bool, true, false, not, ◌&&◌, cond}
 use mathlib.Core.List.{List, [], ◌∷◌, ◌++◌}
-use mathlib.Core.List.Memᴰ.{cases_cons as in-cons}
+use mathlib.Core.List.Memᴰ.{cases_cons as in_cons}
 use mathlib.Core.List.Memᴰ.{head as here}
-use mathlib.Core.List.Memᴰ.{not-nil as in-nil}
+use mathlib.Core.List.Memᴰ.{not-nil as in_nil}
 use mathlib.Core.List.Memᴰ.{tail as there}
 use mathlib.Core.List.{Memᴰ as In}
 use lib.Dec.{T, ltb, ltb→lt}
@@ -36,10 +36,10 @@ ascends n [] = true
 ascends n (c ∷ l) = ltb n c.number && ascends c.number l
 
 ascends_lt : (n : ℕ) (l : List Cause) → T (ascends n l) → (k : Cause) → In k l → n < k.number
-ascends_lt n [] t k m = absurd (in-nil m)
+ascends_lt n [] t k m = absurd (in_nil m)
 ascends_lt n (c ∷ l) t k m =
     let h : n < c.number = ltb→lt n c.number (and_l (ltb n c.number) (ascends c.number l) t) in
-    go h (λ p. ascends_lt c.number l (and_r (ltb n c.number) (ascends c.number l) t) k p) (in-cons m)
+    go h (λ p. ascends_lt c.number l (and_r (ltb n c.number) (ascends c.number l) t) k p) (in_cons m)
   where
     go : n < c.number → (In k l → c.number < k.number) → (k ≡ c) ⊎ In k l → n < k.number
     go h ih (inl e) = rw e h
@@ -55,7 +55,7 @@ answer_append_zero n (c ∷ l) m t e = go c.applies refl e (λ d. answer_append_
     go false q f ih = ih f
 
 pub first_is : (n : ℕ) (l : List Cause) → T (ascends n l) → IsFirst (answer l) l
-first_is n [] t = inl (refl, λ k m. absurd (in-nil m))
+first_is n [] t = inl (refl, λ k m. absurd (in_nil m))
 first_is n (c ∷ l) t = go c.applies refl (first_is c.number l up)
   where
     up : T (ascends c.number l)
@@ -70,11 +70,11 @@ first_is n (c ∷ l) t = go c.applies refl (first_is c.number l up)
     past e h m (inr p) a = h m p a
 
     later : c.applies ≡ false → IsFirst (answer l) l → IsFirst (answer l) (c ∷ l)
-    later e (inl p) = inl (p.0, λ m i a. past {P = λ _. ⊥} e p.1 m (in-cons i) a)
-    later e (inr p) = inr (p.0, there p.1, p.2, p.3, λ m i a. past {P = λ m. answer l ≤ m.number} e p.4 m (in-cons i) a)
+    later e (inl p) = inl (p.0, λ m i a. past {P = λ _. ⊥} e p.1 m (in_cons i) a)
+    later e (inr p) = inr (p.0, there p.1, p.2, p.3, λ m i a. past {P = λ m. answer l ≤ m.number} e p.4 m (in_cons i) a)
 
     go : (b : Bool) → c.applies ≡ b → IsFirst (answer l) l → IsFirst (cond b c.number (answer l)) (c ∷ l)
-    go true e ih = inr (c, here refl, refl, true_T e, λ m i a. low m (in-cons i))
+    go true e ih = inr (c, here refl, refl, true_T e, λ m i a. low m (in_cons i))
     go false e ih = later e ih
 
 pub ascends_front : (n : ℕ) (l m : List Cause) → T (ascends n (l ++ m)) → T (ascends n l)

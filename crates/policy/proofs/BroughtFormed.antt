@@ -3,7 +3,7 @@ use Prim.Native.Nat.{ℕ}
 use mathlib.Core.Path.{◌≡◌, refl, sym, ap, ◌∙◌, subst}
 use mathlib.Core.Bool.{Bool, ◌||◌}
 use mathlib.Core.List.{List, ◌++◌, map}
-use mathlib.Core.List.Memᴰ.{cast as in-cast}
+use mathlib.Core.List.Memᴰ.{cast as in_cast}
 use mathlib.Core.List.{Memᴰ as In}
 use mathlib.Core.Option.{Option, none, some}
 use lib.Dec.{T, eqb}
@@ -65,7 +65,7 @@ module _ (L : Layout) (t : Tables) (m : ℕ) (k : Contract) (now : Services) whe
     -- a grant of the contract that waits: its caller is not installed, or its service is not one of the contract's
     not_there : (r : Row) → T (waits_new L t m k now r) → (n : ℕ) → T (t.used n) → t.aid n ≡ r.aid → (y : ℕ) → T (names.provides m y) → names.tok m y ≡ r.tok → ⊥
     not_there r s n u e y p q = not_e (both_there L t m k now r) s (and_i (is_some (number_of L t r.aid)) (has_tok r.tok k.provides)
-        (go (number_of L t r.aid) (number_is L t new.formed.names r.aid)) (tok_has (in-cast (sym q) (tok_in L t m k now new y p))))
+        (go (number_of L t r.aid) (number_is L t new.formed.names r.aid)) (tok_has (in_cast (sym q) (tok_in L t m k now new y p))))
       where
         go : (o : Option ℕ) → NumberIs t r.aid o → T (is_some o)
         go none h = h n u e
@@ -148,7 +148,7 @@ module _ (L : Layout) (t : Tables) (m : ℕ) (k : Contract) (now : Services) whe
       off_dropped i z h d j y p e f =
           let um = new.formed.names.prov_used m z (bits.of_prov i m z h) in
           let ej : j ≡ m = names_on.aid_inj j m (names_on.prov_used j y p) l.used_new (e ∙ sym (l.aid_kept m um)) in
-          dropped_out L t m k now new z d (in-cast (sym f ∙ ap (λ (x : ℕ). names.tok x y) ej) (tok_in L t m k now new y (subst (λ (x : ℕ). T (names.provides x y)) ej p)))
+          dropped_out L t m k now new z d (in_cast (sym f ∙ ap (λ (x : ℕ). names.tok x y) ej) (tok_in L t m k now new y (subst (λ (x : ℕ). T (names.provides x y)) ej p)))
 
       pub lost_off : (rs : List Row) → Off names.used names.aid names.tok names.provides (left_off L t m k now rs ++ left b)
       lost_off rs = record {
@@ -191,7 +191,7 @@ module _ (L : Layout) (t : Tables) (m : ℕ) (k : Contract) (now : Services) whe
             off_card = each_append {P = λ u. (j y : ℕ) → T (names.provides j y) → names.aid j ≡ u.callee → names.tok j y ≡ u.tok → ⊥} (keep still t.unmet) more
                 (λ u i j y. let q = keep_in still t.unmet i in
                 by_number m (λ (x : ℕ). T (names.provides x y) → names.aid x ≡ u.callee → names.tok x y ≡ u.tok → ⊥) j
-                (λ p e f. not_met u q.1 (and_i (eq_aid u.callee k.aid) (has_tok u.tok k.provides) (eq_aid_of (sym e ∙ l.aid_new)) (tok_has (in-cast (sym f) (tok_in L t m k now new y p)))))
+                (λ p e f. not_met u q.1 (and_i (eq_aid u.callee k.aid) (has_tok u.tok k.provides) (eq_aid_of (sym e ∙ l.aid_new)) (tok_has (in_cast (sym f) (tok_in L t m k now new y p)))))
                 (λ h p e f. old.off.off_card u q.0 j y (l.prov_back j y h p) (sym (l.aid_old j h) ∙ e) (sym (l.tok_old j y h) ∙ f)))
                 off.off_card;
           };

@@ -3,7 +3,7 @@ use Prim.Native.Nat.{ℕ, ◌<◌}
 use mathlib.Core.Path.{◌≡◌, refl, sym, ◌∙◌, subst}
 use mathlib.Core.Bool.{Bool, true, not, ◌&&◌, ◌||◌, cond}
 use mathlib.Core.List.{List, [], ◌++◌, map}
-use mathlib.Core.List.Memᴰ.{cast as in-cast}
+use mathlib.Core.List.Memᴰ.{cast as in_cast}
 use mathlib.Core.List.{Memᴰ as In}
 use lib.Dec.{T, eqb, eqb_refl}
 use Rattle.policy.specs.Lists.{every, distinct, keep, is_some, NoRepeat}
@@ -149,7 +149,7 @@ module _ (L : Layout) (t : Tables) (m : ℕ) (k : Contract) (now : Services) whe
 
     -- the tokens of the services of m are those of the contract
     pub tok_in : (y : ℕ) → T (on.provides m y) → In (on.tok m y) k.provides
-    tok_in y p = in-cast (brought.tok_new y) (new.placed.tok_in y (brought.prov_is y p))
+    tok_in y p = in_cast (brought.tok_new y) (new.placed.tok_in y (brought.prov_is y p))
 
     pub in_tok : {s : Tok} → In s k.provides → (y : ℕ) × T (on.provides m y) × (on.tok m y ≡ s)
     in_tok {s} i = let q = new.placed.in_tok s i in (q.0, brought.prov_new q.0 q.1, brought.tok_new q.0 ∙ q.2)

@@ -5,11 +5,11 @@ use mathlib.Core.Logic.Iff
 use mathlib.Core.Logic.{◌⊎◌, inl, inr, ◌↔◌}
 use mathlib.Core.Bool.{Bool, false, not, ◌&&◌, ◌||◌}
 use mathlib.Core.List.{List, [], ◌++◌, map}
-use mathlib.Core.List.Memᴰ.{not-nil as in-nil}
+use mathlib.Core.List.Memᴰ.{not-nil as in_nil}
 use mathlib.Core.List.{Memᴰ as In}
 use mathlib.Core.List.Memᴰ.{append_left as in_left}
 use mathlib.Core.List.Memᴰ.{append_right as in_right}
-use mathlib.Core.List.Memᴰ.{cast as in-cast}
+use mathlib.Core.List.Memᴰ.{cast as in_cast}
 use mathlib.Core.Option.{Option, none, some}
 use lib.Dec.{T, eqb, eqb→eq}
 use Rattle.policy.specs.Lists.{keep, is_some}
@@ -49,14 +49,14 @@ module _ (L : Layout) (t : Tables) (m : ℕ) (k : Contract) (now : Services) (ne
       → ((r : Row) → In (call_row m r) (left_off L t m k now rs) → In (call_row m r) us) → ((r : Row) → In (call_row m r) us → In r rs) → (r : Row) → In r rs ↔ RowAt after b us m r
   rows_new rs b us bits rows own r = (
     (λ i. to i (server_of L names r) (server_is L names (names_on L t m k now new valid) r) (λ s. rows r (in_map (call_row m) (in_keep (not_served_on L names) i s)))),
-    row_cases (λ y z h e. in-cast e ((bits y z).0 h).1) (own r),
+    row_cases (λ y z h e. in_cast e ((bits y z).0 h).1) (own r),
   )
     where
       to : In r rs → (o : Option Place) → ServerIs names r o → (T (not (is_some o)) → In (call_row m r) us) → RowAt after b us m r
       to i none h f = RowAt.row (f tt)
       to i (some p) h f =
           let e : service_at names p.callee p.service ≡ r = row_path h.1 h.2 in
-          RowAt.bit p.callee p.service ((bits p.callee p.service).1 (h.0, in-cast e i)) (sym e)
+          RowAt.bit p.callee p.service ((bits p.callee p.service).1 (h.0, in_cast e i)) (sym e)
 
   -- a row of number m is one of the contract's
   row_of : {r s : Row} → call_row m r ≡ call_row m s → r ≡ s
@@ -75,11 +75,11 @@ module _ (L : Layout) (t : Tables) (m : ℕ) (k : Contract) (now : Services) (ne
       to i (some x) h (inr c) f = GrantAt.row (f c)
       to i (some x) h (inl c) f =
           let q = in_tok L t m k now new (has_tok_lem r.tok k.provides c) in
-          GrantAt.bit x q.0 ((grant_is_lem L t m k now m x q.0).1 (GrantIs.own refl q.1 h.0 (in-cast (row_path h.1 q.2) i)))
+          GrantAt.bit x q.0 ((grant_is_lem L t m k now m x q.0).1 (GrantIs.own refl q.1 h.0 (in_cast (row_path h.1 q.2) i)))
           (sym h.1 ∙ sym (l.aid_kept x h.0)) (sym q.2)
 
       bits : (x z : ℕ) → r.aid ≡ names.aid x → r.tok ≡ names.tok m z → GrantIs L t m k now m x z → In r k.grants
-      bits x z e f (GrantIs.own q p u i) = in-cast (row_path (e ∙ l.aid_kept x u) f) i
+      bits x z e f (GrantIs.own q p u i) = in_cast (row_path (e ∙ l.aid_kept x u) f) i
       bits x z e f (GrantIs.waited n q p i) = absurd (n refl)
       bits x z e f (GrantIs.old n h) = absurd (n refl)
 
@@ -88,7 +88,7 @@ module _ (L : Layout) (t : Tables) (m : ℕ) (k : Contract) (now : Services) (ne
       back (GrantAt.row i) =
           each_waiting L t m k now new valid (λ (v : Waiting). grant_row m r ≡ v → In r k.grants)
           (λ v j s e. absurd (of_other_lem L t m k now new valid v s (sym (ap (λ (x : Waiting). x.callee) e))))
-          (λ s j n e. in-cast (row_path (ap (λ (x : Waiting). x.caller) e) (ap (λ (x : Waiting). x.tok) e)) j) (grant_row m r) i refl
+          (λ s j n e. in_cast (row_path (ap (λ (x : Waiting). x.caller) e) (ap (λ (x : Waiting). x.tok) e)) j) (grant_row m r) i refl
 
   pub has_new : HasContract after lost m k
   has_new = record {
@@ -98,17 +98,17 @@ module _ (L : Layout) (t : Tables) (m : ℕ) (k : Contract) (now : Services) (ne
         (λ r i. in_right (keep (unmet_still L t m k now) t.unmet) (in_left (left t.calls) i))
         (λ r i. each_unmet L t m k now new valid (λ (u : Unmet). call_row m r ≡ u → In r k.calls)
         (λ u _ s e. absurd (by_other_lem L t m k now new valid u s (sym (ap (λ (v : Unmet). v.caller) e))))
-        (λ s j _ e. in-cast (row_of e) j)
+        (λ s j _ e. in_cast (row_of e) j)
         (λ x z h _ e. absurd (new.formed.calls.other x m z h (sym (ap (λ (v : Unmet). v.caller) e)))) (call_row m r) i refl);
     grants = grants_new;
     needs = rows_new k.needs after.needs lost needs_named (λ r i. in_left (left t.needs) i)
         (λ r i. each_lost L t m k now new valid t.needs (need_bits L t new.formed) (λ (u : Unmet). call_row m r ≡ u → In r k.needs) k.needs
-        (λ s j _ e. in-cast (row_of e) j)
+        (λ s j _ e. in_cast (row_of e) j)
         (λ x z h _ e. absurd ((need_bits L t new.formed).other x m z h (sym (ap (λ (v : Unmet). v.caller) e)))) (call_row m r) i refl);
   }
     where
       back : {s : Tok} → ProvidesAt after m s → In s k.provides
-      back (at y p e) = in-cast e (tok_in L t m k now new y p)
+      back (at y p e) = in_cast e (tok_in L t m k now new y p)
 
       calls_named : (y z : ℕ) → T (after.calls m y z) ↔ Named L t m k now k.calls y z
       calls_named y z = ((λ h. named ((call_is L t m k now m y z).0 h)), (λ h. (call_is L t m k now m y z).1 (CallIs.own refl h)))
@@ -139,7 +139,7 @@ module _ (L : Layout) (t : Tables) (m : ℕ) (k : Contract) (now : Services) (ne
           go : T (gone L t m k now y z) ⊎ (T (gone L t m k now y z) → ⊥) → RowAt after b' us n r
           go (inl g) =
               let ey = eqb→eq y m (and_l (eqb y m) (dropped L t m k now z) g) in
-              RowAt.row (rows (call_row n r) (in-cast (λ i. call_row n ((e ∙ ap (λ (x : ℕ). service_at t x z) ey) i))
+              RowAt.row (rows (call_row n r) (in_cast (λ i. call_row n ((e ∙ ap (λ (x : ℕ). service_at t x z) ey) i))
               (in_left_by L t new.formed.names m (dropped L t m k now) b bits n z (in_bit ey) (and_r (eqb y m) (dropped L t m k now z) g))))
             where
               in_bit : y ≡ m → T (b n m z)
@@ -157,7 +157,7 @@ module _ (L : Layout) (t : Tables) (m : ℕ) (k : Contract) (now : Services) (ne
           (λ i. turns i (test (now_met L t m k now (call_row n r)))),
       row_cases (λ y z h e. bits y z e ((call_is L t m k now n y z).0 h))
           (λ i. each_unmet L t m k now new valid (λ (v : Unmet). call_row n r ≡ v → RowAt t t.calls t.unmet n r)
-          (λ v j s e. RowAt.row (in-cast e j)) (λ s j q e. absurd (n-ne (ap (λ (v : Unmet). v.caller) e))) (λ x z h d. left_bit_lem r t.calls t.unmet x z h) (call_row n r) i refl),
+          (λ v j s e. RowAt.row (in_cast e j)) (λ s j q e. absurd (n-ne (ap (λ (v : Unmet). v.caller) e))) (λ x z h d. left_bit_lem r t.calls t.unmet x z h) (call_row n r) i refl),
     )
       where
         turns : In (call_row n r) t.unmet → T (now_met L t m k now (call_row n r)) ⊎ (T (now_met L t m k now (call_row n r)) → ⊥) → RowAt after after.calls after.unmet n r
@@ -165,7 +165,7 @@ module _ (L : Layout) (t : Tables) (m : ℕ) (k : Contract) (now : Services) (ne
             let e : r.aid ≡ k.aid = eq_aid→ r.aid k.aid (and_l (eq_aid r.aid k.aid) (has_tok r.tok k.provides) s) in
             let q = in_tok L t m k now new (has_tok_lem r.tok k.provides (and_r (eq_aid r.aid k.aid) (has_tok r.tok k.provides) s)) in
             let f : r ≡ service_at names m q.0 = row_path (e ∙ sym l.aid_new) (sym q.2) in
-            RowAt.bit m q.0 ((call_is L t m k now n m q.0).1 (CallIs.met n-ne refl q.1 (in-cast (ap (call_row n) (sym f)) i))) f
+            RowAt.bit m q.0 ((call_is L t m k now n m q.0).1 (CallIs.met n-ne refl q.1 (in_cast (ap (call_row n) (sym f)) i))) f
         turns i (inr h) = RowAt.row (in_left (left_off L t m k now k.calls ++ left t.calls) (in_keep (unmet_still L t m k now) i
             (not_i (eqb n m || now_met L t m k now (call_row n r)) (λ x. neither (or_e (eqb n m) (now_met L t m k now (call_row n r)) x)))))
           where
@@ -175,7 +175,7 @@ module _ (L : Layout) (t : Tables) (m : ℕ) (k : Contract) (now : Services) (ne
 
         bits : (y z : ℕ) → r ≡ service_at names y z → CallIs L t m k now n y z → RowAt t t.calls t.unmet n r
         bits y z e (CallIs.own q h) = absurd (n-ne q)
-        bits y z e (CallIs.met _ q p i) = RowAt.row (in-cast (ap (call_row n) (e ∙ ap (λ (j : ℕ). service_at names j z) q)) i)
+        bits y z e (CallIs.met _ q p i) = RowAt.row (in_cast (ap (call_row n) (e ∙ ap (λ (j : ℕ). service_at names j z) q)) i)
         bits y z e (CallIs.old _ g h) = RowAt.bit y z h (e ∙ (service_kept L t m k now new y z (new.formed.calls.of_prov n y z h) g).1)
 
     pub grants_old : (r : Row) → GrantAt t n r ↔ GrantAt after n r
@@ -195,7 +195,7 @@ module _ (L : Layout) (t : Tables) (m : ℕ) (k : Contract) (now : Services) (ne
         turns i none h (inl s) f = GrantAt.row (f (λ x. and_r (eq_aid r.aid k.aid) false x))
         turns i (some z) h (inl s) f =
             let e : r.aid ≡ k.aid = eq_aid→ r.aid k.aid s in
-            GrantAt.bit m z ((grant_is_lem L t m k now n m z).1 (GrantIs.waited n-ne refl h.0 (in-cast (λ x. record { caller = sym e x; callee = n; tok = h.1 x }) i)))
+            GrantAt.bit m z ((grant_is_lem L t m k now n m z).1 (GrantIs.waited n-ne refl h.0 (in_cast (λ x. record { caller = sym e x; callee = n; tok = h.1 x }) i)))
             (e ∙ sym l.aid_new) (sym h.1 ∙ sym (l.tok_old n z n-ne))
 
         to : GrantAt t n r → GrantAt after n r
@@ -205,7 +205,7 @@ module _ (L : Layout) (t : Tables) (m : ℕ) (k : Contract) (now : Services) (ne
 
         bits : (x z : ℕ) → r.aid ≡ names.aid x → r.tok ≡ t.tok n z → GrantIs L t m k now n x z → GrantAt t n r
         bits x z e f (GrantIs.own q p w i) = absurd (n-ne q)
-        bits x z e f (GrantIs.waited _ q p i) = GrantAt.row (in-cast (λ y. record { caller = (e ∙ ap names.aid q ∙ l.aid_new) y; callee = n; tok = f y }) i)
+        bits x z e f (GrantIs.waited _ q p i) = GrantAt.row (in_cast (λ y. record { caller = (e ∙ ap names.aid q ∙ l.aid_new) y; callee = n; tok = f y }) i)
         bits x z e f (GrantIs.old _ h) = GrantAt.bit x z h (e ∙ l.aid_kept x (new.formed.grants.by_used x n z h)) f
 
         back : GrantAt after n r → GrantAt t n r
@@ -216,7 +216,7 @@ module _ (L : Layout) (t : Tables) (m : ℕ) (k : Contract) (now : Services) (ne
     pub needs_old : (r : Row) → RowAt t t.needs [] n r ↔ RowAt after after.needs lost n r
     needs_old r = (
       row_cases (bit_turns t.needs after.needs nb lost (λ y z g h. (need_is L t m k now n y z).1 (NeedIs.old n-ne g h)) (λ v i. in_right (left_off L t m k now k.needs) i) r)
-          (λ i. absurd (in-nil i)),
+          (λ i. absurd (in_nil i)),
       row_cases (λ y z h e. bits y z e ((need_is L t m k now n y z).0 h))
           (λ i. each_lost L t m k now new valid t.needs nb (λ (v : Unmet). call_row n r ≡ v → RowAt t t.needs [] n r) k.needs
           (λ s j q e. absurd (n-ne (ap (λ (v : Unmet). v.caller) e))) (λ x z h d. left_bit_lem r t.needs [] x z h) (call_row n r) i refl),

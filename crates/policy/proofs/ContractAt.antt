@@ -5,12 +5,12 @@ use mathlib.Core.Logic.Iff
 use mathlib.Core.Logic.{◌⊎◌, inl, inr, ◌↔◌}
 use mathlib.Core.Bool.{Bool}
 use mathlib.Core.List.{List, [], ◌++◌, map}
-use mathlib.Core.List.Memᴰ.{not-nil as in-nil}
+use mathlib.Core.List.Memᴰ.{not-nil as in_nil}
 use mathlib.Core.List.{Memᴰ as In}
-use mathlib.Core.List.Memᴰ.{append_cases as in-append}
+use mathlib.Core.List.Memᴰ.{append_cases as in_append}
 use mathlib.Core.List.Memᴰ.{append_left as in_left}
 use mathlib.Core.List.Memᴰ.{append_right as in_right}
-use mathlib.Core.List.Memᴰ.{cast as in-cast}
+use mathlib.Core.List.Memᴰ.{cast as in_cast}
 use lib.Dec.{T, eqb, eqb→eq, eqb_refl}
 use Rattle.policy.specs.Lists.{NoRepeat, keep}
 use Rattle.policy.specs.Contract.{Tok, Row, Contract}
@@ -54,7 +54,7 @@ module _ (L : Layout) (t : Tables) where
             ProvidesAt.at p.0 (keep_in (t.provides n) (places L) p.1).1 p.2
 
         of : ProvidesAt t n s → In s (provided n)
-        of (ProvidesAt.at k h e) = in-cast e (in_map (t.tok n) (in_keep (t.provides n) (in_upto L.services k (names.prov_lt n k h)) h))
+        of (ProvidesAt.at k h e) = in_cast e (in_map (t.tok n) (in_keep (t.provides n) (in_upto L.services k (names.prov_lt n k h)) h))
 
     pub once_provided : NoRepeat (provided n)
     once_provided = once_map (t.tok n) (keep (t.provides n) (places L))
@@ -76,18 +76,18 @@ module _ (L : Layout) (t : Tables) where
 
     -- a bit of calls or of needs, in full
     calls_bit : (r : Row) {b : ℕ → ℕ → ℕ → Bool} → Bits t.used t.provides b → (j k : ℕ) → T (b n j k) → r ≡ service_at t j k → In r (bit_rows (service_at t) (b n))
-    calls_bit r {b} bits j k h e = in-cast e (in_bits (service_at t) (b n) j k (place_in L t formed.names j k (bits.of_prov n j k h)) h)
+    calls_bit r {b} bits j k h e = in_cast e (in_bits (service_at t) (b n) j k (place_in L t formed.names j k (bits.of_prov n j k h)) h)
 
     pub calls_at : (r : Row) → In r (contract_at L t n).calls ↔ RowAt t t.calls t.unmet n r
     unfolding contract_at
-    calls_at r = (λ m. to (in-append (bit_rows (service_at t) (t.calls n)) m), of)
+    calls_at r = (λ m. to (in_append (bit_rows (service_at t) (t.calls n)) m), of)
       where
         to : In r (bit_rows (service_at t) (t.calls n)) ⊎ In r (map wanted (keep own t.unmet)) → RowAt t t.calls t.unmet n r
         to (inl m) = let p = bits_in (service_at t) (t.calls n) m in RowAt.bit p.0 p.1 p.2 p.3
         to (inr m) =
             let p = map_in wanted (keep own t.unmet) m in
             let q = keep_in own t.unmet p.1 in
-            RowAt.row (in-cast (ap (call_row n) p.2 ∙ own_row p.0 q.1) q.0)
+            RowAt.row (in_cast (ap (call_row n) p.2 ∙ own_row p.0 q.1) q.0)
 
         of : RowAt t t.calls t.unmet n r → In r (bit_rows (service_at t) (t.calls n) ++ map wanted (keep own t.unmet))
         of (RowAt.bit j k h e) = in_left (map wanted (keep own t.unmet)) (calls_bit r formed.calls j k h e)
@@ -99,7 +99,7 @@ module _ (L : Layout) (t : Tables) where
       where
         of : RowAt t t.needs [] n r → In r (bit_rows (service_at t) (t.needs n))
         of (RowAt.bit j k h e) = calls_bit r (need_bits L t formed) j k h e
-        of (RowAt.row m) = absurd (in-nil m)
+        of (RowAt.row m) = absurd (in_nil m)
 
     -- a grant bit of package n, in full
     abbrev granted : ℕ → ℕ → Row
@@ -114,7 +114,7 @@ module _ (L : Layout) (t : Tables) where
 
     pub grants_at_lem : (r : Row) → In r (contract_at L t n).grants ↔ GrantAt t n r
     unfolding contract_at
-    grants_at_lem r = (λ m. to (in-append (bit_rows granted (t.grants n)) m), of)
+    grants_at_lem r = (λ m. to (in_append (bit_rows granted (t.grants n)) m), of)
       where
         to : In r (bit_rows granted (t.grants n)) ⊎ In r (map grant_at (keep own_grant t.waiting)) → GrantAt t n r
         to (inl m) =
@@ -123,13 +123,13 @@ module _ (L : Layout) (t : Tables) where
         to (inr m) =
             let p = map_in grant_at (keep own_grant t.waiting) m in
             let q = keep_in own_grant t.waiting p.1 in
-            GrantAt.row (in-cast (ap (grant_row n) p.2 ∙ own_grant_lem p.0 q.1) q.0)
+            GrantAt.row (in_cast (ap (grant_row n) p.2 ∙ own_grant_lem p.0 q.1) q.0)
 
         of : GrantAt t n r → In r (bit_rows granted (t.grants n) ++ map grant_at (keep own_grant t.waiting))
         of (GrantAt.bit i k h a s) =
             let l = bit_in L t formed.names formed.grants i n k h in
             let e : r ≡ granted i k = row_path a s in
-            in_left (map grant_at (keep own_grant t.waiting)) (in-cast e (in_bits granted (t.grants n) i k (l.0, l.2) h))
+            in_left (map grant_at (keep own_grant t.waiting)) (in_cast e (in_bits granted (t.grants n) i k (l.0, l.2) h))
         of (GrantAt.row m) = in_right (bit_rows granted (t.grants n)) (in_map grant_at (in_keep own_grant m (eqb_refl n)))
 
     -- ---- package n has the contract that is read out for it, and every one with the same sets
@@ -203,7 +203,7 @@ module _ (L : Layout) (t : Tables) where
             let p = bits_in granted (t.grants n) m in
             let q = map_in grant_at (keep own_grant t.waiting) l in
             let w = keep_in own_grant t.waiting q.1 in
-            formed.waiting.wait_off (grant_row n (grant_at q.0)) (in-cast (own_grant_lem q.0 w.1) w.0) p.0 p.1 (formed.grants.by_used p.0 n p.1 p.2)
+            formed.waiting.wait_off (grant_row n (grant_at q.0)) (in_cast (own_grant_lem q.0 w.1) w.0) p.0 p.1 (formed.grants.by_used p.0 n p.1 p.2)
             (ap (λ (z : Row). z.aid) (sym p.3 ∙ q.2)) (formed.grants.of_prov p.0 n p.1 p.2) (ap (λ (z : Row). z.tok) (sym p.3 ∙ q.2))
 
     pub four_sets_at : T (t.used n) → FourSets (contract_at L t n)

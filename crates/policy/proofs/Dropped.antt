@@ -4,11 +4,11 @@ use mathlib.Core.Path.{◌≡◌, sym, ap, ◌∙◌, subst}
 use mathlib.Core.Logic.{◌⊎◌, inl, inr, ◌↔◌}
 use mathlib.Core.Bool.{Bool, ◌&&◌}
 use mathlib.Core.List.{List, [], ◌++◌}
-use mathlib.Core.List.Memᴰ.{append_cases as in-append}
+use mathlib.Core.List.Memᴰ.{append_cases as in_append}
 use mathlib.Core.List.Memᴰ.{append_left as in_left}
 use mathlib.Core.List.Memᴰ.{append_right as in_right}
-use mathlib.Core.List.Memᴰ.{cast as in-cast}
-use mathlib.Core.List.Memᴰ.{not-nil as in-nil}
+use mathlib.Core.List.Memᴰ.{cast as in_cast}
+use mathlib.Core.List.Memᴰ.{not-nil as in_nil}
 use mathlib.Core.List.{Memᴰ as In}
 use lib.Dec.{T, eqb, eqb→eq}
 use Rattle.policy.specs.Lists.{NoRepeat}
@@ -84,7 +84,7 @@ pub record Dropping (L : Layout) (t t' : Tables) (j : ℕ) (d : ℕ → Bool) (m
   pub waiting : WaitingRows t'.used t'.aid t'.tok t'.provides t'.waiting
 
 none_stay : (t' : Tables) → RowsStay t' [] []
-none_stay t' = record { old = λ u m. m; used = λ u m. absurd (in-nil m); stays = λ u m _. m; once = tt }
+none_stay t' = record { old = λ u m. m; used = λ u m. absurd (in_nil m); stays = λ u m _. m; once = tt }
 
 module _ (L : Layout) (t t' : Tables) (names : Names L t.used t.aid t.tok t.provides) (j : ℕ) (d : ℕ → Bool) (w : Without t t' j d) where
   names_without : Names L t'.used t'.aid t'.tok t'.provides
@@ -157,7 +157,7 @@ module _ (L : Layout) (t t' : Tables) (names : Names L t.used t.aid t.tok t.prov
             go : T (eqb y j && d z) ⊎ (T (eqb y j && d z) → ⊥) → RowAt t' b' rows' n r
             go (inl g) =
                 let ey = eqb→eq y j (and_l (eqb y j) (d z) g) in
-                row (in_right m (in-cast (λ i. call_row n ((e ∙ ap (λ (x : ℕ). service_at t x z) ey) i))
+                row (in_right m (in_cast (λ i. call_row n ((e ∙ ap (λ (x : ℕ). service_at t x z) ey) i))
                 (in_left_by L t names j d b bits n z (subst (λ (x : ℕ). T (b n x z)) ey h) (and_r (eqb y j) (d z) g))))
             go (inr g) =
                 let h' = bs.stays n y z h un (λ f k. g (and_i (eqb y j) (d z) (eqb_of f) k)) in
@@ -166,7 +166,7 @@ module _ (L : Layout) (t t' : Tables) (names : Names L t.used t.aid t.tok t.prov
 
         row_old : RowAt t' b' rows' n r → RowAt t b l n r
         row_old (bit y z h e) = bit y z (bs.old n y z h) (e ∙ service_same y z (bit_prov b' bs n y z h))
-        row_old (row h) = go (in-append m h)
+        row_old (row h) = go (in_append m h)
           where
             go : In (call_row n r) m ⊎ In (call_row n r) (left_by L t b j d) → RowAt t b l n r
             go (inl g) = row (rs.old (call_row n r) g)

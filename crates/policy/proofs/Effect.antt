@@ -3,8 +3,8 @@ use mathlib.Core.Path.{◌≡◌, refl, sym, ap, ◌∙◌}
 use mathlib.Core.Logic.{◌⊎◌, inl, inr, ◌↔◌}
 use mathlib.Core.Bool.{not, cond}
 use mathlib.Core.List.{List, ◌∷◌}
-use mathlib.Core.List.Memᴰ.{cases_cons as in-cons}
-use mathlib.Core.List.Memᴰ.{cast as in-cast}
+use mathlib.Core.List.Memᴰ.{cases_cons as in_cons}
+use mathlib.Core.List.Memᴰ.{cast as in_cast}
 use mathlib.Core.List.Memᴰ.{tail as there}
 use mathlib.Core.List.{Memᴰ as In}
 use lib.Dec.{T}
@@ -21,7 +21,7 @@ Others b cs ds = (c : Contract) → (c.aid ≡ b → ⊥) → In c cs ↔ In c d
 
 module _ (b : Aid) where
   cons_others : (k : Contract) → k.aid ≡ b → (cs : List Contract) → Others b cs (k ∷ cs)
-  cons_others k e cs c ne = (λ m. there m, λ m. go (in-cons m))
+  cons_others k e cs c ne = (λ m. there m, λ m. go (in_cons m))
     where
       go : (c ≡ k) ⊎ In c cs → In c cs
       go (inl q) = absurd (ne (ap (λ (z : Contract). z.aid) q ∙ e))
@@ -33,13 +33,13 @@ module _ (b : Aid) where
 
     alter_others : (cs : List Contract) → Others b cs (alter b f cs)
     alter_others cs c ne = (
-      λ m. in-cast (sym (cond_false (eq_aid c.aid b) (f c) c (λ x. ne (eq_aid→ c.aid b x)))) (in_map turned m),
+      λ m. in_cast (sym (cond_false (eq_aid c.aid b) (f c) c (λ x. ne (eq_aid→ c.aid b x)))) (in_map turned m),
       λ m. let (k, mk, e) = map_in turned cs m in from k mk e (test (eq_aid k.aid b)),
     )
       where
         from : (k : Contract) → In k cs → c ≡ turned k → T (eq_aid k.aid b) ⊎ (T (eq_aid k.aid b) → ⊥) → In c cs
         from k m e (inl x) = absurd (ne (ap (λ (z : Contract). z.aid) (e ∙ cond_true (eq_aid k.aid b) (f k) k x) ∙ named k ∙ eq_aid→ k.aid b x))
-        from k m e (inr x) = in-cast (e ∙ cond_false (eq_aid k.aid b) (f k) k x) m
+        from k m e (inr x) = in_cast (e ∙ cond_false (eq_aid k.aid b) (f k) k x) m
 
 pub effect_others : (L : Layout) (b : Aid) (ch : Change) (cs : List Contract) → Others b cs (effect L cs b ch)
 effect_others L b (load p c g n) cs = cons_others b (record { aid = b; provides = p; calls = c; grants = g; needs = n }) refl cs

@@ -4,7 +4,7 @@ use mathlib.Core.Path.{◌≡◌, refl, sym, ◌∙◌, subst}
 use mathlib.Core.Logic.{◌⊎◌, inl, inr, ◌↔◌}
 use mathlib.Core.Bool.{Bool, ◌&&◌}
 use mathlib.Core.List.{List, []}
-use mathlib.Core.List.Memᴰ.{not-nil as in-nil}
+use mathlib.Core.List.Memᴰ.{not-nil as in_nil}
 use mathlib.Core.List.{Memᴰ as In}
 use lib.Dec.{T}
 use Rattle.policy.specs.Contract.{Aid, eq_aid, Tok, Row, Contract, under}
@@ -18,7 +18,7 @@ use Rattle.policy.proofs.EveryBit.{BitIn, among, among_to, among_back}
 use Rattle.policy.proofs.Formed.{Names, Bits, Off, grant_bit, Formed, Lawful, Ruled, ProvidesAt, at, RowAt, bit, row, GrantAt, HasContract, Stands}
 
 pub no_rows : (t : Tables) → Off t.used t.aid t.tok t.provides []
-no_rows t = record { off_used = λ u m. absurd (in-nil m); off_card = λ u m. absurd (in-nil m) }
+no_rows t = record { off_used = λ u m. absurd (in_nil m); off_card = λ u m. absurd (in_nil m) }
 
 -- what follows of a call or need as a bit and as a row
 pub row_cases : {t : Tables} {b : ℕ → ℕ → ℕ → Bool} {l : List Unmet} {n : ℕ} {r : Row} {P : Type 0}

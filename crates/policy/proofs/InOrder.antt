@@ -6,7 +6,7 @@ use mathlib.Core.Path.{◌≡◌, refl, sym, ap, ◌∙◌, subst}
 use mathlib.Core.Logic.{◌⊎◌, inl, inr}
 use mathlib.Core.Bool.{Bool, true, false, not, ◌&&◌, cond}
 use mathlib.Core.List.{List, [], ◌∷◌, ◌++◌, append-nil, append_assoc}
-use mathlib.Core.List.Memᴰ.{cast as in-cast}
+use mathlib.Core.List.Memᴰ.{cast as in_cast}
 use mathlib.Core.Option.{Option, some}
 use lib.Dec.{T, ltb, ltb→lt, lt→ltb, nltb→le}
 use lib.ListN.{length, get_or, length-append}
@@ -58,7 +58,7 @@ module _ (L : Layout) where
           let q = exists_in test (places L) h in
           let lt = ltb→lt q.0 (length a) (and_l (ltb q.0 (length a)) (eq_tok (get_or a q.0 no_tok) s) q.2) in
           let e = eq_tok→ (get_or a q.0 no_tok) s (and_r (ltb q.0 (length a)) (eq_tok (get_or a q.0 no_tok) s) q.2) in
-          once_behind a s b once (in-cast (sym e) (in_row a q.0 no_tok lt))
+          once_behind a s b once (in_cast (sym e) (in_row a q.0 no_tok lt))
 
       same_tok : (y : ℕ) → put (length a) s (λ z. get_or a z no_tok) y ≡ get_or (a ++ (s ∷ [])) y no_tok
       same_tok y = by_number (length a) (λ (z : ℕ). put (length a) s (λ z. get_or a z no_tok) z ≡ get_or (a ++ (s ∷ [])) z no_tok) y

@@ -7,7 +7,7 @@ use mathlib.Core.List.{List, [], map}
 use mathlib.Core.List.{Memᴰ as In}
 use mathlib.Core.List.Memᴰ.{append_left as in_left}
 use mathlib.Core.List.Memᴰ.{append_right as in_right}
-use mathlib.Core.List.Memᴰ.{cast as in-cast}
+use mathlib.Core.List.Memᴰ.{cast as in_cast}
 use mathlib.Core.Option.{Option, none, some}
 use lib.Dec.{T, eqb, eqb→eq}
 use Rattle.policy.specs.Lists.{every, exists, keep, is_some, distinct, NoRepeat}
@@ -179,7 +179,7 @@ module _ (L : Layout) (t : Tables) (f : Formed L t) (j k : ℕ) (uj : T (t.used 
           (λ w m h n z u e p q. waits_off w m h n z u e q (place.prov_cases w.callee z p)) (λ b _ h n z u e p q. lone_off b h n u e);
       wait_once = once_append (keep still t.waiting) (map waits (keep lone l)) (once_keep still t.waiting f.waiting.wait_once)
           (once_map waits (keep lone l) (λ b c m n e. ap (λ (v : Waiting). v.caller) e) (once_keep lone l once))
-          (λ w m n. each_wait (λ v. w ≡ v → ⊥) (λ b _ h e. lone_new b h (in-cast (sym e) (keep_in still t.waiting m).0)) w n refl);
+          (λ w m n. each_wait (λ v. w ≡ v → ⊥) (λ b _ h e. lone_new b h (in_cast (sym e) (keep_in still t.waiting m).0)) w n refl);
     };
   }
     where
@@ -226,19 +226,19 @@ module _ (L : Layout) (t : Tables) (f : Formed L t) (j k : ℕ) (uj : T (t.used 
     where
       -- a grant at the new place to an AID of l
       is_new : n ≡ j → x.tok ≡ s → In x.aid l → (n ≡ j) × In x (map grant_to l)
-      is_new en es m = (en, in-cast (λ i. record { aid = x.aid; tok = es i }) (in_map grant_to m))
+      is_new en es m = (en, in_cast (λ i. record { aid = x.aid; tok = es i }) (in_map grant_to m))
 
       by_name : (i z : ℕ) → x.aid ≡ t.aid i → x.tok ≡ after.tok n z → n ≡ j → z ≡ k → In (t.aid i) l ⊎ In (waits (t.aid i)) t.waiting → GrantAt t n x ⊎ ((n ≡ j) × In x (map grant_to l))
-      by_name i z e q en ez (inl m) = inr (is_new en (q ∙ tok_new n z en ez) (in-cast e m))
-      by_name i z e q en ez (inr m) = inl (row (in-cast (λ y. record { caller = e y; callee = en y; tok = (q ∙ tok_new n z en ez) y }) m))
+      by_name i z e q en ez (inl m) = inr (is_new en (q ∙ tok_new n z en ez) (in_cast e m))
+      by_name i z e q en ez (inr m) = inl (row (in_cast (λ y. record { caller = e y; callee = en y; tok = (q ∙ tok_new n z en ez) y }) m))
 
       by_bit : (i z : ℕ) → x.aid ≡ t.aid i → x.tok ≡ after.tok n z → OldOrNew j k (grant_bit t) granted i n z → GrantAt t n x ⊎ ((n ≡ j) × In x (map grant_to l))
       by_bit i z e q (inl b) = inl (bit i z b e (q ∙ place.old_tok n z (f.grants.of_prov i n z b)))
       by_bit i z e q (inr h) = by_name i z e q h.0 h.1 (named_in (t.aid i) (and_r (t.used i) (named (t.aid i)) h.2))
 
       by_row : (w : Waiting) → In w after.waiting → grant_row n x ≡ w → GrantAt t n x ⊎ ((n ≡ j) × In x (map grant_to l))
-      by_row = each_row (λ w. grant_row n x ≡ w → GrantAt t n x ⊎ ((n ≡ j) × In x (map grant_to l))) (λ w m _ e. inl (row (in-cast e m)))
-          (λ b m _ e. inr (is_new (ap (λ (v : Waiting). v.callee) e) (ap (λ (v : Waiting). v.tok) e) (in-cast (ap (λ (v : Waiting). v.caller) e) m)))
+      by_row = each_row (λ w. grant_row n x ≡ w → GrantAt t n x ⊎ ((n ≡ j) × In x (map grant_to l))) (λ w m _ e. inl (row (in_cast e m)))
+          (λ b m _ e. inr (is_new (ap (λ (v : Waiting). v.callee) e) (ap (λ (v : Waiting). v.tok) e) (in_cast (ap (λ (v : Waiting). v.caller) e) m)))
 
       cases : GrantAt after n x → GrantAt t n x ⊎ ((n ≡ j) × In x (map grant_to l))
       cases (bit i z b e q) = by_bit i z e q ((old_or_new j k (grant_bit t) granted i n z).0 b)
@@ -258,7 +258,7 @@ module _ (L : Layout) (t : Tables) (f : Formed L t) (j k : ℕ) (uj : T (t.used 
           let o = installed_aid L t x.aid in
           let en : n ≡ j = eqb→eq n j (and_l c d (and_l (c && d) o h)) in
           let es : x.tok ≡ s = eq_tok→ x.tok s (and_r c d (and_l (c && d) o h)) in
-          let m' : In (waits x.aid) t.waiting = in-cast (λ y. record { caller = x.aid; callee = sym en y; tok = sym es y }) m in
+          let m' : In (waits x.aid) t.waiting = in_cast (λ y. record { caller = x.aid; callee = sym en y; tok = sym es y }) m in
           let w : T (named x.aid) = or_r (exists (eq_aid x.aid) l) (has_waiting (waits x.aid) t.waiting) (waiting_has m') in
           rw en (subst (λ (y : Row). GrantAt after j y) (λ y. record { aid = x.aid; tok = sym es y }) (at_number w (number_of L t x.aid) (number_is L t f.names x.aid) (and_r (c && d) o h)))
         where
@@ -307,7 +307,7 @@ module _ (L : Layout) (t : Tables) (f : Formed L t) (j k : ℕ) (uj : T (t.used 
           let ea : r.aid ≡ t.aid j = eq_aid→ r.aid (t.aid j) (and_l (eq_aid r.aid (t.aid j)) (eq_tok r.tok s) h) in
           let es : r.tok ≡ s = eq_tok→ r.tok s (and_r (eq_aid r.aid (t.aid j)) (eq_tok r.tok s) h) in
           let e : r.tok ≡ after.tok j k = es ∙ sym place.new_tok in
-          let h : T (asked n) = unmet_has (in-cast (λ i. record { callee = sym ea i; tok = sym es i; caller = n }) m) in
+          let h : T (asked n) = unmet_has (in_cast (λ i. record { callee = sym ea i; tok = sym es i; caller = n }) m) in
           bit j k ((old_or_new j k t.calls asked n j k).1 (inr (refl, refl, h))) (row_path ea e)
       met m (inr h) = row (in_keep (λ v. not (asks_for L t (t.aid j) s v)) m (not_i (asks_for L t (t.aid j) s (call_row n r)) h))
 
@@ -316,7 +316,7 @@ module _ (L : Layout) (t : Tables) (f : Formed L t) (j k : ℕ) (uj : T (t.used 
       was y z e (inr h) =
           let es : r.tok ≡ s = ap (λ (v : Row). v.tok) e ∙ tok_new y z h.0 h.1 in
           let ea : r.aid ≡ t.aid j = ap (λ (v : Row). v.aid) e ∙ ap t.aid h.0 in
-          row (in-cast (λ i. record { callee = ea i; tok = es i; caller = n }) (was_asked n h.2))
+          row (in_cast (λ i. record { callee = ea i; tok = es i; caller = n }) (was_asked n h.2))
 
   needs_as : (n : ℕ) (r : Row) → RowAt t t.needs [] n r ↔ RowAt after t.needs [] n r
   needs_as n = row_kept t after n t.needs [] (λ y z h. sym (service_as y z ((need_bits L t f).of_prov n y z h)))

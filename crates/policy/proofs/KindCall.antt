@@ -3,7 +3,7 @@ use Prim.Native.Nat.{ℕ}
 use mathlib.Core.Path.{◌≡◌, refl, sym, ap, ◌∙◌}
 use mathlib.Core.Bool.{Bool, true, false, not}
 use mathlib.Core.List.{List, [], ◌∷◌, ◌++◌}
-use mathlib.Core.List.Memᴰ.{not-nil as in-nil}
+use mathlib.Core.List.Memᴰ.{not-nil as in_nil}
 use mathlib.Core.List.{Memᴰ as In}
 use mathlib.Core.Option.{Option, none, some}
 use lib.Dec.{T}
@@ -95,7 +95,7 @@ module _ (L : Layout) (t : Tables) (cs : List Contract) (a : Aid) (fo : Formed L
       turns_calls L t cs a fo st i ui ai c d t.unmet [] (bits_sub fo.calls (λ x y z h. ((put3_less i j k t.calls x y z).0 h).0))
       (λ x y z h. let q = (put3_less i j k t.needs x y z).0 h in (put3_less i j k t.calls x y z).1 (fo.need_call x y z q.0, q.1)) fo.unmet (no_rows t)
       (turned_without r (bit_less t t' (λ y z. refl) t.calls t.unmet i r j k (is_service t r p s) (one_bit L t fo fo.calls j k s.0 i) (no_row L t fo r p s i)))
-      (turned_without r (bit_less t t' (λ y z. refl) t.needs [] i r j k (is_service t r p s) (one_bit L t fo (need_bits L t fo) j k s.0 i) in-nil))
+      (turned_without r (bit_less t t' (λ y z. refl) t.needs [] i r j k (is_service t r p s) (one_bit L t fo (need_bits L t fo) j k s.0 i) in_nil))
 
 pub kind_5 : (r : Row) → KindTurns (add_call r)
 unfolding proper

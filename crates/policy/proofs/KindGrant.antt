@@ -6,10 +6,10 @@ use mathlib.Core.Bool.{Bool, true, false, not}
 use mathlib.Core.List.{List, [], ◌∷◌, ◌++◌}
 use mathlib.Core.List.Memᴰ.{head as here}
 use mathlib.Core.List.{Memᴰ as In}
-use mathlib.Core.List.Memᴰ.{append_cases as in-append}
+use mathlib.Core.List.Memᴰ.{append_cases as in_append}
 use mathlib.Core.List.Memᴰ.{append_left as in_left}
 use mathlib.Core.List.Memᴰ.{append_right as in_right}
-use mathlib.Core.List.Memᴰ.{cast as in-cast}
+use mathlib.Core.List.Memᴰ.{cast as in_cast}
 use mathlib.Core.Option.{Option, none, some}
 use lib.Dec.{T}
 use Rattle.policy.specs.Lists.{keep}
@@ -59,7 +59,7 @@ module _ (L : Layout) (t : Tables) (f : Formed L t) (r : Row) (j : ℕ) where
 
   cases : (o : Option Spot) → SpotIs t j r o → (n : ℕ) (x : Row) → GrantAt (added o) n x → GrantAt t n x ⊎ ((n ≡ j) × (x ≡ r))
   cases none h n x (bit i z b e q) = inl (bit i z b e q)
-  cases none h n x (row m) = split (in-append t.waiting m)
+  cases none h n x (row m) = split (in_append t.waiting m)
     where
       split : In (grant_row n x) t.waiting ⊎ In (grant_row n x) (asked ∷ []) → GrantAt t n x ⊎ ((n ≡ j) × (x ≡ r))
       split (inl p) = inl (row p)
@@ -105,7 +105,7 @@ module _ (L : Layout) (t : Tables) (f : Formed L t) (r : Row) (j : ℕ) where
         ),
       )
   left (some p) h n x (row m) =
-      (row m, λ c. f.waiting.wait_off asked (in-cast (λ i. grant_row (sym c.0 i) (sym c.1 i)) m) p.caller p.service h.0 h.1 h.2 h.3)
+      (row m, λ c. f.waiting.wait_off asked (in_cast (λ i. grant_row (sym c.0 i) (sym c.1 i)) m) p.caller p.service h.0 h.1 h.2 h.3)
 
   stays : (o : Option Spot) → SpotIs t j r o → (n : ℕ) (x : Row) → ((n ≡ j) × (x ≡ r) → ⊥) → GrantAt t n x → GrantAt (removed o) n x
   stays none h n x ne (bit i z b e q) = bit i z b e q

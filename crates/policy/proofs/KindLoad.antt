@@ -6,8 +6,8 @@ use mathlib.Core.Path.{◌≡◌, refl, sym, ap, ◌∙◌, subst}
 use mathlib.Core.Logic.{◌⊎◌, inl, inr}
 use mathlib.Core.Bool.{Bool, true, false, not, ◌&&◌, ◌||◌, cond}
 use mathlib.Core.List.{List, [], ◌∷◌, ◌++◌, map, append-nil}
-use mathlib.Core.List.Memᴰ.{cases_cons as in-cons}
-use mathlib.Core.List.Memᴰ.{cast as in-cast}
+use mathlib.Core.List.Memᴰ.{cases_cons as in_cons}
+use mathlib.Core.List.Memᴰ.{cast as in_cast}
 use mathlib.Core.List.Memᴰ.{head as here}
 use mathlib.Core.List.Memᴰ.{tail as there}
 use mathlib.Core.List.{Memᴰ as In}
@@ -44,8 +44,8 @@ module _ {A : Type 0} (d : A) where
   get_d_inj : (l : List A) → NoRepeat l → (y z : ℕ) → y < length l → z < length l → get_or l y d ≡ get_or l z d → y ≡ z
   get_d_inj [] n y z a b e = absurd (not-suc-le-zero a)
   get_d_inj (x ∷ l) n zero zero a b e = refl
-  get_d_inj (x ∷ l) n zero (suc z) a b e = absurd (n.0 (in-cast e (in_row l z d (le_of_suc-le-suc b))))
-  get_d_inj (x ∷ l) n (suc y) zero a b e = absurd (n.0 (in-cast (sym e) (in_row l y d (le_of_suc-le-suc a))))
+  get_d_inj (x ∷ l) n zero (suc z) a b e = absurd (n.0 (in_cast e (in_row l z d (le_of_suc-le-suc b))))
+  get_d_inj (x ∷ l) n (suc y) zero a b e = absurd (n.0 (in_cast (sym e) (in_row l y d (le_of_suc-le-suc a))))
   get_d_inj (x ∷ l) n (suc y) (suc z) a b e = ap suc (get_d_inj l n.1 y z (le_of_suc-le-suc a) (le_of_suc-le-suc b) e)
 
 -- ---- 'Its services take 0, 1, 2 in record order'
@@ -164,12 +164,12 @@ module _ (L : Layout) (t : Tables) (m : ℕ) (k : Contract) (now : Services) (ne
 
   load_stands : (cs : List Contract) → Stands t [] cs → Stands (brought_at L t m k now).tables (brought_at L t m k now).lost (k ∷ cs)
   load_stands cs st = record {
-    these = λ c i. these c (in-cons i);
+    these = λ c i. these c (in_cons i);
     no_others = λ n. by_number m (λ (x : ℕ). T ((on L t m k now).used x) → (c : Contract) × In c (k ∷ cs) × (c.aid ≡ (on L t m k now).aid x)) n
         (λ u. (k, here refl, sym l.aid_new))
         (λ h u. let q = st.no_others n (l.used_back n h u) in (q.0, there q.1, q.2 ∙ sym (l.aid_old n h)));
     one_each = ((λ i. let q = map_in (λ c. c.aid) cs i in let h = st.these q.0 q.1 in absent h.0 h.1 (sym h.2.aid ∙ sym q.2)), st.one_each);
-    four_sets = λ c i. four c (in-cons i);
+    four_sets = λ c i. four c (in_cons i);
   }
     where
       these : (c : Contract) → (c ≡ k) ⊎ In c cs → (n : ℕ) × T ((on L t m k now).used n) × Has n c

@@ -4,7 +4,7 @@ use mathlib.Core.Path.{◌≡◌, refl, sym, ◌∙◌, subst}
 use mathlib.Core.Logic.{◌⊎◌, inl, inr}
 use mathlib.Core.Bool.{Bool, true, false}
 use mathlib.Core.List.{List, [], ◌∷◌}
-use mathlib.Core.List.Memᴰ.{not-nil as in-nil}
+use mathlib.Core.List.Memᴰ.{not-nil as in_nil}
 use mathlib.Core.Option.{Option, none, some}
 use lib.Dec.{T}
 use Rattle.policy.specs.Contract.{Aid, Row, Contract}
@@ -65,7 +65,7 @@ module _ (L : Layout) (t : Tables) (cs : List Contract) (a : Aid) (fo : Formed L
   less_need none s = needs_turn t.needs fo.need_call (turned_without r (row_less t t (λ j k. refl) t.needs [] i r (no_bit L t fo (need_bits L t fo) r s i)))
   less_need (some p) s =
       needs_turn (put3 i p.callee p.service false t.needs) (λ x y z h. fo.need_call x y z ((put3_less i p.callee p.service t.needs x y z).0 h).0)
-      (turned_without r (bit_less t _ (λ y z. refl) t.needs [] i r p.callee p.service (is_service t r p s) (one_bit L t fo (need_bits L t fo) p.callee p.service s.0 i) in-nil))
+      (turned_without r (bit_less t _ (λ y z. refl) t.needs [] i r p.callee p.service (is_service t r p s) (one_bit L t fo (need_bits L t fo) p.callee p.service s.0 i) in_nil))
 
 pub kind_9 : (r : Row) → KindTurns (add_need r)
 kind_9 r L t cs a fo st va vr own = reach_9 L t fo a (λ d _. Turns L d (alter a (altered L (add_need r)) cs)) r (more_need L t cs a fo st r)

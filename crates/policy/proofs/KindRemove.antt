@@ -5,10 +5,10 @@ use mathlib.Core.Logic.Iff
 use mathlib.Core.Logic.{◌⊎◌, inl, inr}
 use mathlib.Core.Bool.{Bool, true, false, not, ◌&&◌, ◌||◌}
 use mathlib.Core.List.{List, []}
-use mathlib.Core.List.Memᴰ.{append_cases as in-append}
+use mathlib.Core.List.Memᴰ.{append_cases as in_append}
 use mathlib.Core.List.Memᴰ.{append_left as in_left}
 use mathlib.Core.List.Memᴰ.{append_right as in_right}
-use mathlib.Core.List.Memᴰ.{cast as in-cast}
+use mathlib.Core.List.Memᴰ.{cast as in_cast}
 use mathlib.Core.List.{Memᴰ as In}
 use lib.Dec.{T, eqb, eqb→eq}
 use Rattle.policy.specs.Lists.{keep}
@@ -164,7 +164,7 @@ module _ (L : Layout) (t : Tables) (fm : Formed L t) (n : ℕ) (un : T (t.used n
         (once_pairs wait_for (λ j. t.grants j n) (places L) (numbers L) (once_upto L.services) (once_upto L.packages) one_wait)
         (λ w m o.
         let p = wait_new o in
-        bit_not_waiting L t fm n p.0 p.1 p.2 (wait_old (in-cast (sym p.3) m)).0);
+        bit_not_waiting L t fm n p.0 p.1 p.2 (wait_old (in_cast (sym p.3) m)).0);
   }
 
   pub dropping : Dropping L t t' n (λ z. true) stay_u
@@ -181,7 +181,7 @@ module _ (L : Layout) (t : Tables) (fm : Formed L t) (n : ℕ) (un : T (t.used n
             let ei : i ≡ n = eqb→eq i n q in
             let g : T (t.grants m n k) = subst (λ (x : ℕ). T (t.grants m x k)) ei h in
             let l = place_in L t fm.names m k (fm.grants.of_prov n m k g) in
-            row (in_right stay_w (in-cast (λ z. record { caller = (e ∙ ap t.aid ei) z; callee = m; tok = f z })
+            row (in_right stay_w (in_cast (λ z. record { caller = (e ∙ ap t.aid ei) z; callee = m; tok = f z })
             (in_pairs wait_for (λ j. t.grants j n) (places L) (numbers L) m k
             (in_upto L.packages m l.0) (in_upto L.services k l.1) g)))
         go (inr q) =
@@ -191,7 +191,7 @@ module _ (L : Layout) (t : Tables) (fm : Formed L t) (n : ℕ) (un : T (t.used n
 
     grant_old : GrantAt t' m r → GrantAt t m r
     grant_old (bit i k h e f) = bit i k (grants_stay.old i m k h) (e ∙ aid_same i (used_e i (grants_stay.used i m k h)).0) (f ∙ tok_same m k ne)
-    grant_old (row h) = go (in-append stay_w h)
+    grant_old (row h) = go (in_append stay_w h)
       where
         go : In (grant_row m r) stay_w ⊎ In (grant_row m r) now_wait → GrantAt t m r
         go (inl q) = row (wait_old q).0

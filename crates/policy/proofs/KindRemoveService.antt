@@ -4,10 +4,10 @@ use mathlib.Core.Path.{◌≡◌, refl, sym, ap, ◌∙◌, subst}
 use mathlib.Core.Logic.{◌⊎◌, inl, inr}
 use mathlib.Core.Bool.{Bool, true, false, not, ◌&&◌, cond}
 use mathlib.Core.List.{List, [], ◌++◌, map}
-use mathlib.Core.List.Memᴰ.{append_cases as in-append}
+use mathlib.Core.List.Memᴰ.{append_cases as in_append}
 use mathlib.Core.List.Memᴰ.{append_left as in_left}
 use mathlib.Core.List.Memᴰ.{append_right as in_right}
-use mathlib.Core.List.Memᴰ.{cast as in-cast}
+use mathlib.Core.List.Memᴰ.{cast as in_cast}
 use mathlib.Core.List.{Memᴰ as In}
 use lib.Dec.{T, eqb, eqb→eq}
 use Rattle.policy.specs.Lists.{keep, NoRepeat}
@@ -125,7 +125,7 @@ module _ (L : Layout) (t : Tables) (fm : Formed L t) (j k : ℕ) (pk : T (t.prov
       (once_map now_waits (keep callers (numbers L))
       (λ x y m n e. fm.names.aid_inj x y (fm.grants.by_used x j k (keep_in callers (numbers L) m).1) (fm.grants.by_used y j k (keep_in callers (numbers L) n).1) (ap (λ (w : Waiting). w.caller) e))
       (once_keep callers (numbers L) (once_upto L.packages)))
-      (λ w m o. each_behind (λ v. w ≡ v → ⊥) (λ i h e. bit_not_waiting L t fm i j k h (in-cast (sym e) m)) w o refl)
+      (λ w m o. each_behind (λ v. w ≡ v → ⊥) (λ i h e. bit_not_waiting L t fm i j k h (in_cast (sym e) m)) w o refl)
   once_rows false = once_keep stay_w t.waiting fm.waiting.wait_once
 
   pub dropping : Dropping L t t' j d t.unmet
@@ -199,7 +199,7 @@ module _ (L : Layout) (t : Tables) (fm : Formed L t) (j k : ℕ) (pk : T (t.prov
             let en : n ≡ j = eqb→eq n j (and_l (eqb n j) (eqb z k) x) in
             let ez : z ≡ k = eqb→eq z k (and_r (eqb n j) (eqb z k) x) in
             let c : T (t.grants j i k) = subst (λ (y : ℕ). T (t.grants j i y)) ez (subst (λ (y : ℕ). T (t.grants y i z)) en h) in
-            row (in_right t.waiting (in-cast (λ y. record { caller = e y; callee = en y; tok = (f ∙ (λ v. t.tok (en v) (ez v))) y })
+            row (in_right t.waiting (in_cast (λ y. record { caller = e y; callee = en y; tok = (f ∙ (λ v. t.tok (en v) (ez v))) y })
             (in_map now_waits (in_keep callers (in_upto L.packages i (fm.names.used_lt i (fm.grants.by_used i j k c))) c))))
         go (inr x) = let ne = away n z x in bit i z (dropping.grants_stay.stays i n z h (fm.grants.by_used i n z h) ne) e (f ∙ sym (tok_same n z ne))
     grant_waits true r w (row m) = row (in_left behind m)
@@ -207,7 +207,7 @@ module _ (L : Layout) (t : Tables) (fm : Formed L t) (j k : ℕ) (pk : T (t.prov
     grant_was : (b : Bool) (r : Row) → T b → GrantAt (after b) n r → GrantAt t n r
     grant_was false r w g = absurd w
     grant_was true r w (bit i z h e f) = bit i z (dropping.grants_stay.old i n z h) e (f ∙ tok_same n z (dropping.grants_stay.gone i n z h))
-    grant_was true r w (row m) = go (in-append t.waiting m)
+    grant_was true r w (row m) = go (in_append t.waiting m)
       where
         go : In (grant_row n r) t.waiting ⊎ In (grant_row n r) behind → GrantAt t n r
         go (inl x) = row x

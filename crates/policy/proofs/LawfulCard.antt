@@ -4,7 +4,7 @@ use Prim.Native.Nat.{ℕ}
 use mathlib.Core.Path.{◌≡◌, refl, sym, ap, ◌∙◌, subst}
 use mathlib.Core.Bool.{Bool, ◌&&◌, ◌||◌}
 use mathlib.Core.List.{List, [], ◌∷◌, map}
-use mathlib.Core.List.Memᴰ.{not-nil as in-nil}
+use mathlib.Core.List.Memᴰ.{not-nil as in_nil}
 use mathlib.Core.List.{Memᴰ as In}
 use lib.Dec.{T}
 use Rattle.policy.specs.Lists.{implies, every, exists, NoRepeat}
@@ -40,7 +40,7 @@ module _ (L : Layout) (t : Tables) (cs : List Contract) (g : Formed L t) (w : La
           let p = (need_bits L t g).of_prov i j k b in
           let q = contract_of_lem L t g.names st j (g.names.prov_used j k p) in
           (q.0, q.1, q.2.aid ∙ sym (ap (λ (z : Row). z.aid) f), (q.2.provides r.tok).1 (at k p (ap (λ (z : Row). z.tok) f)))
-      go i (RowAt.row n) = absurd (in-nil n)
+      go i (RowAt.row n) = absurd (in_nil n)
 
 -- ---- grants of services that are not provided make no odds
 module _ {A B : Type 0} (f : B → Bool) (g : A → B) where

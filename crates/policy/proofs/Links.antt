@@ -2,7 +2,7 @@
 use mathlib.Core.Path.{◌≡◌, sym, ◌∙◌, subst}
 use mathlib.Core.Bool.{Bool}
 use mathlib.Core.List.{List, map}
-use mathlib.Core.List.Memᴰ.{cast as in-cast}
+use mathlib.Core.List.Memᴰ.{cast as in_cast}
 use mathlib.Core.List.{Memᴰ as In}
 use lib.Dec.{T}
 use Rattle.policy.specs.Lists.{NoRepeat, keep, flat}
@@ -27,7 +27,7 @@ module _ (rows : Contract → List Row) (f : Contract → Row → Bool) where
   pub in_link : (cs : List Contract) (x : Link) (c : Contract) → In c cs → x.owner ≡ c.aid → In x.row (rows c) → T (f c x.row) → In x (links cs)
   in_link cs x c m e mr h =
       let same : x ≡ record { owner = c.aid; row = x.row } = λ i. record { owner = e i; row = x.row } in
-      in_flat links_of m (in-cast same (in_map (λ r. record { owner = c.aid; row = r }) (in_keep (f c) mr h)))
+      in_flat links_of m (in_cast same (in_map (λ r. record { owner = c.aid; row = r }) (in_keep (f c) mr h)))
 
   pub once_links : (cs : List Contract) → NoRepeat (map (λ c. c.aid) cs) → ((c : Contract) → In c cs → NoRepeat (rows c)) → NoRepeat (links cs)
   once_links cs one sets = once_flat links_of cs (once_of_map (λ c. c.aid) cs one)

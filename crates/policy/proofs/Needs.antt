@@ -6,11 +6,11 @@ use mathlib.Core.Logic.Iff
 use mathlib.Core.Logic.{◌⊎◌, inl, inr, ◌↔◌}
 use mathlib.Core.Bool.{Bool, true, false, not, cond}
 use mathlib.Core.List.{List, [], ◌∷◌, map}
-use mathlib.Core.List.Memᴰ.{cases_cons as in-cons}
+use mathlib.Core.List.Memᴰ.{cases_cons as in_cons}
 use mathlib.Core.List.Memᴰ.{head as here}
 use mathlib.Core.List.Memᴰ.{tail as there}
 use mathlib.Core.List.{Memᴰ as In}
-use mathlib.Core.List.Memᴰ.{append_cases as in-append}
+use mathlib.Core.List.Memᴰ.{append_cases as in_append}
 use mathlib.Core.List.Memᴰ.{append_left as in_left}
 use mathlib.Core.List.Memᴰ.{append_right as in_right}
 use mathlib.Core.Option.{Option, none, some}
@@ -106,7 +106,7 @@ module _ (L : Layout) (cs : List Contract) (b a : Aid) (r : Row) where
         (k, mk, ek)
 
     own : (c : Change) → StandsFor L img (effect L cs b c) → Numbered t (decode L img) b c m → Needs (effect L cs b c) a r ↔ NeededBy c r B
-    own (load p c g l) f num = (λ (d, md, ed, h). go d ed h (in-cons md), λ h. (_, here refl, e, h))
+    own (load p c g l) f num = (λ (d, md, ed, h). go d ed h (in_cons md), λ h. (_, here refl, e, h))
       where
         go : (d : Contract) → d.aid ≡ a → In r d.needs → (d ≡ record { aid = b; provides = p; calls = c; grants = g; needs = l }) ⊎ In d cs → In r l
         go d ed h (inl x) = subst (λ (z : Contract). In r z.needs) x h
@@ -118,7 +118,7 @@ module _ (L : Layout) (cs : List Contract) (b a : Aid) (r : Row) where
     own (remove_call x) f num = own_without (remove_call x) x (λ k. refl) (λ k. refl)
     own (add_grant x) f num = own_stays (add_grant x) (λ k. refl) (λ k. refl)
     own (remove_grant x) f num = own_stays (remove_grant x) (λ k. refl) (λ k. refl)
-    own (add_need x) f num = Iff.trans (of_own cs b (altered L (add_need x)) (λ k. refl) a e r) (λ (d, md, ed, h). to d md ed (in-append d.needs h), back)
+    own (add_need x) f num = Iff.trans (of_own cs b (altered L (add_need x)) (λ k. refl) a e r) (λ (d, md, ed, h). to d md ed (in_append d.needs h), back)
       where
         to : (d : Contract) → In d cs → d.aid ≡ a → In r d.needs ⊎ In r (x ∷ []) → B ⊎ (x ≡ r)
         to d md ed (inl h) = inl (was.1 (d, md, ed, h))

@@ -6,7 +6,7 @@ use mathlib.Core.Bool.{Bool, true, false, ◌&&◌}
 use mathlib.Core.List.{List, [], ◌∷◌, ◌++◌, append_assoc, append-nil}
 use mathlib.Core.List.Memᴰ.{append_right as in_right}
 use mathlib.Core.List.Memᴰ.{head as here}
-use mathlib.Core.List.Memᴰ.{not-nil as in-nil}
+use mathlib.Core.List.Memᴰ.{not-nil as in_nil}
 use mathlib.Core.List.Memᴰ.{tail as there}
 use mathlib.Core.List.{Memᴰ as In}
 use mathlib.Core.Option.{Option, none, some}
@@ -118,7 +118,7 @@ module _ {A : Type 0} (P : A → Type 0) (f : A → List ℕ) (p : Reader A) (ok
   Several n s l u = (length l ≡ n) × ((x : A) → In x l → P x) × Starts s (flat f l) u
 
   reads_many : (n : ℕ) (s : List ℕ) → Reads (Several n s) (many p n s)
-  reads_many zero s = (refl, (λ x m. absurd (in-nil m)), starts [] s refl)
+  reads_many zero s = (refl, (λ x m. absurd (in_nil m)), starts [] s refl)
   reads_many (suc n) s =
       reads_then (Took P f s) (Several (suc n) s) (p s) _ (ok s) (λ a t h.
       reads_then (Several n t) (Several (suc n) s) (many p n t) _ (reads_many n t) (λ l u e.

@@ -5,10 +5,10 @@ use mathlib.Core.Path.{◌≡◌, refl, sym, ◌∙◌, subst}
 use mathlib.Core.Logic.{◌⊎◌, inl, inr}
 use mathlib.Core.Bool.{Bool, true, false, not, ◌&&◌, cond}
 use mathlib.Core.List.{List, [], ◌∷◌, map}
-use mathlib.Core.List.Memᴰ.{cases_cons as in-cons}
-use mathlib.Core.List.Memᴰ.{cast as in-cast}
+use mathlib.Core.List.Memᴰ.{cases_cons as in_cons}
+use mathlib.Core.List.Memᴰ.{cast as in_cast}
 use mathlib.Core.List.Memᴰ.{head as here}
-use mathlib.Core.List.Memᴰ.{not-nil as in-nil}
+use mathlib.Core.List.Memᴰ.{not-nil as in_nil}
 use mathlib.Core.List.Memᴰ.{tail as there}
 use mathlib.Core.List.{Memᴰ as In}
 use mathlib.Core.List.Sublistᴰ.{cons as leave}
@@ -59,12 +59,12 @@ module _ (L : Layout) (p : List Tok) (fit : length p ≤ L.services) where
           (λ m. let q = map_in v.tok (upto L.services) m in new (q.0, full q.0 (upto_in L.services q.1), sym q.2)),
           once_map v.tok (upto L.services) (λ x y a b. h.tok_inj x y (full x (upto_in L.services a)) (full y (upto_in L.services b))) (once_upto L.services),
         )
-        (λ x m. each x (in-cons m)) in
+        (λ x m. each x (in_cons m)) in
         omega (arith, fit, le, length-map (upto L.services) v.tok, length_from 0 L.services)
       where
         each : (x : Tok) → (x ≡ s) ⊎ In x (map v.tok (upto L.services)) → In x p
-        each x (inl e) = in-cast e i
-        each x (inr m) = let q = map_in v.tok (upto L.services) m in in-cast q.2 (h.tok_in q.0 (full q.0 (upto_in L.services q.1)))
+        each x (inl e) = in_cast e i
+        each x (inr m) = let q = map_in v.tok (upto L.services) m in in_cast q.2 (h.tok_in q.0 (full q.0 (upto_in L.services q.1)))
 
     takes : (o : Option ℕ) → FreeIs L.services v.provides o → Places v (or_else o v (λ k. record { tok = put k s v.tok; provides = put k true v.provides })) s
     takes none f = absurd (room f)
@@ -77,7 +77,7 @@ module _ (L : Layout) (p : List Tok) (fit : length p ≤ L.services) where
         let back : (y : ℕ) → (y ≡ k → ⊥) → T (w.provides y) → T (v.provides y) = λ y n q. subst T (prov_old y n) q in (
           record {
             prov_lt = λ y. by_number k (λ (z : ℕ). T (w.provides z) → z < L.services) y (λ _. f.0) (λ n q. h.prov_lt y (back y n q));
-            tok_in = λ y. by_number k (λ (z : ℕ). T (w.provides z) → In (w.tok z) p) y (λ _. in-cast tok_new i) (λ n q. in-cast (tok_old y n) (h.tok_in y (back y n q)));
+            tok_in = λ y. by_number k (λ (z : ℕ). T (w.provides z) → In (w.tok z) p) y (λ _. in_cast tok_new i) (λ n q. in_cast (tok_old y n) (h.tok_in y (back y n q)));
             tok_inj = λ y z. by_number k (λ (x : ℕ). T (w.provides x) → T (w.provides z) → w.tok x ≡ w.tok z → x ≡ z) y
                 (by_number k (λ (x : ℕ). T (w.provides k) → T (w.provides x) → w.tok k ≡ w.tok x → k ≡ x) z
                 (λ a b e. refl) (λ n a b e. absurd (new (z, back z n b, sym (tok_old z n) ∙ sym e ∙ tok_new))))
@@ -109,13 +109,13 @@ module _ (L : Layout) (p : List Tok) (fit : length p ≤ L.services) where
 
   place_all : (l : List Tok) → ((s : Tok) → In s l → In s p) → (v : Services) → Some v
       → Some (place_services L v l) × Keeps v (place_services L v l) × ((s : Tok) → In s l → Has (place_services L v l) s)
-  place_all [] sub v h = (h, (λ y u. (u, refl)), (λ s i. absurd (in-nil i)))
+  place_all [] sub v h = (h, (λ y u. (u, refl)), (λ s i. absurd (in_nil i)))
   place_all (s ∷ l) sub v h =
       let a = place_one v h s (sub s (here refl)) in
       let b = place_all l (λ x i. sub x (there i)) (place_service L v s) a.0 in (
         b.0,
         (λ y u. let q = a.1 y u in let r = b.1 y q.0 in (r.0, r.1 ∙ q.1)),
-        (λ x i. has b x (in-cons i)),
+        (λ x i. has b x (in_cons i)),
       )
     where
       has : Some (place_services L (place_service L v s) l) × Keeps (place_service L v s) (place_services L (place_service L v s) l) × ((x : Tok) → In x l → Has (place_services L (place_service L v s) l) x)
@@ -138,9 +138,9 @@ module _ (L : Layout) (p : List Tok) (fit : length p ≤ L.services) where
     record {
       in_order = none_left;
       rising = tt;
-      there = λ k m. absurd (in-nil m);
-      unused = λ k m. absurd (in-nil m);
-      lowest = λ k m. absurd (in-nil m);
+      there = λ k m. absurd (in_nil m);
+      unused = λ k m. absurd (in_nil m);
+      lowest = λ k m. absurd (in_nil m);
       others = λ k u. inr (u, refl);
     },
   )
@@ -223,7 +223,7 @@ module _ (L : Layout) (t : Tables) (n : ℕ) (c : Contract) (f : Formed L t) (fi
   unfolding both
   kept_some = record {
     prov_lt = λ y h. f.names.prov_lt n y (and_l (t.provides n y) (has_tok (t.tok n y) c.provides) h);
-    tok_in = λ y h. in-cast (kept_tok y h) (has_tok_lem (t.tok n y) c.provides (and_r (t.provides n y) (has_tok (t.tok n y) c.provides) h));
+    tok_in = λ y h. in_cast (kept_tok y h) (has_tok_lem (t.tok n y) c.provides (and_r (t.provides n y) (has_tok (t.tok n y) c.provides) h));
     tok_inj = λ y z a b e. f.names.tok_inj n y z (and_l (t.provides n y) (has_tok (t.tok n y) c.provides) a) (and_l (t.provides n z) (has_tok (t.tok n z) c.provides) b)
         (sym (kept_tok y a) ∙ e ∙ kept_tok z b);
     tok_blank = λ y h. cond_false (both y) (t.tok n y) no_tok h;
@@ -255,14 +255,14 @@ module _ (L : Layout) (t : Tables) (n : ℕ) (c : Contract) (f : Formed L t) (fi
         record {
           in_order = subst (λ (l : List Tok). InOrder l p) (λ i. map (λ y. sym (same_tok y) i) taken) r.in_order;
           keep = λ i k u v e.
-              let in_p = in-cast (e ∙ same_tok k) (at.tok_in k (subst T (same_prov k) v)) in
+              let in_p = in_cast (e ∙ same_tok k) (at.tok_in k (subst T (same_prov k) v)) in
               let s = at.stays i u in_p in
               at.tok_inj i k s.0 (subst T (same_prov k) v) (s.1 ∙ e ∙ same_tok k);
           rising = r.rising;
           are_new = λ k m. (
             to k (r.there k m),
             λ i u e.
-                let in_p = in-cast (e ∙ same_tok k) (at.tok_in k (r.there k m)) in
+                let in_p = in_cast (e ∙ same_tok k) (at.tok_in k (r.there k m)) in
                 let s = at.stays i u in_p in
                 let same : i ≡ k = at.tok_inj i k s.0 (r.there k m) (s.1 ∙ e ∙ same_tok k) in
                 r.unused k m (subst (λ (z : ℕ). T (t.provides n z && has_tok (t.tok n z) p)) same (and_i (t.provides n i) (has_tok (t.tok n i) p) u (tok_has in_p))),

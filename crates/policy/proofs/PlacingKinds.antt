@@ -5,7 +5,7 @@ use mathlib.Core.Path.{◌≡◌, refl, sym, ap, ◌∙◌, subst}
 use mathlib.Core.Logic.{◌⊎◌, inl, inr}
 use mathlib.Core.Bool.{Bool, true, false, not, ◌&&◌, ◌||◌, cond}
 use mathlib.Core.List.{List, [], ◌∷◌, ◌++◌, map, map-id}
-use mathlib.Core.List.Memᴰ.{cast as in-cast}
+use mathlib.Core.List.Memᴰ.{cast as in_cast}
 use mathlib.Core.List.Sublistᴰ.{cons-cons as stays}
 use mathlib.Core.List.Sublistᴰ.{refl as All-stay}
 use mathlib.Core.List.Sublistᴰ.{slnil as none_left}
@@ -39,8 +39,8 @@ use Rattle.policy.proofs.KindLoad.{in_order, load_is, load_reached}
 use Rattle.policy.proofs.PlacedServices.{taken_anew}
 use Rattle.policy.proofs.KindReplace.{replace_reached}
 use Rattle.policy.proofs.Dropped.{Without, left_in}
-use Rattle.policy.proofs.KindRemove.{dropping as package-dropped}
-use Rattle.policy.proofs.KindRemoveService.{dropping as service-dropped}
+use Rattle.policy.proofs.KindRemove.{dropping as package_dropped}
+use Rattle.policy.proofs.KindRemoveService.{dropping as service_dropped}
 use Rattle.policy.proofs.PlacingLists.{OldOrNew, stay, keep_order, none_new, none_recorded, recorded, by_numbers, by_firsts, none_by_number}
 
 -- there is one lowest number that is not taken
@@ -205,13 +205,13 @@ module _ (L : Layout) (t : Tables) (fm : Formed L t) (a : Aid) where
       left = λ x m l. l;
       unseen = λ w m o.
           let x = pairs_in wait_for (λ j. t.grants j n) (places L) (numbers L) m in
-          bit_not_waiting L t fm n x.0 x.1 x.2 (in-cast (sym x.3) o);
+          bit_not_waiting L t fm n x.0 x.1 x.2 (in_cast (sym x.3) o);
       ordered = by_numbers (λ j. t.grants j n) wait_for (λ j. t.grants j n) (λ j k b. b) L.services L.packages;
     };
   }
     where
       gone : Without t (remove_at L t n).tables n (λ z. true)
-      gone = (package-dropped L t fm n un).without
+      gone = (package_dropped L t fm n un).without
 
       wait_for : ℕ → ℕ → Waiting
       wait_for j k = record { caller = t.aid n; callee = j; tok = t.tok j k }
@@ -246,7 +246,7 @@ module _ (L : Layout) (t : Tables) (fm : Formed L t) (a : Aid) where
       after false = none_new (keep_order others t.waiting) (none_by_number wait_of (t.grants j))
 
       gone : Without t (remove_service_at L t j k).tables j (λ z. eqb z k)
-      gone = (service-dropped L t fm j k p).without
+      gone = (service_dropped L t fm j k p).without
 
   -- ---- kind 3: service k of package j is new
   module _ (s : Tok) (l : List Aid) (j k : ℕ) (fresh : ProvidesAt t j s → ⊥) (free : FreeIs L.services (t.provides j) (some k)) where

@@ -4,9 +4,9 @@ use mathlib.Core.Path.{◌≡◌, refl, sym, ap, ◌∙◌, subst}
 use mathlib.Core.Logic.{◌⊎◌, inl, inr, ◌↔◌}
 use mathlib.Core.Bool.{Bool, true, false, cond}
 use mathlib.Core.List.{List, [], ◌∷◌, ◌++◌, map, append-nil, map-map, map-append}
-use mathlib.Core.List.Memᴰ.{append_cases as in-append}
+use mathlib.Core.List.Memᴰ.{append_cases as in_append}
 use mathlib.Core.List.Memᴰ.{head as here}
-use mathlib.Core.List.Memᴰ.{not-nil as in-nil}
+use mathlib.Core.List.Memᴰ.{not-nil as in_nil}
 use mathlib.Core.List.Memᴰ.{tail as there}
 use mathlib.Core.List.{Memᴰ as In}
 use mathlib.Core.List.Sublistᴰ.{cons as leave}
@@ -46,10 +46,10 @@ module _ {A : Type 0} where
   -- no row is new
   pub none_new : {before after : List A} {Order : List A → Type 0} → InOrder after before → Order [] → ClosedUp before after (following Order)
   none_new {after} h o =
-      record { stayed = after; new = []; is = sym (append-nil after); in_order = h; left = λ x m l. l; unseen = λ x m. absurd (in-nil m); ordered = o }
+      record { stayed = after; new = []; is = sym (append-nil after); in_order = h; left = λ x m l. l; unseen = λ x m. absurd (in_nil m); ordered = o }
 
   pub none_recorded : (row : A → Row) (owner : A → ℕ) (m : ℕ) (rows : List Row) → AsRecorded row owner m rows []
-  none_recorded row owner m rows = (none_of rows, λ x n. absurd (in-nil n))
+  none_recorded row owner m rows = (none_of rows, λ x n. absurd (in_nil n))
 
 -- ---- new rows in record order
 module _ {A B : Type 0} (f : A → B) (p : A → Bool) (row : B → Row) (owner : B → ℕ) (m : ℕ) (given : A → Row) where
@@ -67,7 +67,7 @@ module _ {A B : Type 0} (f : A → B) (p : A → Bool) (row : B → Row) (owner 
 -- ---- new rows by numbers
 up_append : (l m : List (ℕ × ℕ)) → GoesUp l → GoesUp m → ((p q : ℕ × ℕ) → In p l → In q m → Below p q) → GoesUp (l ++ m)
 up_append [] m u v h = v
-up_append (p ∷ l) m u v h = (λ q n. go q (in-append l n), up_append l m u.1 v (λ x y n o. h x y (there n) o))
+up_append (p ∷ l) m u v h = (λ q n. go q (in_append l n), up_append l m u.1 v (λ x y n o. h x y (there n) o))
   where
     go : (q : ℕ × ℕ) → In q l ⊎ In q m → Below p q
     go q (inl n) = u.0 q n
@@ -138,4 +138,4 @@ by_firsts row bits p k h n = (
 )
 
 pub none_by_number : {A : Type 0} (row : ℕ → ℕ → A) (bits : ℕ → ℕ → Bool) → ByNumber bits row []
-none_by_number row bits = ([], tt, λ q m. absurd (in-nil m), refl)
+none_by_number row bits = ([], tt, λ q m. absurd (in_nil m), refl)

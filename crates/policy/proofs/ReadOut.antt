@@ -6,8 +6,8 @@ use mathlib.Core.Path.{◌≡◌, refl, sym, ap, ◌∙◌, subst}
 use mathlib.Core.Logic.{◌⊎◌, inl, inr}
 use mathlib.Core.Bool.{Bool, not, ◌&&◌, ◌||◌}
 use mathlib.Core.List.{List, [], ◌∷◌, ◌++◌, map}
-use mathlib.Core.List.Memᴰ.{cases_cons as in-cons}
-use mathlib.Core.List.Memᴰ.{not-nil as in-nil}
+use mathlib.Core.List.Memᴰ.{cases_cons as in_cons}
+use mathlib.Core.List.Memᴰ.{not-nil as in_nil}
 use mathlib.Core.List.{Memᴰ as In}
 use mathlib.Core.Option.{some}
 use lib.Dec.{T, eqb}
@@ -34,15 +34,15 @@ use Rattle.policy.proofs.RecordsLength.{load_writable}
 module _ {A : Type 0} (f : ℕ → List A) (most : ℕ) (each : (x : ℕ) → length (f x) ≤ most) where
   -- one of them is empty
   length_flat_but : (n : ℕ) → f n ≡ [] → (l : List ℕ) → In n l → length (flat f l) ≤ (length l - 1) * most
-  length_flat_but n e [] m = absurd (in-nil m)
-  length_flat_but n e (x ∷ l) m = go (in-cons m) (length_flat_but n e l)
+  length_flat_but n e [] m = absurd (in_nil m)
+  length_flat_but n e (x ∷ l) m = go (in_cons m) (length_flat_but n e l)
     where
       less : (l : List ℕ) → suc (length l) - 1 ≡ length l
       less l = omega arith
 
       -- n stands further on, so the rest is not empty
       more : (l : List ℕ) → In n l → length (flat f l) ≤ (length l - 1) * most → length (f x) + length (flat f l) ≤ length l * most
-      more [] p h = absurd (in-nil p)
+      more [] p h = absurd (in_nil p)
       more (y ∷ l) p h =
           let a = each x in
           let b : length (flat f (y ∷ l)) ≤ length l * most = subst (λ (z : ℕ). length (flat f (y ∷ l)) ≤ z * most) (less l) h in
@@ -134,7 +134,7 @@ module _ (L : Layout) (lo : LayoutOk L) (t : Tables) (g : Formed L t) (ru : Rule
     where
       go : RowAt t t.needs [] n r → In r c.calls
       go (RowAt.bit j k b e) = (calls_at L t g n r).1 (RowAt.bit j k (g.need_call n j k b) e)
-      go (RowAt.row p) = absurd (in-nil p)
+      go (RowAt.row p) = absurd (in_nil p)
 
   grant_other : (r : Row) → In r c.grants → Other r
   grant_other r m = go ((grants_at_lem L t g n r).0 m)

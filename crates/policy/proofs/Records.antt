@@ -3,7 +3,7 @@ use Prim.Native.Nat.{ℕ, zero, suc, ◌≤◌, ◌<◌}
 use native.Mathlib.Omega.{arith}
 use mathlib.Core.Path.{◌≡◌, refl}
 use mathlib.Core.List.{List}
-use mathlib.Core.List.Memᴰ.{not-nil as in-nil}
+use mathlib.Core.List.Memᴰ.{not-nil as in_nil}
 use mathlib.Core.List.{Memᴰ as In}
 use mathlib.Core.Option.{Option, none, some}
 use lib.Dec.{T, lit≤}
@@ -79,7 +79,7 @@ module _ (L : Layout) where
       (tt, (same (ValidTok L) L.services no_tok v, rows, rows, rows))
     where
       each_same : {A : Type 0} (P : A → Type 0) (n : ℕ) (x : A) → P x → (y : A) → In y (replicate n x) → P y
-      each_same P zero x h = λ y m. absurd (in-nil m)
+      each_same P zero x h = λ y m. absurd (in_nil m)
       each_same P (suc n) x h = each_cons P x (replicate n x) h (each_same P n x h)
 
       same : {A : Type 0} (P : A → Type 0) (n : ℕ) (x : A) → P x → AtMost n P (replicate n x)

@@ -7,7 +7,7 @@ use mathlib.Core.Logic.{◌⊎◌, inl, inr}
 use mathlib.Core.Bool.{Bool, false, ◌&&◌}
 use mathlib.Core.Option.{Option, none, some}
 use mathlib.Core.List.{List, [], ◌++◌, map, append_assoc, append-nil}
-use mathlib.Core.List.Memᴰ.{not-nil as in-nil}
+use mathlib.Core.List.Memᴰ.{not-nil as in_nil}
 use mathlib.Core.List.{Memᴰ as In}
 use lib.Dec.{T}
 use lib.ListN.{length, get_or, take, drop, replicate, length-append}
@@ -296,17 +296,17 @@ empty_formed L = record {
   need_call = λ i j k s. s;
   unmet = record {
     off = no_rows empty_tables;
-    unmet_valid = λ u i. absurd (in-nil i);
-    unmet_other = λ u i e. in-nil i;
+    unmet_valid = λ u i. absurd (in_nil i);
+    unmet_other = λ u i e. in_nil i;
     unmet_once = tt;
   };
   waiting = record
-      { wait_valid = λ v i. absurd (in-nil i); wait_used = λ v i. absurd (in-nil i); wait_other = λ v i e. in-nil i; wait_off = λ v i n k u e p f. u; wait_once = tt };
+      { wait_valid = λ v i. absurd (in_nil i); wait_used = λ v i. absurd (in_nil i); wait_other = λ v i e. in_nil i; wait_off = λ v i n k u e p f. u; wait_once = tt };
 }
 
 pub empty_ruled : (L : Layout) → Ruled L empty_tables
 empty_ruled L = record
-    { provided = λ j k s. absurd s; unmet = λ u i. absurd (in-nil i); waiting = λ w i. absurd (in-nil i); own = λ late w i. absurd (in-nil i) }
+    { provided = λ j k s. absurd s; unmet = λ u i. absurd (in_nil i); waiting = λ w i. absurd (in_nil i); own = λ late w i. absurd (in_nil i) }
 
 pub empty_fitting : (L : Layout) → Fitting L empty_tables
 empty_fitting L = record { unmet_fits = zero-le; waiting_fits = zero-le }

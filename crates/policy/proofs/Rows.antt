@@ -6,10 +6,10 @@ use mathlib.Core.Bool.{Bool, true, false, not}
 use mathlib.Core.List.{List, [], ◌∷◌, ◌++◌}
 use mathlib.Core.List.Memᴰ.{head as here}
 use mathlib.Core.List.{Memᴰ as In}
-use mathlib.Core.List.Memᴰ.{append_cases as in-append}
+use mathlib.Core.List.Memᴰ.{append_cases as in_append}
 use mathlib.Core.List.Memᴰ.{append_left as in_left}
 use mathlib.Core.List.Memᴰ.{append_right as in_right}
-use mathlib.Core.List.Memᴰ.{cast as in-cast}
+use mathlib.Core.List.Memᴰ.{cast as in_cast}
 use mathlib.Core.Option.{none, some}
 use lib.Dec.{T}
 use Rattle.policy.specs.Lists.{keep}
@@ -47,7 +47,7 @@ module _ (t t' : Tables) (same : (j k : ℕ) → service_at t j k ≡ service_at
 
       to : RowAt t' b (l ++ (call_row i r ∷ [])) n x → RowAt t b l n x ⊎ ((n ≡ i) × (x ≡ r))
       to (bit j k h e) = inl (bit j k h (e ∙ sym (same j k)))
-      to (row m) = among (in-append l m)
+      to (row m) = among (in_append l m)
 
       back : RowAt t b l n x ⊎ ((n ≡ i) × (x ≡ r)) → RowAt t' b (l ++ (call_row i r ∷ [])) n x
       back (inl (bit j k h e)) = bit j k h (e ∙ same j k)
@@ -103,7 +103,7 @@ module _ (t t' : Tables) (same : (j k : ℕ) → service_at t j k ≡ service_at
                   let s = one_place y z (subst (λ (w : ℕ). T (b w y z)) q.0 p.0) (same y z ∙ sym e ∙ q.1 ∙ is) in
                   p.1 (q.0, s.0, s.1),
             )
-        to (row m) = (row m, λ q. no_row (in-cast (λ z. call_row (sym q.0 z) (sym q.1 z)) m))
+        to (row m) = (row m, λ q. no_row (in_cast (λ z. call_row (sym q.0 z) (sym q.1 z)) m))
 
         back : RowAt t b l n x → ((n ≡ i) × (x ≡ r) → ⊥) → RowAt t' (put3 i j k false b) l n x
         back (bit y z h e) ne = bit y z ((put3_less i j k b n y z).1 (h, λ q. ne (q.0, e ∙ (λ w. service_at t (q.1 w) (q.2 w)) ∙ sym is))) (e ∙ same y z)

@@ -4,7 +4,7 @@ use mathlib.Core.Path.{◌≡◌, refl, sym, ap, ◌∙◌, subst}
 use mathlib.Core.Logic.{◌⊎◌, inl, inr}
 use mathlib.Core.Bool.{Bool, true, false, not, ◌&&◌, ◌||◌, cond}
 use mathlib.Core.List.{List, [], ◌∷◌, ◌++◌, map}
-use mathlib.Core.List.Memᴰ.{cases_cons as in-cons}
+use mathlib.Core.List.Memᴰ.{cases_cons as in_cons}
 use mathlib.Core.List.Memᴰ.{head as here}
 use mathlib.Core.List.{Memᴰ as In}
 use mathlib.Core.List.Memᴰ.{append_left as in_left}
@@ -136,7 +136,7 @@ module _ (L : Layout) (cs : List Contract) (a : Aid) (al : AllAllowed L cs) (one
 
   pub effect_allowed : (c : Change) → WithinChange L c → T (proper L a c) → answer (causes4to7 L cs a c) ≡ 0 → AllAllowed L (effect L cs a c)
   unfolding proper
-  effect_allowed (load p c g n) w pr e = λ d m. go d (in-cons m)
+  effect_allowed (load p c g n) w pr e = λ d m. go d (in_cons m)
     where
       go : (d : Contract) → (d ≡ record { aid = a; provides = p; calls = c; grants = g; needs = n }) ⊎ In d cs → Allowed L d
       go d (inl q) = subst (Allowed L) (sym q) (contract_allowed a p c g n w pr)

@@ -6,16 +6,16 @@ use mathlib.Core.Path.{◌≡◌, refl, sym, ap, ◌∙◌, subst}
 use mathlib.Core.Logic.{◌⊎◌, inl, inr, ◌↔◌}
 use mathlib.Core.Bool.{Bool, true, false, not, ◌&&◌, ◌||◌, cond}
 use mathlib.Core.List.{List, [], ◌∷◌, ◌++◌, map, append_assoc}
-use mathlib.Core.List.Memᴰ.{cases_cons as in-cons}
+use mathlib.Core.List.Memᴰ.{cases_cons as in_cons}
 use mathlib.Core.List.Memᴰ.{head as here}
-use mathlib.Core.List.Memᴰ.{not-nil as in-nil}
+use mathlib.Core.List.Memᴰ.{not-nil as in_nil}
 use mathlib.Core.List.Memᴰ.{tail as there}
 use mathlib.Core.List.{Memᴰ as In}
 use mathlib.Core.List.Memᴰ
-use mathlib.Core.List.Memᴰ.{append_cases as in-append}
+use mathlib.Core.List.Memᴰ.{append_cases as in_append}
 use mathlib.Core.List.Memᴰ.{append_left as in_left}
 use mathlib.Core.List.Memᴰ.{append_right as in_right}
-use mathlib.Core.List.Memᴰ.{cast as in-cast}
+use mathlib.Core.List.Memᴰ.{cast as in_cast}
 use mathlib.Core.Option.{Option, none, some}
 use lib.Dec.{T, eqb, eqb→eq, eqb_refl}
 use lib.ListN.{length, get_or, length-append}
@@ -149,24 +149,24 @@ module _ {A : Type 0} where
 
   -- an element that stands behind others is not among them
   pub once_behind : (a : List A) (s : A) (b : List A) → NoRepeat (a ++ (s ∷ b)) → In s a → ⊥
-  once_behind [] s b n i = in-nil i
-  once_behind (x ∷ a) s b n i = go (in-cons i) (λ m. once_behind a s b n.1 m)
+  once_behind [] s b n i = in_nil i
+  once_behind (x ∷ a) s b n i = go (in_cons i) (λ m. once_behind a s b n.1 m)
     where
       go : (s ≡ x) ⊎ In s a → (In s a → ⊥) → ⊥
       go (inl e) f = n.0 (in_right a (here (sym e)))
       go (inr m) f = f m
 
   pub once_snoc : (xs : List A) (x : A) → NoRepeat xs → (In x xs → ⊥) → NoRepeat (xs ++ (x ∷ []))
-  once_snoc [] x d h = (in-nil, tt)
-  once_snoc (y ∷ ys) x d h = (λ m. out (in-append ys m), once_snoc ys x d.1 (λ m. h (there m)))
+  once_snoc [] x d h = (in_nil, tt)
+  once_snoc (y ∷ ys) x d h = (λ m. out (in_append ys m), once_snoc ys x d.1 (λ m. h (there m)))
     where
       last : (y ≡ x) ⊎ In y [] → ⊥
       last (inl e) = h (here (sym e))
-      last (inr m) = in-nil m
+      last (inr m) = in_nil m
 
       out : In y ys ⊎ In y (x ∷ []) → ⊥
       out (inl m) = d.0 m
-      out (inr m) = last (in-cons m)
+      out (inr m) = last (in_cons m)
 
   -- ---- two lists without repetitions that have the same members are equally long
   del : {x : A} {ys : List A} → In x ys → List A
@@ -180,12 +180,12 @@ module _ {A : Type 0} where
 
   in_del : {x z : A} {ys : List A} (m : In x ys) → In z ys → (z ≡ x) ⊎ In z (del m)
   unfolding del
-  in_del {x} {z} (here {x = y} {xs = ys} e) n = go (in-cons n)
+  in_del {x} {z} (here {x = y} {xs = ys} e) n = go (in_cons n)
     where
       go : (z ≡ y) ⊎ In z ys → (z ≡ x) ⊎ In z ys
       go (inl f) = inl (f ∙ sym e)
       go (inr p) = inr p
-  in_del {x} {z} (there {x = y} {xs = ys} m) n = go (λ p. in_del m p) (in-cons n)
+  in_del {x} {z} (there {x = y} {xs = ys} m) n = go (λ p. in_del m p) (in_cons n)
     where
       up : (z ≡ x) ⊎ In z (del m) → (z ≡ x) ⊎ In z (y ∷ del m)
       up (inl e) = inl e
@@ -203,7 +203,7 @@ module _ {A : Type 0} where
       omega (arith, len_del m)
     where
       other : {zs : List A} {z : A} → In z xs → (z ≡ x) ⊎ In z zs → In z zs
-      other n (inl e) = absurd (d.0 (in-cast (sym e) n))
+      other n (inl e) = absurd (d.0 (in_cast (sym e) n))
       other n (inr p) = p
 
   pub same_length : (xs ys : List A) → NoRepeat xs → NoRepeat ys → ((x : A) → In x xs → In x ys) → ((x : A) → In x ys → In x xs) → length xs ≡ length ys
@@ -221,8 +221,8 @@ module _ {A : Type 0} where
     at e t = subst (λ (z : A). T (f z)) (sym e) t
 
     pub every_in : (l : List A) → T (every f l) → {x : A} → In x l → T (f x)
-    every_in [] t m = absurd (in-nil m)
-    every_in (y ∷ ys) t {x} m = go (λ n. every_in ys (and_r (f y) (every f ys) t) n) (in-cons m)
+    every_in [] t m = absurd (in_nil m)
+    every_in (y ∷ ys) t {x} m = go (λ n. every_in ys (and_r (f y) (every f ys) t) n) (in_cons m)
       where
         go : (In x ys → T (f x)) → (x ≡ y) ⊎ In x ys → T (f x)
         go ih (inl e) = at e (and_l (f y) (every f ys) t)
@@ -248,7 +248,7 @@ module _ {A : Type 0} where
     in_exists (there {x = y} {xs = ys} m) t = or_r (f y) (exists f ys) (in_exists m t)
 
     pub keep_in : (l : List A) {x : A} → In x (keep f l) → In x l × T (f x)
-    keep_in [] m = absurd (in-nil m)
+    keep_in [] m = absurd (in_nil m)
     keep_in (y ∷ ys) {x} m = go (f y) refl (λ n. keep_in ys n) m
       where
         cons : f y ≡ true → (In x (keep f ys) → In x ys × T (f x)) → (x ≡ y) ⊎ In x (keep f ys) → In x (y ∷ ys) × T (f x)
@@ -256,7 +256,7 @@ module _ {A : Type 0} where
         cons q ih (inr n) = let p = ih n in (there p.0, p.1)
 
         go : (b : Bool) → f y ≡ b → (In x (keep f ys) → In x ys × T (f x)) → In x (cond b (y ∷ keep f ys) (keep f ys)) → In x (y ∷ ys) × T (f x)
-        go true q ih n = cons q ih (in-cons n)
+        go true q ih n = cons q ih (in_cons n)
         go false q ih n = let p = ih n in (there p.0, p.1)
 
     pub in_keep : {x : A} {l : List A} → In x l → T (f x) → In x (keep f l)
@@ -297,7 +297,7 @@ module _ {A : Type 0} where
     Found l (some x) = In x l × T (f x)
 
     pub found : (l : List A) → Found l (first f l)
-    found [] = λ x m t. in-nil m
+    found [] = λ x m t. in_nil m
     found (y ∷ ys) = go (f y) refl (first f ys) (found ys)
       where
         miss : {x : A} → f y ≡ false → Found ys none → T (f x) → (x ≡ y) ⊎ In x ys → ⊥
@@ -305,7 +305,7 @@ module _ {A : Type 0} where
         miss {x} q h t (inr n) = h x n t
 
         up : (r : Option A) → f y ≡ false → Found ys r → Found (y ∷ ys) r
-        up none q h = λ x m t. miss q h t (in-cons m)
+        up none q h = λ x m t. miss q h t (in_cons m)
         up (some x) q h = (there h.0, h.1)
 
         go : (b : Bool) → f y ≡ b → (r : Option A) → Found ys r → Found (y ∷ ys) (cond b (some y) r)
@@ -322,17 +322,17 @@ module _ {A B : Type 0} (f : A → B) where
 
   pub once_map : (l : List A) → ((x y : A) → In x l → In y l → f x ≡ f y → x ≡ y) → NoRepeat l → NoRepeat (map f l)
   once_map [] inj d = tt
-  once_map (x ∷ xs) inj d = (λ m. let p = map_in xs m in d.0 (in-cast (inj x p.0 (here refl) (there p.1) p.2) p.1), once_map xs (λ y z m n. inj y z (there m) (there n)) d.1)
+  once_map (x ∷ xs) inj d = (λ m. let p = map_in xs m in d.0 (in_cast (inj x p.0 (here refl) (there p.1) p.2) p.1), once_map xs (λ y z m n. inj y z (there m) (there n)) d.1)
 
   -- f differs on a list whose image does not repeat, and the list does not repeat either, nor what is kept of it
   pub map_inj : (l : List A) → NoRepeat (map f l) → {x y : A} → In x l → In y l → f x ≡ f y → x ≡ y
-  map_inj [] d m n e = absurd (in-nil m)
-  map_inj (z ∷ l) d {x} {y} m n e = go (λ p q. map_inj l d.1 p q e) (in-cons m) (in-cons n)
+  map_inj [] d m n e = absurd (in_nil m)
+  map_inj (z ∷ l) d {x} {y} m n e = go (λ p q. map_inj l d.1 p q e) (in_cons m) (in_cons n)
     where
       go : (In x l → In y l → x ≡ y) → (x ≡ z) ⊎ In x l → (y ≡ z) ⊎ In y l → x ≡ y
       go ih (inl p) (inl q) = p ∙ sym q
-      go ih (inl p) (inr q) = absurd (d.0 (in-cast (ap f (sym p) ∙ e) (in_map q)))
-      go ih (inr p) (inl q) = absurd (d.0 (in-cast (ap f (sym q) ∙ sym e) (in_map p)))
+      go ih (inl p) (inr q) = absurd (d.0 (in_cast (ap f (sym p) ∙ e) (in_map q)))
+      go ih (inr p) (inl q) = absurd (d.0 (in_cast (ap f (sym q) ∙ sym e) (in_map p)))
       go ih (inr p) (inr q) = ih p q
 
   pub once_of_map : (l : List A) → NoRepeat (map f l) → NoRepeat l
@@ -355,8 +355,8 @@ module _ {A B : Type 0} (f : A → List B) where
   in_flat (there {x = z} m) n = in_right (f z) (in_flat m n)
 
   pub flat_in : (l : List A) {y : B} → In y (flat f l) → (x : A) × In x l × In y (f x)
-  flat_in [] m = absurd (in-nil m)
-  flat_in (z ∷ l) {y} m = go (λ n. flat_in l n) (in-append (f z) m)
+  flat_in [] m = absurd (in_nil m)
+  flat_in (z ∷ l) {y} m = go (λ n. flat_in l n) (in_append (f z) m)
     where
       up : (x : A) × In x l × In y (f x) → (x : A) × In x (z ∷ l) × In y (f x)
       up p = (p.0, there p.1, p.2)
@@ -388,7 +388,7 @@ module _ {A B : Type 0} (f : A → List B) where
 module _ {A : Type 0} where
   pub once_append : (l m : List A) → NoRepeat l → NoRepeat m → ((x : A) → In x l → In x m → ⊥) → NoRepeat (l ++ m)
   once_append [] m d e h = e
-  once_append (y ∷ l) m d e h = (λ n. out (in-append l n), once_append l m d.1 e (λ x a b. h x (there a) b))
+  once_append (y ∷ l) m d e h = (λ n. out (in_append l n), once_append l m d.1 e (λ x a b. h x (there a) b))
     where
       out : In y l ⊎ In y m → ⊥
       out (inl n) = d.0 n
@@ -396,21 +396,21 @@ module _ {A : Type 0} where
 
   -- each of two appended lists, and of one with an element more at its end
   pub each_append : {P : A → Type 0} (l m : List A) → ((x : A) → In x l → P x) → ((x : A) → In x m → P x) → (x : A) → In x (l ++ m) → P x
-  each_append {P} l m f g x n = go (in-append l n)
+  each_append {P} l m f g x n = go (in_append l n)
     where
       go : In x l ⊎ In x m → P x
       go (inl p) = f x p
       go (inr p) = g x p
 
   pub each_cons : (P : A → Type 0) (y : A) (l : List A) → P y → ((x : A) → In x l → P x) → (x : A) → In x (y ∷ l) → P x
-  each_cons P y l h f x n = go (in-cons n)
+  each_cons P y l h f x n = go (in_cons n)
     where
       go : (x ≡ y) ⊎ In x l → P x
       go (inl e) = subst P (sym e) h
       go (inr p) = f x p
 
   pub each_one : (P : A → Type 0) (y : A) → P y → (x : A) → In x (y ∷ []) → P x
-  each_one P y h = each_cons P y [] h (λ x m. absurd (in-nil m))
+  each_one P y h = each_cons P y [] h (λ x m. absurd (in_nil m))
 
   pub each_snoc : {P : A → Type 0} (l : List A) (y : A) → ((x : A) → In x l → P x) → P y → (x : A) → In x (l ++ (y ∷ [])) → P x
   each_snoc {P} l y f h = each_append {P = P} l (y ∷ []) f (each_one P y h)
@@ -418,7 +418,7 @@ module _ {A : Type 0} where
   -- ---- membership by a test
   module _ (eq : A → A → Bool) (eq→ : (x y : A) → T (eq x y) → x ≡ y) (eq_refl : (x : A) → T (eq x x)) where
     pub has_in : (x : A) (l : List A) → T (exists (eq x) l) → In x l
-    has_in x l t = let p = exists_in (eq x) l t in in-cast (eq→ x p.0 p.2) p.1
+    has_in x l t = let p = exists_in (eq x) l t in in_cast (eq→ x p.0 p.2) p.1
 
     pub in_has : {x : A} {l : List A} → In x l → T (exists (eq x) l)
     in_has {x} m = in_exists (eq x) m (eq_refl x)
@@ -443,7 +443,7 @@ module _ {A B : Type 0} (f : A → List B) where
   once_flat [] d e h = tt
   once_flat (x ∷ l) d e h =
       once_append (f x) (flat f l) (e x (here refl)) (once_flat l d.1 (λ y m. e y (there m)) (λ y z w m n p q. h y z w (there m) (there n) p q))
-      (λ z m n. let p = flat_in f l n in d.0 (in-cast (h x p.0 z (here refl) (there p.1) m p.2) p.1))
+      (λ z m n. let p = flat_in f l n in d.0 (in_cast (h x p.0 z (here refl) (there p.1) m p.2) p.1))
 
 -- ---- the elements g i k of the pairs that pass f, i of m and k of l
 module _ {B : Type 0} (g : ℕ → ℕ → B) (f : ℕ → ℕ → Bool) (l m : List ℕ) where
@@ -473,8 +473,8 @@ length_from i zero = refl
 length_from i (suc n) = ap suc (length_from (suc i) n)
 
 pub from_in : (i n : ℕ) {x : ℕ} → In x (from i n) → (i ≤ x) × (x < i + n)
-from_in i zero m = absurd (in-nil m)
-from_in i (suc n) {x} m = go (λ q. from_in (suc i) n q) (in-cons m)
+from_in i zero m = absurd (in_nil m)
+from_in i (suc n) {x} m = go (λ q. from_in (suc i) n q) (in_cons m)
   where
     go : (In x (from (suc i) n) → (suc i ≤ x) × (x < suc i + n)) → (x ≡ i) ⊎ In x (from (suc i) n) → (i ≤ x) × (x < i + suc n)
     go ih (inl e) = omega arith

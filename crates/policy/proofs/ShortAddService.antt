@@ -5,7 +5,7 @@ use mathlib.Core.Path.{◌≡◌, refl, sym}
 use mathlib.Core.Logic.{inl, inr}
 use mathlib.Core.Bool.{Bool, not, ◌&&◌, ◌||◌}
 use mathlib.Core.List.{List}
-use mathlib.Core.List.Memᴰ.{cast as in-cast}
+use mathlib.Core.List.Memᴰ.{cast as in_cast}
 use mathlib.Core.Option.{some}
 use lib.Dec.{T}
 use lib.ListN.{length}
@@ -62,7 +62,7 @@ module _ (L : Layout) (t : Tables) (formed : Formed L t) (lawful : Lawful t) (fi
             let d = eq_tok u.tok s in
             let e = eq_aid→ u.callee (t.aid j) (and_l c d q) in
             let f = eq_tok→ u.tok s (and_r c d q) in
-            let bit = (old_or_new j k t.calls asked x j k).1 (inr (refl, refl, unmet_has (in-cast (λ z. record { callee = sym e z; tok = sym f z; caller = x }) i))) in
+            let bit = (old_or_new j k t.calls asked x j k).1 (inr (refl, refl, unmet_has (in_cast (λ z. record { callee = sym e z; tok = sym f z; caller = x }) i))) in
             let within : BitIn L x j k = (formed.names.used_lt x (formed.unmet.off.off_used u i), formed.names.used_lt j uj, free.0) in
             allows x ((old_or_new j k (grant_bit t) given x j k).0 (among_to L after.calls (grant_bit after) h x j k within bit))))
           where

@@ -4,7 +4,7 @@ use mathlib.Core.Path.{◌≡◌, refl, sym, ap, ◌∙◌, subst}
 use mathlib.Core.Logic.{◌⊎◌, inl, inr}
 use mathlib.Core.Bool.{Bool, true, false, not, ◌&&◌, ◌||◌, and-true}
 use mathlib.Core.List.{List, ◌++◌, map}
-use mathlib.Core.List.Memᴰ.{cast as in-cast}
+use mathlib.Core.List.Memᴰ.{cast as in_cast}
 use mathlib.Core.List.{Memᴰ as In}
 use mathlib.Core.Option.{Option, none, some}
 use lib.Dec.{T, eqb, eqb→eq, eqb_refl}
@@ -141,7 +141,7 @@ module _ (L : Layout) (t : Tables) (m : ℕ) (k : Contract) (now : Services) (ne
       stands : (p : Place) (s : Tok) → (p.callee ≡ m → ⊥) → t.tok p.callee p.service ≡ s → GrantIs L t m k now p.callee m p.service → T (granted_at L t m k s p)
       stands p s ne e (GrantIs.own q _ _ _) = absurd (ne q)
       stands p s ne e (GrantIs.waited _ _ _ i) =
-          or_r (t.grants p.callee m p.service) (has_waiting (to_it L t m k p.callee s) t.waiting) (waiting_has (in-cast (λ z. to_it L t m k p.callee (sym e z)) i))
+          or_r (t.grants p.callee m p.service) (has_waiting (to_it L t m k p.callee s) t.waiting) (waiting_has (in_cast (λ z. to_it L t m k p.callee (sym e z)) i))
       stands p s ne e (GrantIs.old _ g) = or_l (t.grants p.callee m p.service) (has_waiting (to_it L t m k p.callee s) t.waiting) g
 
       go : (r : Row) → In r k.calls → (o : Option Place) → ServerIs t r o → T (right_of L t m k r o)
@@ -152,7 +152,7 @@ module _ (L : Layout) (t : Tables) (m : ℕ) (k : Contract) (now : Services) (ne
           let b = place_in L t new.formed.names y z q.0 in
           let ne = elsewhere y (new.formed.names.prov_used y z q.0) (λ e. new.lists.calls_other r i (sym q.1 ∙ e)) in
           let s = service_kept L t m k now new y z q.0 (λ g. ne (eqb→eq y m (and_l (eqb y m) (dropped L t m k now z) g))) in
-          stands p r.tok ne q.2 (right h m y z (new.number_lt, b.0, b.1) (CallIs.own refl (s.0, in-cast (s.1 ∙ row_path q.1 q.2) i)))
+          stands p r.tok ne q.2 (right h m y z (new.number_lt, b.0, b.1) (CallIs.own refl (s.0, in_cast (s.1 ∙ row_path q.1 q.2) i)))
 
   others : T full → T (others_rights L t k)
   others h = in_every (λ u. implies (now_met L t k u) (has_row (right_by u) k.grants)) t.unmet (λ u i. implies_i (now_met L t k u) (has_row (right_by u) k.grants) (λ q.
@@ -164,10 +164,10 @@ module _ (L : Layout) (t : Tables) (m : ℕ) (k : Contract) (now : Services) (ne
       let w = new.formed.unmet.off.off_used u i in
       let ne = elsewhere u.caller w (λ x. new.formed.unmet.unmet_other u i (a ∙ sym x)) in
       grants u f.0 f.2 (right h u.caller m f.0 (new.formed.names.used_lt u.caller w, new.number_lt, new_lt L t m k now new f.0 f.1)
-      (CallIs.met ne refl f.1 (in-cast (λ x. record { callee = sym e x; tok = f.2 x; caller = u.caller }) i)))))
+      (CallIs.met ne refl f.1 (in_cast (λ x. record { callee = sym e x; tok = f.2 x; caller = u.caller }) i)))))
     where
       grants : (u : Unmet) (z : ℕ) → names.tok m z ≡ u.tok → GrantIs L t m k now m u.caller z → T (has_row (right_by u) k.grants)
-      grants u z f (GrantIs.own e p v i) = row_has (in-cast (row_path refl (sym f)) i)
+      grants u z f (GrantIs.own e p v i) = row_has (in_cast (row_path refl (sym f)) i)
       grants u z f (GrantIs.waited n _ _ _) = absurd (n refl)
       grants u z f (GrantIs.old n _) = absurd (n refl)
 
@@ -188,7 +188,7 @@ module _ (L : Layout) (t : Tables) (m : ℕ) (k : Contract) (now : Services) (ne
       test x z = implies (kept_call L t m k x z) (kept_right L t m k x z)
 
       grants : (x z : ℕ) → names.tok m z ≡ t.tok m z → GrantIs L t m k now m x z → T (kept_right L t m k x z)
-      grants x z f (GrantIs.own e p v i) = row_has (in-cast (row_path refl (sym f)) i)
+      grants x z f (GrantIs.own e p v i) = row_has (in_cast (row_path refl (sym f)) i)
       grants x z f (GrantIs.waited n _ _ _) = absurd (n refl)
       grants x z f (GrantIs.old n _) = absurd (n refl)
 
@@ -206,7 +206,7 @@ module _ (L : Layout) (t : Tables) (m : ℕ) (k : Contract) (now : Services) (ne
 
       granted : (v w : ℕ) → y ≡ v → z ≡ w → T (t.grants v m w) ⊎ T (has_waiting (to_it L t m k v (names.tok y z)) t.waiting) → GrantIs L t m k now y x z
       granted v w ev ew (inl g) = GrantIs.old ne (subst (λ (i : ℕ). T (t.grants y i z)) (sym e) (subst (λ (i : ℕ). T (t.grants i m z)) (sym ev) (subst (λ (i : ℕ). T (t.grants v m i)) (sym ew) g)))
-      granted v w ev ew (inr g) = GrantIs.waited ne e p (in-cast (λ i. to_it L t m k (ev i) (sym (l.tok_old y z ne) i)) (has_waiting_lem (to_it L t m k v (names.tok y z)) t.waiting g))
+      granted v w ev ew (inr g) = GrantIs.waited ne e p (in_cast (λ i. to_it L t m k (ev i) (sym (l.tok_old y z ne) i)) (has_waiting_lem (to_it L t m k v (names.tok y z)) t.waiting g))
 
       go : (o : Option Place) → ServerIs t (service_at names y z) o → T (right_of L t m k (service_at names y z) o) → GrantIs L t m k now y x z
       go none q s = absurd (q y z p (sym (l.aid_old y ne)) (sym (l.tok_old y z ne)))
@@ -229,7 +229,7 @@ module _ (L : Layout) (t : Tables) (m : ℕ) (k : Contract) (now : Services) (ne
           let stays = not_i (dropped L t m k now z) (λ d. g (and_i (eqb m m) (dropped L t m k now z) (eqb_refl m) d)) in
           let q = every_in (λ z. implies (kept_call L t m k x z) (kept_right L t m k x z)) (places L)
           (every_in (λ x. every (λ z. implies (kept_call L t m k x z) (kept_right L t m k x z)) (places L)) (numbers L) c (in_upto L.packages x i.0)) (in_upto L.services z i.2) in
-          GrantIs.own refl s.0 (new.formed.calls.by_used x m z h) (in-cast (row_path refl (ap (λ (r : Row). r.tok) s.1))
+          GrantIs.own refl s.0 (new.formed.calls.by_used x m z h) (in_cast (row_path refl (ap (λ (r : Row). r.tok) s.1))
           (has_row_lem (record { aid = t.aid x; tok = t.tok m z }) k.grants (implies_e (kept_call L t m k x z) (kept_right L t m k x z) q (and_i (t.calls x m z) (not (dropped L t m k now z)) h stays))))
 
   granted_same : Lawful t → full ≡ (its_rights L t m k && (others_rights L t k && kept_rights L t m k))

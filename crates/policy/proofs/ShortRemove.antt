@@ -4,7 +4,7 @@ use native.Mathlib.Nat.{le_trans}
 use mathlib.Core.Path.{◌≡◌, ap, ◌∙◌, subst}
 use mathlib.Core.Bool.{Bool, true, false, not, ◌&&◌, ◌||◌, cond, and-true}
 use mathlib.Core.List.{◌++◌, map}
-use mathlib.Core.List.Memᴰ.{cast as in-cast}
+use mathlib.Core.List.Memᴰ.{cast as in_cast}
 use mathlib.Core.List.{Memᴰ as In}
 use lib.Dec.{T, eqb, eqb→eq, eqb_refl, leb}
 use lib.ListN.{length, length-append, length-map}
@@ -21,8 +21,8 @@ use Rattle.policy.proofs.Formed.{Bits, Formed, Lawful, Fitting, KindShort}
 use Rattle.policy.proofs.Facts.{need_bits}
 use Rattle.policy.proofs.Reach.{reach_2, reach_4}
 use Rattle.policy.proofs.Dropped.{left_in, in_left_by, once_left, lawful_dropped}
-use Rattle.policy.proofs.KindRemove.{dropping as dropping-2}
-use Rattle.policy.proofs.KindRemoveService.{dropping as dropping-4}
+use Rattle.policy.proofs.KindRemove.{dropping as dropping_2}
+use Rattle.policy.proofs.KindRemoveService.{dropping as dropping_4}
 use Rattle.policy.proofs.Short.{nil_length, none_pass, none_pairs, length_pairs, left_count, look_is, fits, fits_as, granted}
 
 module _ (L : Layout) (t : Tables) where
@@ -50,19 +50,19 @@ module _ (L : Layout) (t : Tables) where
         to u m =
             let p = left_in L t fm.names j (λ z. eqb z k) b bits m in
             let e : p.1 ≡ k = eqb→eq p.1 k p.3 in
-            in-cast (p.4 ∙ ap (λ (z : ℕ). call_row p.0 (service_at t j z)) e)
+            in_cast (p.4 ∙ ap (λ (z : ℕ). call_row p.0 (service_at t j z)) e)
             (in_map row (in_keep callers (in_upto L.packages p.0 (fm.names.used_lt p.0 (bits.by_used p.0 j p.1 p.2))) (subst (λ (z : ℕ). T (b p.0 j z)) e p.2)))
 
         fro : (u : Unmet) → In u (map row (keep callers (numbers L))) → In u (left_by L t b j (λ z. eqb z k))
         fro u m =
             let p = map_in row (keep callers (numbers L)) m in
-            in-cast p.2 (in_left_by L t fm.names j (λ z. eqb z k) b bits p.0 k (keep_in callers (numbers L) p.1).1 (eqb_refl k))
+            in_cast p.2 (in_left_by L t fm.names j (λ z. eqb z k) b bits p.0 k (keep_in callers (numbers L) p.1).1 (eqb_refl k))
 
     module _ (law : Lawful t) where
       -- ---- kind 2
       look_removed : (n : ℕ) → T (t.used n) → look L (remove_at L t n) ≡ short_remove L t n
       look_removed n un = look_is L (remove_at L t n)
-          (granted L (remove_at L t n).tables (lawful_dropped L t (remove_at L t n).tables n (λ x. true) (keep by_other t.unmet) fm (dropping-2 L t fm n un) law))
+          (granted L (remove_at L t n).tables (lawful_dropped L t (remove_at L t n).tables n (λ x. true) (keep by_other t.unmet) fm (dropping_2 L t fm n un) law))
           (nil_length (left_by L t t.needs n (λ x. true)) ∙ ap (λ (x : ℕ). eqb x 0) (left_all t.needs n) ∙ none_pairs (λ i. t.needs i n) (places L) (numbers L))
           (fits_as L (length-append (keep by_other t.unmet) (left_by L t t.calls n (λ x. true)) ∙ ap (λ (x : ℕ). count by_other t.unmet + x) (left_all t.calls n)))
           (fits_as L (length-append (keep of_other t.waiting) (pairs wait_for (λ j. t.grants j n) (places L) (numbers L))
@@ -80,7 +80,7 @@ module _ (L : Layout) (t : Tables) where
       -- ---- kind 4
       look_dropped : Fitting L t → (j k : ℕ) → T (t.provides j k) → look L (remove_service_at L t j k) ≡ short_remove_service L t j k
       look_dropped fit j k pk = look_is L (remove_service_at L t j k)
-          (granted L (remove_service_at L t j k).tables (lawful_dropped L t (remove_service_at L t j k).tables j (λ x. eqb x k) t.unmet fm (dropping-4 L t fm j k pk) law))
+          (granted L (remove_service_at L t j k).tables (lawful_dropped L t (remove_service_at L t j k).tables j (λ x. eqb x k) t.unmet fm (dropping_4 L t fm j k pk) law))
           (nil_length (left_by L t t.needs j (λ x. eqb x k)) ∙ ap (λ (x : ℕ). eqb x 0) (left_one_lem t.needs (need_bits L t fm) j k) ∙ none_pass (λ i. t.needs i j k) (numbers L))
           (fits_as L (length-append t.unmet (left_by L t t.calls j (λ x. eqb x k)) ∙ ap (λ (x : ℕ). length t.unmet + x) (left_one_lem t.calls fm.calls j k)))
           (waiting_fits_lem fit j k L.early)

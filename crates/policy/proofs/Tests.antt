@@ -5,8 +5,8 @@ use mathlib.Core.Path.{◌≡◌, refl, sym, ap, ◌∙◌, subst}
 use mathlib.Core.Logic.{◌⊎◌, inl, inr}
 use mathlib.Core.Bool.{Bool, true, false, not, ◌||◌}
 use mathlib.Core.List.{List, [], ◌∷◌, map}
-use mathlib.Core.List.Memᴰ.{cases_cons as in-cons}
-use mathlib.Core.List.Memᴰ.{cast as in-cast}
+use mathlib.Core.List.Memᴰ.{cases_cons as in_cons}
+use mathlib.Core.List.Memᴰ.{cast as in_cast}
 use mathlib.Core.List.{Memᴰ as In}
 use mathlib.Core.Option.{Option, none, some}
 use lib.Dec.{T, leb, leb→le, le→leb}
@@ -48,11 +48,11 @@ module _ (most : ℕ) (taken : ℕ → Bool) where
   full (some n) h = sym (T_false (leb most (length (keep taken below))) (λ x. more (leb→le most (length (keep taken below)) x)))
     where
       out : {x : ℕ} → (x ≡ n) ⊎ In x (keep taken below) → In x below
-      out (inl e) = in-cast e (in_upto most n h.0)
+      out (inl e) = in_cast e (in_upto most n h.0)
       out (inr m) = (keep_in taken below m).0
 
       le : length (n ∷ keep taken below) ≤ length below
-      le = length_le (n ∷ keep taken below) below (λ m. h.1 (keep_in taken below m).1, once_taken) (λ x m. out (in-cons m))
+      le = length_le (n ∷ keep taken below) below (λ m. h.1 (keep_in taken below m).1, once_taken) (λ x m. out (in_cons m))
 
       more : most ≤ length (keep taken below) → ⊥
       more a = omega (arith, length_from 0 most, le)
@@ -73,13 +73,13 @@ module _ (L : Layout) (t : Tables) (lost : List Unmet) (cs : List Contract)
       to a m =
           let p = map_in (λ (c : Contract). c.aid) cs m in
           let h = st.these p.0 p.1 in
-          in-cast (p.2 ∙ h.2.aid) (in_map t.aid (in_keep t.used (in_upto L.packages h.0 (names.used_lt h.0 h.1)) h.1))
+          in_cast (p.2 ∙ h.2.aid) (in_map t.aid (in_keep t.used (in_upto L.packages h.0 (names.used_lt h.0 h.1)) h.1))
 
       of : (a : Aid) → In a (map t.aid (used_numbers L t)) → In a (map (λ c. c.aid) cs)
       of a m =
           let p = map_in t.aid (used_numbers L t) m in
           let h = st.no_others p.0 (on p.1) in
-          in-cast (p.2 ∙ sym h.2) (in_map (λ (c : Contract). c.aid) h.1)
+          in_cast (p.2 ∙ sym h.2) (in_map (λ (c : Contract). c.aid) h.1)
 
   service_count : (n : ℕ) (c : Contract) → In c cs → HasContract t lost n c → length c.provides ≡ length (keep (t.provides n) (places L))
   service_count n c m h =

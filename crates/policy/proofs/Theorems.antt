@@ -5,13 +5,13 @@ use mathlib.Core.Path.{◌≡◌, refl, sym, ap, ◌∙◌, subst}
 use mathlib.Core.Logic.{◌⊎◌, inl, inr}
 use mathlib.Core.Bool.{Bool, true, false, not, ◌&&◌, cond}
 use mathlib.Core.List.{List, [], ◌∷◌, ◌++◌, map}
-use mathlib.Core.List.Memᴰ.{cases_cons as in-cons}
+use mathlib.Core.List.Memᴰ.{cases_cons as in_cons}
 use mathlib.Core.List.Memᴰ.{head as here}
-use mathlib.Core.List.Memᴰ.{not-nil as in-nil}
+use mathlib.Core.List.Memᴰ.{not-nil as in_nil}
 use mathlib.Core.List.Memᴰ.{tail as there}
 use mathlib.Core.List.{Memᴰ as In}
-use mathlib.Core.List.Memᴰ.{append_cases as in-append}
-use mathlib.Core.List.Memᴰ.{cast as in-cast}
+use mathlib.Core.List.Memᴰ.{append_cases as in_append}
+use mathlib.Core.List.Memᴰ.{cast as in_cast}
 use mathlib.Core.Option.{Option, none, some}
 use lib.Dec.{T, leb, leb→le, le→leb, ltb, ltb→lt, lit≤}
 use lib.ListN.{length, get_or, take, drop, length-append}
@@ -52,7 +52,7 @@ agreement L lo img s cs f = step L lo img s cs f
 pub empty_stands : (L : Layout) → LayoutOk L → StandsFor L (empty_image L) []
 empty_stands L lo = subst (λ (z : List ℕ). StandsFor L z []) (empty_encode L lo)
     (image_stands L lo empty_tables [] (empty_formed L) (λ i j k b. absurd b) (empty_fitting L)
-    (record { these = λ c m. absurd (in-nil m); no_others = λ n u. absurd u; one_each = tt; four_sets = λ c m. absurd (in-nil m) }) (λ c m. absurd (in-nil m)))
+    (record { these = λ c m. absurd (in_nil m); no_others = λ n u. absurd u; one_each = tt; four_sets = λ c m. absurd (in_nil m) }) (λ c m. absurd (in_nil m)))
 
 -- no change of the rules
 pub history : (L : Layout) → LayoutOk L → History L
@@ -133,7 +133,7 @@ module _ (L : Layout) (lo : LayoutOk L) where
   module _ (cs : List Contract) (a : Aid) where
     -- after the causes that are below 7, one that cannot apply
     below_or : (l : List Cause) (c : Cause) → T (every (λ k. ltb k.number 7) l) → (T c.applies → ⊥) → (k : Cause) → In k (l ++ (c ∷ [])) → T k.applies → k.number < 7
-    below_or l c t h k m w = go (in-append l m)
+    below_or l c t h k m w = go (in_append l m)
       where
         go : In k l ⊎ In k (c ∷ []) → k.number < 7
         go (inl n) = early_below l t k n w
@@ -147,7 +147,7 @@ module _ (L : Layout) (lo : LayoutOk L) where
         let x = and_l (eq_aid p.0.aid a) (leb L.services (length p.0.provides)) p.2 in
         let y = leb→le L.services (length p.0.provides) (and_r (eq_aid p.0.aid a) (leb L.services (length p.0.provides)) p.2) in
         let e : f p.0 ≡ altered L (add_service s l) p.0 = cond_true (eq_aid p.0.aid a) (altered L (add_service s l) p.0) p.0 x in
-        let z = fit.services_fit (altered L (add_service s l) p.0) (in-cast {l = effect L cs a (add_service s l)} (sym e) (in_map (λ k. cond (eq_aid k.aid a) (altered L (add_service s l) k) k) p.1)) in
+        let z = fit.services_fit (altered L (add_service s l) p.0) (in_cast {l = effect L cs a (add_service s l)} (sym e) (in_map (λ k. cond (eq_aid k.aid a) (altered L (add_service s l) k) k) p.1)) in
         let n = length-append p.0.provides (s ∷ []) in
         omega arith
 
@@ -199,7 +199,7 @@ module _ (L : Layout) (lo : LayoutOk L) where
         )
 
     silent : FitsLimits L ds → Silent early
-    silent fit k m w = go (in-cons m)
+    silent fit k m w = go (in_cons m)
       where
         go : (k ≡ 3 when not (proper L q.aid q.change)) ⊎ In k (causes4to7 L cs q.aid q.change) → ⊥
         go (inl x) = not_e (proper L q.aid q.change) (subst (λ (z : Cause). T z.applies) x w) pr

@@ -3,9 +3,9 @@ use Prim.Native.Nat.{ℕ}
 use mathlib.Core.Path.{◌≡◌, refl, sym, ◌∙◌, subst}
 use mathlib.Core.Bool.{Bool, true, not, ◌&&◌}
 use mathlib.Core.List.{List, [], ◌∷◌, map}
-use mathlib.Core.List.Memᴰ.{cast as in-cast}
+use mathlib.Core.List.Memᴰ.{cast as in_cast}
 use mathlib.Core.List.Memᴰ.{head as here}
-use mathlib.Core.List.Memᴰ.{not-nil as in-nil}
+use mathlib.Core.List.Memᴰ.{not-nil as in_nil}
 use mathlib.Core.List.{Memᴰ as In}
 use lib.Dec.{T, leb}
 use lib.ListN.{length, length-map}
@@ -91,7 +91,7 @@ module _ (L : Layout) (t : Tables) (lost : List Unmet) (ds : List Contract) (g :
     where
       ok : (n : ℕ) (r : Row) → lost ≡ [] → RowAt t t.needs lost n r → T (met ds r)
       ok n r e (RowAt.bit j k b q) = met_i r j k ((need_bits L t g).of_prov n j k b) q
-      ok n r e (RowAt.row m) = absurd (in-nil (subst (λ (l : List Unmet). In (call_row n r) l) e m))
+      ok n r e (RowAt.row m) = absurd (in_nil (subst (λ (l : List Unmet). In (call_row n r) l) e m))
 
       to : T (is_nil lost) → T (needs_met ds)
       to h = in_every (λ c. every (met ds) c.needs) ds (λ c mc. let p = st.these c mc in in_every (met ds) c.needs (λ r mr. ok p.0 r (nil_is lost h) ((p.2.needs r).0 mr)))
@@ -124,14 +124,14 @@ module _ (L : Layout) (t : Tables) (lost : List Unmet) (ds : List Contract) (g :
           let (x, mx, e) = map_in link l m in
           let (n, u, own, passes) = to x mx in
           let (c, mc, h) = contract_of_lem L t g.names st n u in
-          in-cast e (in_link rows f ds (link x) c mc (own ∙ sym h.aid) (passes c h).0 (passes c h).1)
+          in_cast e (in_link rows f ds (link x) c mc (own ∙ sym h.aid) (passes c h).0 (passes c h).1)
 
       back : (z : Link) → In z (links rows f ds) → In z (map link l)
       back z m =
           let (c, mc, own, mr, passes) = link_in rows f ds z m in
           let (n, _, h) = st.these c mc in
           let (x, mx, e) = fro n c h z.row mr passes in
-          in-cast ((λ i. record { owner = (own ∙ h.aid) i; row = z.row }) ∙ sym e) (in_map link mx)
+          in_cast ((λ i. record { owner = (own ∙ h.aid) i; row = z.row }) ∙ sym e) (in_map link mx)
 
   pub unmet_count : length t.unmet ≡ length (unmet_calls ds)
   unfolding unmet_calls

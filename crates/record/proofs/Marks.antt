@@ -7,7 +7,7 @@ use mathlib.Core.Bool.{Bool, true, false, not, ◌&&◌, ◌||◌, or-true}
 use mathlib.Core.List.{List, [], ◌∷◌, ◌++◌}
 use mathlib.Core.List.Memᴰ.{append_right as in_right}
 use mathlib.Core.List.Memᴰ.{head as here}
-use mathlib.Core.List.Memᴰ.{not-nil as in-nil}
+use mathlib.Core.List.Memᴰ.{not-nil as in_nil}
 use mathlib.Core.List.{Memᴰ as In}
 use lib.Dec.{T, eqb, eqb→eq}
 use lib.ListN.{length, get_or, drop, replicate, length-set}
@@ -97,7 +97,7 @@ pub record Sifted (own : Bytes) (l : List Row) (seen : List ℕ) : Type 0 where
   pub met : (x : Row) → In x l → marked seen (row_mark x) ≡ true
 
 sifted_none : {own : Bytes} → Sifted own [] (replicate 32 0)
-sifted_none = record { long = refl; away = λ x m. absurd (in-nil m); once = tt; met = λ x m. absurd (in-nil m) }
+sifted_none = record { long = refl; away = λ x m. absurd (in_nil m); once = tt; met = λ x m. absurd (in_nil m) }
 
 sifted_more : {own : Bytes} {l : List Row} {x : Row} {seen : List ℕ} → Sifted own l seen → own_row own x ≡ false → (In x l → ⊥) → Sifted own (l ++ (x ∷ [])) (with_mark (row_mark x) seen)
 sifted_more {own} {l} {x} {seen} h e f =

@@ -6,7 +6,7 @@ use mathlib.Core.Path.{◌≡◌, refl, sym, ap, ◌∙◌}
 use mathlib.Core.Logic.{◌⊎◌, inl, inr}
 use mathlib.Core.Bool.{Bool, true, false, cond}
 use mathlib.Core.List.{List, [], ◌∷◌, ◌++◌, map, map-append}
-use mathlib.Core.List.Memᴰ.{cases_cons as in-cons}
+use mathlib.Core.List.Memᴰ.{cases_cons as in_cons}
 use mathlib.Core.List.Memᴰ.{head as here}
 use mathlib.Core.List.Memᴰ.{tail as there}
 use mathlib.Core.List.{Memᴰ as In}
@@ -36,7 +36,7 @@ module _ {A : Type 0} (mask : ℕ) where
 
       go : (b : Bool) → (In x (keep_from (suc k) mask l) → In x l) → In x (cond b (keep_from (suc k) mask l) (y ∷ keep_from (suc k) mask l)) → In x (y ∷ l)
       go true f i = there (f i)
-      go false f i = old f (in-cons i)
+      go false f i = old f (in_cons i)
 
   kept_map : (f : A → List ℕ) (k : ℕ) (l : List A) → keep_from k mask (map f l) ≡ map f (keep_from k mask l)
   kept_map f k [] = refl
@@ -82,19 +82,19 @@ module _ (L : Layout) {A : Type 0} (f : A → List ℕ) (w : ℕ) where
     written rs m h k e = rw (is, length_list L f w l wide few, e) (sym (list_area m h k))
 
     -- one element more
-    module _ (x : A) (is_IsWide : length (f x) ≡ w) (room : length l < L.capacity) where
+    module _ (x : A) (is_wide : length (f x) ≡ w) (room : length l < L.capacity) where
       pub list_room : length l < 255 → HasRoom w (f x) a
       list_room lt =
           record {
             area = list_is;
-            wide = is_IsWide;
+            wide = is_wide;
             below = rw list_count lt;
             room = rw (list_count, is, length_list L f w l wide few) (omega (arith, row_ends (length l) L.capacity w room));
           }
 
       pub list_append : appended w (f x) a ≡ write_list L f w (l ++ (x ∷ []))
       list_append =
-          written (rows_in w a ++ (f x ∷ [])) (l ++ (x ∷ [])) (each_snoc {P = λ y. length (f y) ≡ w} l x wide is_IsWide) (rw length-append (omega arith))
+          written (rows_in w a ++ (f x ∷ [])) (l ++ (x ∷ [])) (each_snoc {P = λ y. length (f y) ≡ w} l x wide is_wide) (rw length-append (omega arith))
           (rw rows_are (sym (map-append f l (x ∷ []))))
 
     -- those that a mask leaves

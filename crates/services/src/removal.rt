@@ -12,7 +12,7 @@ ghost use Rattle.image.specs.Laid.{Laid};
 ghost use Rattle.image.specs.Wrote.{Wrote};
 ghost use Rattle.changes.specs.Asked.{Asked};
 ghost use Rattle.changes.specs.Left.{behind, RoomBehind, left_one};
-ghost use Rattle.services.specs.Removal.{between as bitsBetween, left_bit, left_bits, rows_with_bits, RoomWithoutService};
+ghost use Rattle.services.specs.Removal.{between as bits_between, left_bit, left_bits, rows_with_bits, RoomWithoutService};
 ghost use Rattle.services.specs.Removal.{lists_without_service};
 
 use changes::Verdict;
@@ -23,7 +23,7 @@ use geometry::{Card, Kept, Table, Tokens};
 fn between(img: &[u8], c: Card, tb: Table, j: usize, i: usize) -> u16
     requires laid { Laid (layout_of c) img.now }
     requires inside { (j < (layout_of c).packages) × (i < (layout_of c).packages) }
-    ensures { result ≡ row_of (layout_of c).services (bitsBetween tb (tables_of c img.now) j i) }
+    ensures { result ≡ row_of (layout_of c).services (bits_between tb (tables_of c img.now) j i) }
 {
     match tb {
         Table::Calls => image::read::entry(img, c, tb, i, j),
@@ -36,7 +36,7 @@ fn between(img: &[u8], c: Card, tb: Table, j: usize, i: usize) -> u16
 fn holders(img: &[u8], c: Card, tb: Table, j: usize, k: usize) -> usize
     requires laid { Laid (layout_of c) img.now }
     requires inside { (j < (layout_of c).packages) × (k < (layout_of c).services) }
-    ensures { result ≡ count (λ i. bitsBetween tb (tables_of c img.now) j i k) (numbers (layout_of c)) }
+    ensures { result ≡ count (λ i. bits_between tb (tables_of c img.now) j i k) (numbers (layout_of c)) }
 {
     let size = geometry::packages(c);
     let mut total: usize = 0;

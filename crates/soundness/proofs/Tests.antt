@@ -22,8 +22,8 @@ use Rattle.policy.proofs.Pieces.{row_ends}
 use Rattle.bits.proofs.Loops.{every_append, early, first_ext}
 use Rattle.geometry.specs.declared.Card.{Card}
 use Rattle.geometry.specs.declared.Card.TheVariants.{Small, Large}
-use Rattle.geometry.specs.Geometry.{layout_of, aid_at, tok_at, list_at, row_size as rowSizeOf, number_in, tokens_in}
-use Rattle.geometry.proofs.Bounds.{early as early-card, limits, row_wide, front}
+use Rattle.geometry.specs.Geometry.{layout_of, aid_at, tok_at, list_at, row_size as row_size_of, number_in, tokens_in}
+use Rattle.geometry.proofs.Bounds.{early as early_card, limits, row_wide, front}
 use Rattle.geometry.specs.declared.Kept.{Kept}
 use Rattle.geometry.specs.declared.Kept.TheVariants.{UnmetCalls, WaitingGrants}
 use Rattle.soundness.specs.Check.{is_zero, zeros_at, same_at, row_size, list_end, numbered, used_row, lowest_aid, is_aid, number_at, is_used}
@@ -171,12 +171,12 @@ row_most_lem early k w e = let h = row_low early k in omega arith
 
 -- the code's sizes, of a card in force and of version 01
 module _ (c : Card) {r : Bool} {w : ℕ} where
-  pub size_tokens : (early : Bool) (k : Kept) → r ≡ numbered early k → r ≡ false → w ≡ rowSizeOf (layout_of c) k → w ≡ row_size early k
+  pub size_tokens : (early : Bool) (k : Kept) → r ≡ numbered early k → r ≡ false → w ≡ row_size_of (layout_of c) k → w ≡ row_size early k
   size_tokens early UnmetCalls e f h = h
   size_tokens true WaitingGrants e f h = h ∙ row_wide c WaitingGrants
   size_tokens false WaitingGrants e f h = absurd (false_T (sym e ∙ f) tt)
 
-  pub size_number : (early : Bool) (k : Kept) → r ≡ numbered early k → r ≡ true → w ≡ rowSizeOf narrow k → w ≡ row_size early k
+  pub size_number : (early : Bool) (k : Kept) → r ≡ numbered early k → r ≡ true → w ≡ row_size_of narrow k → w ≡ row_size early k
   size_number early UnmetCalls e f h = h
   size_number true WaitingGrants e f h = absurd (false_T (sym f ∙ e) tt)
   size_number false WaitingGrants e f h = h
@@ -226,7 +226,7 @@ rest_len c early k r n a m w e p q s h =
 
 -- an image ends with its waiting grants
 pub end_is : (c : Card) {n : ℕ} → n ≡ size (layout_of c) → n ≡ list_end (layout_of c) true WaitingGrants
-end_is c e = rw (early-card c) at e
+end_is c e = rw (early_card c) at e
 
 -- ---- what is used is a package; what was found is one, or the number of packages
 pub used_in : (L : Layout) (l : List ℕ) (n : ℕ) {r : Bool} → r ≡ is_used L l n → not r ≡ false → n < L.packages

@@ -4,7 +4,7 @@ ghost use Rattle.policy.specs.Lists.{implies, every, upto};
 ghost use Rattle.policy.specs.Layout.{waiting_at};
 ghost use Rattle.geometry.specs.Geometry.{layout_of, list_at};
 ghost use Rattle.geometry.specs.declared.Kept.TheVariants.{WaitingGrants};
-ghost use Rattle.soundness.specs.Check.{zeros_at, row_size, numbered as isNumbered, place_at, list_end, is_used, unserved as unservedBy};
+ghost use Rattle.soundness.specs.Check.{zeros_at, row_size, numbered as is_numbered, place_at, list_end, is_used, unserved as unserved_by};
 ghost use Rattle.soundness.specs.Check.{token_row_ok, is_provided, number_row_ok, row_ok, new_row, rows_differ, place_ok, list_ok};
 
 use crate::{bytes, packages};
@@ -32,7 +32,7 @@ fn is_used(img: &[u8], c: Card, n: usize) -> bool
 fn unserved(img: &[u8], c: Card, k: Kept, at: usize, own: usize, n: usize) -> bool
     requires { (waiting_at (layout_of c) ≤ length img.now) × (at + 2 ≤ length img.now)
         × (own < (layout_of c).packages) × (n ≤ (layout_of c).packages) }
-    ensures { result ≡ unservedBy (layout_of c) img.now k at own n }
+    ensures { result ≡ unserved_by (layout_of c) img.now k at own n }
 {
     if n == geometry::packages(c) {
         return true;
@@ -99,7 +99,7 @@ fn number_row_ok(img: &[u8], c: Card, at: usize) -> bool
 
 // A row has a service number and no tokens.
 fn numbered(k: Kept, early: bool) -> bool
-    ensures { result ≡ isNumbered early k }
+    ensures { result ≡ is_numbered early k }
 {
     match k {
         Kept::UnmetCalls => false,

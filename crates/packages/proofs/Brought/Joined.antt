@@ -3,7 +3,7 @@
 use Prim.Native.Nat.{ℕ, ◌<◌}
 use mathlib.Core.Path.{◌≡◌, refl, sym, ap, ap₂, ◌∙◌, subst}
 use mathlib.Core.Bool.{Bool, true, false, not, ◌&&◌, ◌||◌, cond}
-use mathlib.Core.List.Memᴰ.{cast as in-cast}
+use mathlib.Core.List.Memᴰ.{cast as in_cast}
 use mathlib.Core.List.Memᴰ.{head as here}
 use mathlib.Core.List.Memᴰ.{tail as there}
 use mathlib.Core.List.{List, [], ◌∷◌, Memᴰ as In}
@@ -28,7 +28,7 @@ use Rattle.image.specs.Read.{number_or, mask_of, unmet_row, waiting_row}
 use Rattle.image.proofs.Masks.{keep_mask}
 use Rattle.changes.specs.Masks.{listed}
 use Rattle.changes.specs.Joins.{holder, service_number, DueAt, taken_in, CallOn, TakesIn, CallersIn, GivenIn}
-use Rattle.changes.proofs.MaskedRows.{named as named-row, listed_is}
+use Rattle.changes.proofs.MaskedRows.{named as named_row, listed_is}
 use Rattle.packages.specs.Decides.{comes_due, Comes}
 use Rattle.packages.specs.declared.decide.Bring.{Bring}
 use Rattle.packages.proofs.Brought.Readied.{readied_with}
@@ -103,7 +103,7 @@ module _ (L : Layout) (t : Tables) (n : ℕ) (k : Contract) (now : Services) (ne
   calls_there : (met : ℕ) → met ≡ mask_of (now_met L t k) t.unmet → (r : ℕ) → r < length t.unmet → CallOn L met n (readied_with L t n k now) r
   calls_there met e r h q =
       let u = unmet_row t r in
-      met_there (has_tok_lem u.tok p (and_r (eq_aid u.callee a) (has_tok u.tok p) (subst T (named-row (now_met L t k) t.unmet met r _ e h) q)))
+      met_there (has_tok_lem u.tok p (and_r (eq_aid u.callee a) (has_tok u.tok p) (subst T (named_row (now_met L t k) t.unmet met r _ e h) q)))
 
   abbrev number : Unmet → ℕ
   number u = service_number L v n u.tok
@@ -140,7 +140,7 @@ module _ (L : Layout) (t : Tables) (n : ℕ) (k : Contract) (now : Services) (ne
       back : T q → T (v.provides n z) → T (d && e && c) → T (now_met L t k u && (c && q && m))
       back g w h =
           let f = and_l (d && e) c h in
-          let s : In u.tok p = in-cast (sym (eq_tok→ (v.tok n z) u.tok (and_r d e f))) (tok_in L t n k now new z w) in
+          let s : In u.tok p = in_cast (sym (eq_tok→ (v.tok n z) u.tok (and_r d e f))) (tok_in L t n k now new z w) in
           and_i (now_met L t k u) (c && q && m)
           (and_i (eq_aid u.callee a) (has_tok u.tok p) (eq_aid_of (sym (eq_aid→ (v.aid n) u.callee (and_l d e f)) ∙ l.aid_new)) (tok_has s))
           (and_i (c && q) m (and_i c q (and_r (d && e) c h) g) (subst T (sym (found_is L v names n u.tok z (met_there s))) (and_i (v.provides n z) e w (and_r d e f))))
@@ -184,7 +184,7 @@ module _ (L : Layout) (t : Tables) (n : ℕ) (k : Contract) (now : Services) (ne
       let w = waiting_row t r in
       let c = eq_aid w.caller a in
       let o = is_some (service_of L t w.callee w.tok) in
-      let d : T (c && o) = subst T (named-row (comes_due L t a) t.waiting due r _ e h) q in
+      let d : T (c && o) = subst T (named_row (comes_due L t a) t.waiting due r _ e h) q in
       let ne = by_others w (in_row t.waiting r _ h) (eq_aid→ w.caller a (and_l c o d)) in
       let at = found_provided L v names w.callee w.tok (offered_on w.callee w.tok ne (and_r c o d)) in
       go w (eq_aid→ w.caller a (and_l c o d)) at.0 at.1 at.2 (spot_of L v w.callee (grant_at w)) (spot_is L v names w.callee (grant_at w))

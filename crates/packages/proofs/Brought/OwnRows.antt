@@ -4,7 +4,7 @@ use Prim.Native.Nat.{ℕ, ◌+◌, ◌≤◌}
 use native.Mathlib.Omega.{arith}
 use mathlib.Core.Path.{◌≡◌, refl, sym, ap, ◌∙◌, subst}
 use mathlib.Core.Bool.{Bool, true, false, not, ◌&&◌, ◌||◌, cond, and_assoc}
-use mathlib.Core.List.Memᴰ.{cast as in-cast}
+use mathlib.Core.List.Memᴰ.{cast as in_cast}
 use mathlib.Core.List.{List, [], ◌++◌, map, Memᴰ as In}
 use mathlib.Core.Option.{Option, none, some}
 use lib.Dec.{T, eqb, eqb_refl}
@@ -73,7 +73,7 @@ module _ (L : Layout) (t : Tables) (n : ℕ) (k : Contract) (now : Services) (ne
       to none h q = absurd q
       to (some p) h q = and_i (installed_aid L t r.aid) (has_tok r.tok k.provides)
           (installed p.caller h.0 h.1 (number_of L t r.aid) (number_is L t new.formed.names r.aid))
-          (tok_has (in-cast (sym h.3) (tok_in L t n k now new p.service h.2)))
+          (tok_has (in_cast (sym h.3) (tok_in L t n k now new p.service h.2)))
 
       back : (o : Option ℕ) → NumberIs t r.aid o → T (is_some o) → (y : ℕ) × T (v.provides n y) × (v.tok n y ≡ r.tok) → (s : Option Spot) → SpotIs v n r s → T (is_some s)
       back none f q p s h = absurd q

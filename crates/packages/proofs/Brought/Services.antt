@@ -6,10 +6,10 @@ use mathlib.Core.Path.{◌≡◌, refl, sym, ap, ◌∙◌, subst}
 use mathlib.Core.Logic.{◌⊎◌, inl, inr}
 use mathlib.Core.Bool.{Bool, true, false, not, ◌&&◌, cond}
 use mathlib.Core.List.{List, [], ◌∷◌}
-use mathlib.Core.List.Memᴰ.{cases_cons as in-cons}
-use mathlib.Core.List.Memᴰ.{cast as in-cast}
+use mathlib.Core.List.Memᴰ.{cases_cons as in_cons}
+use mathlib.Core.List.Memᴰ.{cast as in_cast}
 use mathlib.Core.List.Memᴰ.{head as here}
-use mathlib.Core.List.Memᴰ.{not-nil as in-nil}
+use mathlib.Core.List.Memᴰ.{not-nil as in_nil}
 use mathlib.Core.List.Memᴰ.{tail as there}
 use mathlib.Core.List.{Memᴰ as In}
 use mathlib.Core.Option.{Option, none, some}
@@ -83,7 +83,7 @@ module _ (L : Layout) (t : Tables) (n : ℕ) (k : Contract) (kept : ℕ) where
 
       back : (y : ℕ) → T (eq_tok (w.tok y) s) → T (bit kept y) ⊎ In (w.tok y) a → T (bit kept y && eq_tok (w.tok y) s)
       back y e (inl h) = and_i (bit kept y) (eq_tok (w.tok y) s) h e
-      back y e (inr m) = absurd (new (in-cast (sym (eq_tok→ (w.tok y) s e)) m))
+      back y e (inr m) = absurd (new (in_cast (sym (eq_tok→ (w.tok y) s e)) m))
 
   -- ---- one, and all
   abbrev after_one : Services → Tok → Bool → Option ℕ → Services
@@ -121,17 +121,17 @@ module _ (L : Layout) (t : Tables) (n : ℕ) (k : Contract) (kept : ℕ) where
         where
           moved : (y : ℕ) → (y ≡ z → ⊥) → T (bit kept y) ⊎ In (w.tok y) (s ∷ a) → T (bit kept y) ⊎ In (put z s w.tok y) (s ∷ a)
           moved y ne (inl h) = inl h
-          moved y ne (inr m) = inr (in-cast (at_old z s (w.tok y) y ne) m)
+          moved y ne (inr m) = inr (in_cast (at_old z s (w.tok y) y ne) m)
 
   placed_all_lem : (l a : List Tok) → NoRepeat l → ((s : Tok) → In s l → In s a → ⊥) → (w : Services) → Beside w a
       → placed_all L n kept l (readied_with L t n k w) ≡ readied_with L t n k (place_services L w l)
   placed_all_lem [] a once new w b = refl
   placed_all_lem (s ∷ l) a once new w b =
       ap (placed_all L n kept l) (placed_one_lem w a b s (new s (here refl)))
-      ∙ placed_all_lem l (s ∷ a) once.1 (λ x m i. apart x m (in-cons i)) (place_service L w s) (beside_next w a b s)
+      ∙ placed_all_lem l (s ∷ a) once.1 (λ x m i. apart x m (in_cons i)) (place_service L w s) (beside_next w a b s)
     where
       apart : (x : Tok) → In x l → (x ≡ s) ⊎ In x a → ⊥
-      apart x m (inl e) = once.0 (in-cast (sym e) m)
+      apart x m (inl e) = once.0 (in_cast (sym e) m)
       apart x m (inr i) = new x (there m) i
 
 -- 'Services in both contracts keep theirs; dropped ones free theirs, then the others take the lowest unused in record order'
@@ -139,7 +139,7 @@ pub services_placed : (L : Layout) (t : Tables) (n : ℕ) (k : Contract) → For
     → placed L n k.provides (readied L t n k) ≡ readied_with L t n k (new_services L t n k)
 unfolding new_services
 services_placed L t n k f once =
-    placed_all_lem L t n k (row_of L.services ((readied L t n k).provides n)) k.provides [] once (λ s m i. in-nil i) (kept_services L t n k) (record {
+    placed_all_lem L t n k (row_of L.services ((readied L t n k).provides n)) k.provides [] once (λ s m i. in_nil i) (kept_services L t n k) (record {
       stays = λ y h. subst T (row_is y) h;
       known = λ y u. inl (subst T (sym (row_is y)) u);
     })

@@ -4,7 +4,7 @@ use native.Mathlib.Omega.{arith}
 use mathlib.Core.Path.{◌≡◌, refl, sym, ap, ap₂, ◌∙◌, subst}
 use mathlib.Core.Logic.{◌⊎◌, inl, inr}
 use mathlib.Core.Bool.{Bool, true, false, not, ◌&&◌, ◌||◌, cond, and-false}
-use mathlib.Core.List.Memᴰ.{cast as in-cast}
+use mathlib.Core.List.Memᴰ.{cast as in_cast}
 use mathlib.Core.List.{List, [], ◌∷◌, ◌++◌, map, append_assoc, append-nil, Memᴰ as In}
 use mathlib.Core.Option.{Option, none, some}
 use lib.Dec.{T, eqb, eqb→eq, eqb_refl, leb, leb→le, le→leb}
@@ -146,7 +146,7 @@ module _ (L : Layout) (t : Tables) (formed : Formed L t) (j : ℕ) (s : Tok) whe
         let x = exists_in (λ w. now_granted L t j s w && eqb (holder L t w.caller) n) t.waiting h in
         let w = x.0 in
         let q = is_due w n (and_l (now_granted L t j s w) (eqb (holder L t w.caller) n) x.2) (eqb→eq (holder L t w.caller) n (and_r (now_granted L t j s w) (eqb (holder L t w.caller) n) x.2)) in
-        waiting_has (in-cast q.1 x.1))
+        waiting_has (in_cast q.1 x.1))
         (λ h.
         let q = due_is n u in
         in_exists (λ w. now_granted L t j s w && eqb (holder L t w.caller) n) (has_waiting_lem (waits (t.aid n)) t.waiting h)
@@ -245,7 +245,7 @@ module _ (L : Layout) (t : Tables) (formed : Formed L t) (j : ℕ) (s : Tok) whe
             let d = is_due w y n (sym ey) in
             and_i (eqb x j && eqb z k) (t.used y && has_waiting (waits (t.aid y)) t.waiting)
             (and_i (eqb x j) (eqb z k) (eqb_of (ex ∙ o.0)) (eqb_of (ez ∙ (λ i. service_number L on (o.0 i) (o.1 i)) ∙ number)))
-            (and_i (t.used y) (has_waiting (waits (t.aid y)) t.waiting) d.0 (waiting_has (in-cast d.1 q.1)))
+            (and_i (t.used y) (has_waiting (waits (t.aid y)) t.waiting) d.0 (waiting_has (in_cast d.1 q.1)))
 
         back : T (newly x y z) → T (exists (λ w. now_granted L t j s w && at x y z w) t.waiting)
         back h =
@@ -282,7 +282,7 @@ module _ (L : Layout) (t : Tables) (formed : Formed L t) (j : ℕ) (s : Tok) whe
             let ez = eqb→eq z (service_number L on j u.tok) (and_r (eqb x u.caller && eqb y j) (eqb z (service_number L on j u.tok)) p) in
             and_i (eqb y j && eqb z k) (has_unmet call t.unmet)
             (and_i (eqb y j) (eqb z k) (and_r (eqb x u.caller) (eqb y j) xy) (eqb_of (ez ∙ ap (service_number L on j) o.1 ∙ number)))
-            (unmet_has (in-cast (λ i. record { callee = sym o.0 i; tok = sym o.1 i; caller = ex i }) q.1))
+            (unmet_has (in_cast (λ i. record { callee = sym o.0 i; tok = sym o.1 i; caller = ex i }) q.1))
 
         back : T (eqb y j && eqb z k && has_unmet call t.unmet) → T (exists (λ u. asks_for L t (t.aid j) s u && call_at x y z u) t.unmet)
         back h =
