@@ -3,9 +3,11 @@
 #![tactic(auto)]
 
 ghost use Rattle.std.specs.Prelude.{◌≡◌, cond, get_or};
+ghost use Rattle.answers.specs.Numbers.{answered, second_or};
 ghost use Rattle.card.specs.Packed.{joined};
 ghost use Rattle.card.specs.Calls.{sized, versioned, Checked, Emptied, Converted, Enlarged, Judged, ReadInto, AidFound};
 
+use answers::{Refusal, Verdict};
 use geometry::Card;
 
 // An answer and its second number in one number.
@@ -15,14 +17,28 @@ fn join(number: u8, second: u16) -> u32
     number as u32 * 65536 + second as u32
 }
 
+// An answer in one number: of an acceptance its number, of a refusal its cause's and this second number.
+fn answer(r: Result<u16, Refusal>, second: u16) -> u32
+    ensures { result ≡ joined (answered r) (second_or second r) }
+{
+    match r {
+        Ok(n) => join(0, n),
+        Err(e) => join(e.into(), second),
+    }
+}
+
+// Of what gives a verdict, 255 goes with a refusal.
+fn verdict(v: Verdict) -> u32
+    ensures { result ≡ joined (answered v) (second_or 255 v) }
+{
+    answer(v.map(u16::from), 255)
+}
+
 // What a converter returns: 0 with 0 where it took the image, else 1 with 255.
 fn taken(took: bool) -> u32
     ensures { result ≡ joined (cond took 0 1) (cond took 0 255) }
 {
-    if took {
-        return join(0, 0);
-    }
-    join(1, 255)
+    if took { join(0, 0) } else { join(1, 255) }
 }
 
 // The card whose images have so many bytes; the small one where no card's have.
@@ -55,7 +71,7 @@ pub extern "C" fn card_check(image: &[u8]) -> u32
 {
     let c = card_of(image.len());
     let checked = judging::checking::check_image(image, c);
-    join(checked.number, checked.second as u16)
+    verdict(checked)
 }
 
 // Writes the empty image.
@@ -65,7 +81,7 @@ pub extern "C" fn card_empty(image: &mut [u8]) -> u32
 {
     let c = card_of(image.len());
     let emptied = judging::empty::write_empty(image, c);
-    join(emptied.number, emptied.second as u16)
+    verdict(emptied)
 }
 
 // Converts an image of version 01.
@@ -73,8 +89,7 @@ pub extern "C" fn card_empty(image: &mut [u8]) -> u32
 pub extern "C" fn card_convert(old: &[u8], image: &mut [u8]) -> u32
     ensures { Converted old.now image.old result image.new }
 {
-    let took = converter::convert(old, image);
-    taken(took)
+    taken(converter::convert(old, image))
 }
 
 // Enlarges an image of version 02.
@@ -82,8 +97,7 @@ pub extern "C" fn card_convert(old: &[u8], image: &mut [u8]) -> u32
 pub extern "C" fn card_enlarge(image: &[u8], large: &mut [u8]) -> u32
     ensures { Enlarged image.now large.old result large.new }
 {
-    let took = converter::enlarge::enlarge(image, large);
-    taken(took)
+    taken(converter::enlarge::enlarge(image, large))
 }
 
 // Judges a record on an image, and changes the image where it is accepted.
@@ -93,7 +107,7 @@ pub extern "C" fn card_judge(image: &mut [u8], rec: &[u8]) -> u32
 {
     let c = card_of(image.len());
     let judged = judging::judge(image, c, rec);
-    join(judged.number, judged.second as u16)
+    verdict(judged)
 }
 
 // Reads out the contract of a package number as a load.
@@ -103,7 +117,7 @@ pub extern "C" fn card_read_out(image: &[u8], number: u32, out: &mut [u8]) -> u3
 {
     let c = card_of(image.len());
     let read = readout::read_out(image, c, number as usize, out);
-    join(read.number, read.second)
+    answer(read, 0)
 }
 
 // Where the first AID of a record stands, and its length; 0 for a malformed record.

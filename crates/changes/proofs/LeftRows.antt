@@ -1,11 +1,11 @@
 -- Rows that what goes leaves behind: read as bits of a row, and written where the row has the bit. Assumes nothing.
-use Prim.Native.Nat.{ℕ, ◌+◌, ◌≤◌, ◌<◌}
+use Prim.Native.Nat.{ℕ, ◌<◌}
 use native.Mathlib.Omega.{arith}
 use mathlib.Core.Path.{◌≡◌, refl, sym, ap, ◌∙◌}
 use mathlib.Core.Bool.{Bool, true, false, not, cond}
 use mathlib.Core.List.{List, [], ◌∷◌, ◌++◌, map}
 use lib.ListN.{length}
-use borrow.Author.Tests.{not-true, not-false}
+use borrow.Author.Tests.{not-true}
 use Rattle.policy.specs.Lists.{keep, flat}
 use Rattle.policy.specs.Contract.{Aid, Tok}
 use Rattle.policy.specs.Layout.{Layout}
@@ -22,7 +22,7 @@ use Rattle.image.specs.Read.{Item, item}
 use Rattle.image.specs.Laid.{Laid, table_of, with_unmet, with_waiting}
 use Rattle.image.specs.Wrote.{Wrote}
 use Rattle.changes.specs.Left.{only, by_list, behind, named_one}
-use Rattle.changes.proofs.AppendedRows.{wrote_as, behind_none}
+use Rattle.changes.proofs.AppendedRows.{behind_none}
 use Rattle.policy.proofs.Short.{length_pairs}
 
 -- ---- rows where a test has them
@@ -42,10 +42,7 @@ module _ {A : Type 0} (g : ℕ → ℕ → A) (f : ℕ → ℕ → Bool) (l m : 
   pub length_only : length (flat (λ i. flat (λ k. only (f i k) (g i k)) l) m) ≡ sum (λ i. count (f i) l) m
   length_only = ap length only_pairs ∙ length_pairs g f l m
 
--- ---- one row, where the row of bits has it
-pub only_room : {A : Type 0} (b r : Bool) (x : A) (n most : ℕ) → r ≡ b → not r ≡ false → n + length (only b x) ≤ most → n < most
-only_room b r x n most e q h = let z : length (only b x) ≡ 1 = ap (λ (y : Bool). length (only y x)) (sym e ∙ not-false r q) in omega arith
-
+-- ---- one row, where the row of bits has it not
 module _ (c : Card) (l : Kept) (img : List ℕ) (h : Laid (layout_of c) img) (tk : ℕ → Tok) (a : Aid) (i row k : ℕ) (b : Bool) (e : b ≡ bit row k) where
   abbrev L : Layout
   L = layout_of c
@@ -58,10 +55,6 @@ module _ (c : Card) (l : Kept) (img : List ℕ) (h : Laid (layout_of c) img) (tk
 
   pub named_none : not b ≡ true → Wrote L img (behind l (named_one l tk a i (bit row) k) (decode L img))
   named_none q = record { laid = h; tables = sym (ap (λ (z : Bool). behind l (rows z (tk k)) t) (sym e ∙ not-true b q) ∙ behind_none l t) }
-
-  pub named_some : not b ≡ false → (s : Tok) → s ≡ tk k
-      → {img' : List ℕ} → Wrote L img' (behind l (item l a s i ∷ []) (decode L img)) → Wrote L img' (behind l (named_one l tk a i (bit row) k) (decode L img))
-  named_some q s z w = let on : true ≡ bit row k = sym (not-false b q) ∙ e in wrote_as L (λ v. behind l (rows (on v) (z v)) t) w
 
 -- ---- rows read from an image whose lists alone were changed
 pub table_apart : (tb : Table) (t : Tables) (u : List Unmet) (w : List Waiting) → table_of tb (with_unmet u (with_waiting w t)) ≡ table_of tb t

@@ -1,14 +1,14 @@
 pub mod Verdicts
 pub mod RemovalCauses
 pub mod Tests
-pub mod ItemRoom
+pub mod Sums
 pub mod SoundRows
 pub mod MaskedRows
-pub mod ItemLoops
+pub mod ListLoops
 pub mod AppendedRows
 pub mod LeftRows
 pub mod OwnRows
-pub mod OwnWrites
+pub mod OwnPut
 pub mod OpenedService
 pub mod ClearedService
 pub mod RowsToBits

@@ -30,9 +30,6 @@ gone_low m = length_keep (bit m) (upto 32)
 pub sum_fits : (x y u v : ℕ) → x ≡ u → y ≡ v → u ≤ 32 → v ≤ 32 → Fits w64 (x + y)
 sum_fits x y u v e q h l = omega arith
 
-pub room_is : {x y z u v w : ℕ} → x ≡ u → y ≡ v → z ≡ w → x + y - z ≡ u + v - w
-room_is p q r = λ i. p i + q i - r i
-
 -- beside the rows that stay, where the mask names those that go
 beside : (stay leave rows gone all : ℕ) → stay + leave ≡ rows → rows ≤ all → gone ≡ leave → stay + (all + gone - rows) ≡ all
 beside stay leave rows gone all e h r = omega arith

@@ -6,9 +6,7 @@ use mathlib.Core.Path.{◌≡◌, refl, sym, ap, ◌∙◌, ap₂}
 use mathlib.Core.Bool.{Bool, true, false, ◌&&◌, ◌||◌, cond, or-false}
 use mathlib.Core.List.{List, [], ◌∷◌, ◌++◌}
 use lib.Dec.{eqb}
-use lib.ListN.{length, get_or, drop, drop_of_length-le}
-use lib.Seq.{drop-cons}
-use native.Mathlib.Numerals.{add-one}
+use lib.ListN.{length, get_or}
 use Rattle.policy.specs.Lists.{exists}
 use Rattle.policy.specs.Tables.{bit}
 use Rattle.policy.specs.Draft.{put3}
@@ -101,20 +99,3 @@ module _ {A : Type 0} (g : A → Bool) (mask : ℕ) where
 
   pub some_more : (l m : List A) → ((n : ℕ) → length l ≤ n → bit mask n ≡ false) → some_listed g mask 0 (l ++ m) ≡ some_listed g mask 0 l
   some_more l m h = some_past 0 l m (λ n p. h n (omega arith))
-
-  -- ---- a loop over the rows: those from r on decide
-  module _ (l : List A) (d : A) where
-    some_here : (r : ℕ) → r < length l → some_listed g mask r (drop r l) ≡ bit mask r && g (get_or l r d) || some_listed g mask (r + 1) (drop (r + 1) l)
-    some_here r h = rw (add-one r) (ap (some_listed g mask r) (drop-cons l r d h))
-
-    pub some_stop : (r : ℕ) (b : Bool) → r < length l → some_listed g mask r (drop r l) ≡ some_listed g mask 0 l → b ≡ bit mask r && g (get_or l r d) → b ≡ true → true ≡ some_listed g mask 0 l
-    some_stop r true h e q n = ap (λ (z : Bool). z || some_listed g mask (r + 1) (drop (r + 1) l)) q ∙ sym (some_here r h) ∙ e
-    some_stop r false h e q n = absurd (false_T (sym n) tt)
-
-    pub some_next : (r : ℕ) (b : Bool) → r < length l → some_listed g mask r (drop r l) ≡ some_listed g mask 0 l → b ≡ bit mask r && g (get_or l r d) → b ≡ false
-        → some_listed g mask (r + 1) (drop (r + 1) l) ≡ some_listed g mask 0 l
-    some_next r false h e q n = ap (λ (z : Bool). z || some_listed g mask (r + 1) (drop (r + 1) l)) q ∙ sym (some_here r h) ∙ e
-    some_next r true h e q n = absurd (false_T n tt)
-
-    pub some_end : (r : ℕ) → length l ≤ r → some_listed g mask r (drop r l) ≡ some_listed g mask 0 l → false ≡ some_listed g mask 0 l
-    some_end r h e = sym (ap (some_listed g mask r) (drop_of_length-le l {i = r} h)) ∙ e

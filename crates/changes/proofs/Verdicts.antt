@@ -1,12 +1,11 @@
 -- What a kind gives: what is asked of any of them, a refusal by its cause, and the tables that an acceptance writes. Assumes nothing.
-use Prim.Native.Nat.{ℕ, ◌≤◌, ◌<◌, zero, suc}
+use Prim.Native.Nat.{ℕ, ◌≤◌, zero, suc}
 use mathlib.Core.Path.{◌≡◌, sym, ap, ◌∙◌, subst, refl}
 use mathlib.Core.List.{List}
 use Rattle.policy.specs.Layout.{Layout}
 use Rattle.policy.specs.Tables.{Tables, encode, decode}
-use Rattle.policy.specs.Settled.{Gives, settled}
+use Rattle.policy.specs.Settled.{settled}
 use Rattle.image.specs.Wrote.{Wrote}
-use native.Mathlib.Omega.{arith}
 use mathlib.Core.Option.{some, Option}
 use lib.ListN.{length}
 use Rattle.policy.specs.Contract.{Aid}
@@ -18,24 +17,43 @@ use Rattle.policy.specs.Judge.{Out, look_causes, refusal, table_causes, judged}
 use Rattle.policy.proofs.SoundFacts.{sound_formed}
 use Rattle.policy.proofs.Found.{NumberIs, number_is}
 use Rattle.policy.proofs.Pieces.{valid_short}
-use Rattle.geometry.specs.declared.Card.{Card}
-use Rattle.geometry.specs.Geometry.{layout_of}
-use Rattle.geometry.proofs.Bounds.{limits}
 use Rattle.image.specs.Laid.{Laid}
 use Rattle.image.proofs.Laid.{sound_laid}
 use Rattle.changes.specs.Asked.{Asked}
+use Rattle.answers.specs.Numbers.{number, answered, Answers}
+use Rattle.answers.specs.declared.Refusal.{Refusal}
+use Rattle.answers.specs.declared.Refusal.TheVariants.{Unsound, Malformed, Contradictory, Installed, NotInstalled, Pointless, NoNumber, Ungranted, NeedUnmet, UnmetFull, WaitingFull, BufferShort}
+use Rattle.std.specs.Prelude.{Result, Ok, Err, IsErrAnd}
 use Rattle.policy.specs.Lists.{or_else}
 use Rattle.policy.specs.Draft.{Draft, Look, draft, number_for}
 use Rattle.policy.proofs.Settled.{settled_refused, settled_short, settled_accepted}
 
-module _ (L : Layout) {t : Tables} {img : List ℕ} (w : Wrote L img t) where
-  -- the bytes of an acceptance of package number n
-  pub accepted_gives : (n : ℕ) {number second : ℕ} → (number ≡ 0) × (second ≡ n) → Gives (record { answered = 0; second = n; bytes = encode L t }) number second img
-  accepted_gives n h = record { answered = sym h.0; second_is = sym h.1; bytes_are = ap (encode L) (sym w.tables) ∙ w.laid.laid }
+-- an acceptance of package number n, and its bytes
+pub accepted_answers : (L : Layout) {t : Tables} {img : List ℕ} → Wrote L img t → (n : ℕ) → Answers (record { answered = 0; second = n; bytes = encode L t }) (Ok n) img
+accepted_answers L w n = record { answered = refl; second_is = refl; bytes_are = ap (encode L) (sym w.tables) ∙ w.laid.laid }
 
--- the same numbers under the names of the verdict
-pub gives_as : {o : Out} {x y : ℕ} {b : List ℕ} (number second : ℕ) → number ≡ x → second ≡ y → Gives o x y b → Gives o number second b
-gives_as number second p q g = record { answered = g.answered ∙ sym p; second_is = g.second_is ∙ sym q; bytes_are = g.bytes_are }
+-- what the exit of a `?` hands on
+pub answers_as : {o : Out} {b : List ℕ} (e : Refusal) (y : Result ℕ Refusal) → IsErrAnd y (λ x. x ≡ e) → Answers o (Err e) b → Answers o y b
+answers_as {o} {b} e y h a = go y h
+  where
+    go : (y : Result ℕ Refusal) → IsErrAnd y (λ x. x ≡ e) → Answers o y b
+    go (Ok n) p = absurd p
+    go (Err x) p = subst (λ (z : Refusal). Answers o (Err z) b) (sym p) a
+
+-- a cause has a number above 0
+pub number_above : (e : Refusal) → (k : ℕ) × (number e ≡ suc k)
+number_above Unsound = (0, refl)
+number_above Malformed = (1, refl)
+number_above Contradictory = (2, refl)
+number_above Installed = (3, refl)
+number_above NotInstalled = (4, refl)
+number_above Pointless = (5, refl)
+number_above NoNumber = (6, refl)
+number_above Ungranted = (7, refl)
+number_above NeedUnmet = (8, refl)
+number_above UnmetFull = (9, refl)
+number_above WaitingFull = (10, refl)
+number_above BufferShort = (11, refl)
 
 -- what is asked of any kind
 module _ (L : Layout) (img : List ℕ) (a : Aid) {c : Change} (ask : Asked L img a c) where
@@ -48,33 +66,35 @@ module _ (L : Layout) (img : List ℕ) (a : Aid) {c : Change} (ask : Asked L img
   pub aid_at_lem : (n : ℕ) → number_of L (decode L img) a ≡ some n → (decode L img).aid n ≡ a
   aid_at_lem n at = (subst (NumberIs (decode L img) a) at (number_is L (decode L img) (sound_formed L img ask.is_sound).names a)).1
 
-gives : {o : Out} (n s : ℕ) (b : List ℕ) → o ≡ refusal n s b → Gives o n s b
-gives n s b e = record { answered = ap (λ (z : Out). z.answered) e; second_is = ap (λ (z : Out). z.second) e; bytes_are = ap (λ (z : Out). z.bytes) e }
-
--- an image that is what tables t say is t's
-wrote_is : (L : Layout) {img : List ℕ} {t : Tables} → Wrote L img t → encode L t ≡ img
-wrote_is L w = ap (encode L) (sym w.tables) ∙ w.laid.laid
+-- ---- a refusal by its cause, from a test that came out so; an acceptance, from one that let through
+refused : {o : Out} {b : List ℕ} (e : Refusal) → o ≡ refusal (number e) 255 b → Answers o (Err e) b
+refused {o} {b} e h = subst (λ (o : Out). Answers o (Err e) b) (sym h) (record { answered = refl; second_is = refl; bytes_are = refl })
 
 module _ (L : Layout) (img : List ℕ) (a : Aid) (c : Change) where
   abbrev t : Tables
   t = decode L img
 
-  pub gives_early : (n : ℕ) → answer (table_causes L t a c) ≡ suc n → Gives (settled L img a c) (suc n) 255 img
-  gives_early n e = gives (suc n) 255 img (settled_refused L img a c n e)
+  -- the cause e, by whose number the kind is refused
+  by_cause : (e : Refusal) → ((k : ℕ) → number e ≡ suc k → settled L img a c ≡ refusal (suc k) 255 img) → Answers (settled L img a c) (Err e) img
+  by_cause e f = let k = number_above e in refused e (f k.0 k.1 ∙ ap (λ (n : ℕ). refusal n 255 img) (sym k.1))
+
+  pub answers_early : (e : Refusal) → answer (table_causes L (decode L img) a c) ≡ number e → Answers (settled L img a c) (Err e) img
+  answers_early e h = by_cause e (λ k q. settled_refused L img a c k (h ∙ q))
 
   -- package number n, its short check k and its draft d
-  module _ (ask : Asked L img a c) (n : ℕ) (k : Look) (d : Draft) (early : answer (table_causes L t a c) ≡ 0) (short-is : short_look L t a c ≡ k)
-      (draft_is : draft L t a c ≡ d) (number_is : number_for L t a ≡ n) where
-    pub gives_late : (m : ℕ) → m ≡ answer (look_causes k) → (m ≡ 0 → ⊥) → Gives (settled L img a c) m 255 img
-    gives_late zero e ne = absurd (ne refl)
-    gives_late (suc m) e ne =
-        gives (suc m) 255 img (settled_short L img a c ask.is_sound ask.within ask.is_proper early m (ap (λ (z : Look). answer (look_causes z)) short-is ∙ sym e))
+  module _ (ask : Asked L img a c) (n : ℕ) (k : Look) (d : Draft) (early : answer (table_causes L (decode L img) a c) ≡ 0) (short-is : short_look L (decode L img) a c ≡ k)
+      (draft_is : draft L (decode L img) a c ≡ d) (number_is : number_for L (decode L img) a ≡ n) {A : Type 0} {r : Result A Refusal} (h : answered r ≡ answer (look_causes k)) where
+    checked : {x : Result A Refusal} → r ≡ x → answer (look_causes (short_look L t a c)) ≡ answered x
+    checked p = ap (λ (z : Look). answer (look_causes z)) short-is ∙ sym h ∙ ap answered p
 
-    pub gives_done : (m : ℕ) → m ≡ answer (look_causes k) → m ≡ 0 → {img' : List ℕ} → Wrote L img' d.tables → Gives (settled L img a c) 0 n img'
-    gives_done m e z {img'} w =
-        gives 0 n img'
-        (settled_accepted L img a c ask.is_sound ask.within ask.is_proper early (ap (λ (z : Look). answer (look_causes z)) short-is ∙ sym e ∙ z)
-        ∙ λ i. refusal 0 (number_is i) ((ap (λ (x : Draft). encode L x.tables) draft_is ∙ wrote_is L w) i))
+    pub answers_late : {e : Refusal} → r ≡ Err e → Answers (settled L img a c) (Err e) img
+    answers_late {e} p = by_cause e (λ k q. settled_short L img a c ask.is_sound ask.within ask.is_proper early k (checked p ∙ q))
+
+    pub answers_done : {x : A} → r ≡ Ok x → {img' : List ℕ} → Wrote L img' d.tables → Answers (settled L img a c) (Ok n) img'
+    answers_done p {img'} w = subst (λ (o : Out). Answers o (Ok n) img') (sym o) (accepted_answers L w n)
+      where
+        o : settled L img a c ≡ refusal 0 n (encode L d.tables)
+        o = settled_accepted L img a c ask.is_sound ask.within ask.is_proper early (checked p) ∙ λ i. refusal 0 (number_is i) (encode L (draft_is i).tables)
 
 -- the number of an acceptance, where the package is on the card
 pub number_for_lem : (L : Layout) (t : Tables) (a : Aid) (n : ℕ) → number_of L t a ≡ some n → number_for L t a ≡ n
@@ -95,10 +115,3 @@ settled_by L img a c ask = go (answer (table_causes L (decode L img) a c)) (answ
     go zero zero e f = settled_accepted L img a c ask.is_sound ask.within ask.is_proper e f
     go zero (suc n) e f = settled_short L img a c ask.is_sound ask.within ask.is_proper e n f
     go (suc m) n e f = settled_refused L img a c m e
-
--- ---- what the code's tests say of a number that is below most: it is in range, and a package's is a byte
-pub in_range : (n most all : ℕ) → most ≡ all → n < most → n < all
-in_range n most all e h = omega arith
-
-pub is_byte : (c : Card) (n most : ℕ) → most ≡ (layout_of c).packages → n < most → n < 256
-is_byte c n most e h = omega (arith, limits c)

@@ -1,7 +1,7 @@
 -- The rows of the two lists that become bits: waiting grants, and unmet calls on a package's services.
 use Rattle.std.specs.Prelude.{ℕ, ◌+◌, ◌-◌, ◌<◌, T, length}
 use mathlib.Core.List.{List, [], ◌∷◌, Memᴰ as In}
-use Rattle.policy.specs.Lists.{is_some, upto}
+use Rattle.policy.specs.Lists.{is_some, or_else, upto}
 use Rattle.policy.specs.Contract.{Aid, Tok}
 use Rattle.policy.specs.Layout.{Layout}
 use Rattle.policy.specs.Tables.{Tables, Unmet, Waiting, bit}
@@ -11,7 +11,7 @@ use Rattle.policy.specs.ShortCheck.{count}
 use Rattle.geometry.specs.declared.Kept.{Kept}
 use Rattle.rows.specs.Area.{keep_rows}
 use Rattle.image.specs.Laid.{with_unmet, with_waiting}
-use Rattle.image.specs.Read.{items_of, number_or, unmet_row, waiting_row}
+use Rattle.image.specs.Read.{items_of, unmet_row, waiting_row}
 use Rattle.changes.specs.Masks.{listed}
 
 -- their callers' numbers are in range, and those of the packages that give a grant
@@ -30,11 +30,12 @@ module _ (L : Layout) where
   abbrev pub room_after : Kept → ℕ → Tables → ℕ
   room_after l mask t = L.capacity + count (bit mask) (upto 32) - length (items_of l t)
 
+  -- the number of the package with an AID, and of a service of a package; past the last for none
   abbrev pub holder : Tables → Aid → ℕ
-  holder t a = number_or L.packages (number_of L t a)
+  holder t a = or_else (number_of L t a) L.packages (λ n. n)
 
   abbrev pub service_number : Tables → ℕ → Tok → ℕ
-  service_number t n s = number_or L.services (service_of L t n s)
+  service_number t n s = or_else (service_of L t n s) L.services (λ n. n)
 
   -- the waiting grants of l that the mask names are bits
   abbrev pub settled_rows : ℕ → ℕ → List Waiting → Tables → Tables

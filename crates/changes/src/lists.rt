@@ -1,38 +1,34 @@
 // Rows of the two lists that become bits: unmet calls that are met, and waiting grants that are due.
-ghost use Rattle.std.specs.Prelude.{◌≡◌, ℕ, ◌<◌, length};
+ghost use Rattle.std.specs.Prelude.{◌≡◌, ℕ, ◌<◌, length, IfSome};
+ghost use Rattle.policy.specs.Lookup.{service_of};
 ghost use Rattle.geometry.specs.Geometry.{layout_of, tables_of};
 ghost use Rattle.image.specs.Laid.{Laid};
+ghost use Rattle.image.specs.Image.{lay, tables};
 ghost use Rattle.image.specs.Wrote.{Wrote};
-ghost use Rattle.image.specs.Read.{unmet_row, waiting_row};
-ghost use Rattle.changes.specs.Joins.{met_one, CallersIn, GivenIn, service_number, settled_one, settled_all, DueAt, without_rows};
+ghost use Rattle.image.specs.Read.{found, unmet_row, waiting_row};
+ghost use Rattle.changes.specs.Joins.{met_one, CallersIn, GivenIn, settled_one, settled_all, DueAt, without_rows};
 ghost use Rattle.changes.specs.Joins.{CallOn, met_all, TakesIn, taken_in, room_after};
 
 use geometry::{Card, Kept, Table};
+use image::Image;
 
 // How many rows a list has room for, once those of the mask have gone.
-pub fn room_after(img: &[u8], c: Card, l: Kept, mask: u32) -> usize
-    requires { Laid (layout_of c) img.now }
-    ensures { result ≡ room_after (layout_of c) l mask (tables_of c img.now) }
+pub fn room_after(img: Image, l: Kept, mask: u32) -> usize
+    ensures { result ≡ room_after (lay img.entry) l mask (tables img.entry) }
 {
-    let most = geometry::capacity(c);
-    let rows = image::lists::count(img, c, l);
-    let gone = image::lists::mask_count(mask);
-    let all = most + gone;
-    let room = all - rows;
-    room
+    geometry::capacity(img.card) + image::lists::mask_count(mask) - img.count(l)
 }
 
-// The number of the service that waiting grant r is of; the number of services where its package does not provide it.
-pub fn granted_service(img: &[u8], c: Card, r: usize) -> usize
-    requires laid { Laid (layout_of c) img.now }
-    requires inside { r < length (tables_of c img.now).waiting }
-    requires given { (waiting_row (tables_of c img.now) r).callee < (layout_of c).packages }
-    ensures { result ≡ service_number (layout_of c) (tables_of c img.now) (waiting_row (tables_of c img.now) r).callee
-        (waiting_row (tables_of c img.now) r).tok }
+// The number of the service that waiting grant r is of; none where its package does not provide it.
+pub fn granted_service(img: Image, r: usize) -> Option<usize>
+    requires inside { r < length (tables img).waiting }
+    requires given { (waiting_row (tables img) r).callee < (lay img).packages }
+    ensures is { result ≡ found (service_of (lay img.entry) (tables img.entry) (waiting_row (tables img.entry) r).callee
+        (waiting_row (tables img.entry) r).tok) }
+    ensures low { IfSome result (λ k. k < (lay img.entry).services) }
 {
-    let j = image::lists::number(img, c, Kept::WaitingGrants, r);
-    let t = image::lists::tokens(img, c, Kept::WaitingGrants, r);
-    image::read::find_service(img, c, j, t)
+    let j = img.number(Kept::WaitingGrants, r);
+    img.find_service(j, img.tokens(Kept::WaitingGrants, r))
 }
 
 // Waiting grant r, if the mask names it, becomes a bit.
@@ -43,11 +39,15 @@ fn settle_row(img: &mut [u8], c: Card, due: u32, r: usize)
     requires there { DueAt (layout_of c) due (tables_of c img.old) r }
     ensures { Wrote (layout_of c) img.new (settled_one (layout_of c) due r (tables_of c img.old)) }
 {
-    if crate::find::has_row(due, r) {
-        let j = image::lists::number(img, c, Kept::WaitingGrants, r);
-        let i = image::lists::find_holder(img, c, Kept::WaitingGrants, r);
-        let k = granted_service(img, c, r);
-        image::write::set_bit(img, c, Table::Grants, j, i, k);
+    if bits::is_set(due.into(), r) {
+        let view = Image {
+            bytes: img,
+            card: c,
+        };
+        let j = view.number(Kept::WaitingGrants, r);
+        let i = view.find_holder(Kept::WaitingGrants, r).unwrap();
+        let k = granted_service(view, r).unwrap();
+        image::write::put_bit(img, c, Table::Grants, j, i, k, true);
     }
 }
 
@@ -58,7 +58,11 @@ fn settle(img: &mut [u8], c: Card, due: u32)
     requires there { (r : ℕ) → r < length (tables_of c img.old).waiting → DueAt (layout_of c) due (tables_of c img.old) r }
     ensures { Wrote (layout_of c) img.new (settled_all (layout_of c) due (tables_of c img.old)) }
 {
-    let n = image::lists::count(img, c, Kept::WaitingGrants);
+    let n = Image {
+        bytes: img,
+        card: c,
+    }
+    .count(Kept::WaitingGrants);
     for r in 0..n {
         settle_row(img, c, due, r);
     }
@@ -72,11 +76,15 @@ fn meet_row(img: &mut [u8], c: Card, n: usize, met: u32, r: usize)
     requires there { CallOn (layout_of c) met n (tables_of c img.old) r }
     ensures { Wrote (layout_of c) img.new (met_one (layout_of c) met n r (tables_of c img.old)) }
 {
-    if crate::find::has_row(met, r) {
-        let i = image::lists::number(img, c, Kept::UnmetCalls, r);
-        let t = image::lists::tokens(img, c, Kept::UnmetCalls, r);
-        let k = image::read::find_service(img, c, n, t);
-        image::write::set_bit(img, c, Table::Calls, i, n, k);
+    if bits::is_set(met.into(), r) {
+        let view = Image {
+            bytes: img,
+            card: c,
+        };
+        let i = view.number(Kept::UnmetCalls, r);
+        let t = view.tokens(Kept::UnmetCalls, r);
+        let k = view.find_service(n, t).unwrap();
+        image::write::put_bit(img, c, Table::Calls, i, n, k, true);
     }
 }
 
@@ -88,7 +96,11 @@ fn meet(img: &mut [u8], c: Card, n: usize, met: u32)
     requires inside { n < (layout_of c).packages }
     ensures { Wrote (layout_of c) img.new (met_all (layout_of c) met n (tables_of c img.old)) }
 {
-    let m = image::lists::count(img, c, Kept::UnmetCalls);
+    let m = Image {
+        bytes: img,
+        card: c,
+    }
+    .count(Kept::UnmetCalls);
     for r in 0..m {
         meet_row(img, c, n, met, r);
     }
@@ -105,6 +117,7 @@ fn drop_listed(img: &mut [u8], c: Card, calls: u32, grants: u32)
 
 // The unmet calls `met`, on package n's services, and the waiting grants `due` become bits; the unmet calls `calls` and the waiting
 // grants `grants` leave their lists.
+// Stays: the masks come one by one; a struct of them is no plainer, since kind 3 has two, each for both, and it would be taken apart here.
 pub fn take_in(img: &mut [u8], c: Card, n: usize, met: u32, due: u32, calls: u32, grants: u32)
     requires laid { Laid (layout_of c) img.old }
     requires fit { TakesIn (layout_of c) n met due (tables_of c img.old) }

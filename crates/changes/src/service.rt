@@ -7,6 +7,7 @@ ghost use Rattle.image.specs.Wrote.{Wrote};
 ghost use Rattle.changes.specs.Places.{opened, bits_without_service, closed, tables_without_service};
 
 use geometry::{Card, Table, Tokens};
+use image::Image;
 
 // Package j provides service k with these tokens.
 pub fn open_service(img: &mut [u8], c: Card, j: usize, k: usize, t: Tokens)
@@ -15,7 +16,11 @@ pub fn open_service(img: &mut [u8], c: Card, j: usize, k: usize, t: Tokens)
     ensures { Wrote (layout_of c) img.new (opened j k (tok_of t) (tables_of c img.old)) }
 {
     image::write::put_tok(img, c, j, k, t);
-    let row = image::read::provided_row(img, c, j);
+    let row = Image {
+        bytes: img,
+        card: c,
+    }
+    .provided_row(j);
     let with = bits::with_bit(row, k);
     image::write::set_provided(img, c, j, with);
 }
@@ -37,7 +42,11 @@ fn close_service(img: &mut [u8], c: Card, j: usize, k: usize)
     requires inside { (j < (layout_of c).packages) × (k < (layout_of c).services) }
     ensures { Wrote (layout_of c) img.new (closed j k (tables_of c img.old)) }
 {
-    let row = image::read::provided_row(img, c, j);
+    let row = Image {
+        bytes: img,
+        card: c,
+    }
+    .provided_row(j);
     let rest = bits::without_bit(row, k);
     image::write::set_provided(img, c, j, rest);
 }
@@ -49,10 +58,6 @@ pub fn clear_service(img: &mut [u8], c: Card, j: usize, k: usize)
     ensures { Wrote (layout_of c) img.new (tables_without_service j k (tables_of c img.old)) }
 {
     clear_bits(img, c, j, k);
-    let none = Tokens {
-        interface: 0,
-        method: 0,
-    };
-    image::write::put_tok(img, c, j, k, none);
+    image::write::put_tok(img, c, j, k, Tokens::NONE);
     close_service(img, c, j, k);
 }

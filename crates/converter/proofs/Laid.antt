@@ -4,24 +4,48 @@ use native.Mathlib.Omega.{arith}
 use native.Mathlib.Nat.{add-zero, zero-add}
 use mathlib.Core.Path.{◌≡◌, refl, sym, ap, ◌∙◌}
 use mathlib.Core.List.{List, ◌++◌, append-nil}
-use lib.ListN.{length, take, drop, replicate, take-append-drop, length-append}
+use lib.ListN.{length, take, drop, replicate, take-append-drop, length-append, length-replicate}
 use lib.Seq.{drop-length}
 use Rattle.policy.specs.Lists.{flat, upto}
+use Rattle.converter.specs.Enlarged.{filled}
 use Rattle.policy.proofs.Pieces.{length_table, row_ends}
 use Rattle.bits.proofs.Gathered.{flat_snoc}
 use Rattle.rows.specs.Area.{part, over}
-use Rattle.rows.proofs.Over.{over_on, length_over}
+use Rattle.rows.proofs.Over.{over_on, length_over, length_part, lent}
+use borrow.Rule.Slice.PartMut.{put_mid}
 
-pub part_end : (at n : ℕ) (l : List ℕ) → take (at + n - at) (drop at l) ≡ part at n l
-part_end at n l = let e : at + n - at ≡ n = omega arith in ap (λ (k : ℕ). take k (drop at l)) e
+-- ---- a write to a part of a buffer: bytes, and bytes copied from a part of another
+pub put_over : (a n : ℕ) (out x : List ℕ) → length x ≡ n → put_mid a n out x ≡ over a x out
+put_over a n out x e = lent a n x out e
+
+pub put_part : (to end n : ℕ) (out one src : List ℕ) (from last : ℕ) → end ≡ to + n → last ≡ from + n → last ≤ length src
+    → one ≡ take (last - from) (drop from src) → put_mid to (end - to) out one ≡ over to (part from n src) out
+put_part to end n out one src from last e f room p =
+    let k : end - to ≡ n = omega arith in
+    let m : last - from ≡ n = omega arith in
+    let q : one ≡ part from n src = p ∙ ap (λ (i : ℕ). take i (drop from src)) m in
+    (λ i. put_mid to (k i) out (q i)) ∙ put_over to n out (part from n src) (length_part from n src (omega arith))
+
+-- zeros to the end of a part
+pub put_zeros : (to end : ℕ) (out one : List ℕ) → to ≤ end → end ≤ length out
+    → one ≡ replicate (length (take (end - to) (drop to out))) 0 → put_mid to (end - to) out one ≡ over to (replicate (end - to) 0) out
+put_zeros to end out one h room p =
+    let k : length (take (end - to) (drop to out)) ≡ end - to = length_part to (end - to) out (omega arith) in
+    ap (put_mid to (end - to) out) (p ∙ ap (λ (n : ℕ). replicate n 0) k) ∙ put_over to (end - to) out (replicate (end - to) 0) (length-replicate (end - to) 0)
+
+-- bytes in a part, filled up with zeros
+pub put_filled : (to end k n : ℕ) (out one x : List ℕ) → length x ≡ k → end ≡ to + (k + n) → end ≤ length out
+    → one ≡ filled (length (take (end - to) (drop to out))) x → put_mid to (end - to) out one ≡ over to (x ++ replicate n 0) out
+put_filled to end k n out one x long e room p =
+    let m : length (take (end - to) (drop to out)) ≡ k + n = length_part to (end - to) out (omega arith) ∙ omega arith in
+    let d : length (take (end - to) (drop to out)) - length x ≡ n = omega (arith, m) in
+    let q : one ≡ x ++ replicate n 0 = p ∙ ap (λ (i : ℕ). x ++ replicate i 0) d in
+    ap (put_mid to (end - to) out) q ∙ put_over to (end - to) out (x ++ replicate n 0) (length-append x (replicate n 0) ∙ rw (long, length-replicate) (omega arith))
 
 -- ---- writes one after another, the first of k bytes, the second of m
 module _ (at : ℕ) (x out : List ℕ) (k : ℕ) (long : length x ≡ k) where
   pub over_next : (to : ℕ) (y one two : List ℕ) → one ≡ over at x out → two ≡ over to y one → at + k ≤ length out → to ≡ at + k → two ≡ over at (x ++ y) out
   over_next to y one two p q room e = q ∙ ap (over to y) p ∙ over_on at x out (omega arith) to y (omega arith)
-
-  pub over_zeros : (d : ℕ) (one two : List ℕ) → one ≡ over at x out → two ≡ over (at + k) (replicate d 0) one → at + k + d ≤ length out → two ≡ over at (x ++ replicate d 0) out
-  over_zeros d one two p q room = over_next (at + k) (replicate d 0) one two p q (omega arith) refl
 
   pub over_third : (to : ℕ) (y : List ℕ) (m : ℕ) → length y ≡ m → (end : ℕ) (z one two three : List ℕ) → one ≡ over at x out → two ≡ over to y one → three ≡ over end z two
       → at + (k + m) ≤ length out → to ≡ at + k → end ≡ at + (k + m) → three ≡ over at ((x ++ y) ++ z) out

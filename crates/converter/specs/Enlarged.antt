@@ -1,5 +1,6 @@
 -- The parts of a large image, by the bytes of the small one that is carried over: what the small one has, then zeros that fill the place.
-use Rattle.std.specs.Prelude.{ℕ, ◌+◌, ◌≡◌, List, [], ◌++◌, length, get_or, replicate}
+use Rattle.std.specs.Borrow.{Bor, MutBor}
+use Rattle.std.specs.Prelude.{ℕ, ◌+◌, ◌-◌, ◌*◌, ◌≡◌, List, [], ◌++◌, length, get_or, replicate}
 use Rattle.policy.specs.Lists.{flat, upto}
 use Rattle.policy.specs.Layout.{small, large, used_at, aids_at, provides_at, size}
 use Rattle.policy.specs.Tables.{write_number}
@@ -12,6 +13,21 @@ use Rattle.rows.specs.Area.{part}
 -- the two have their cards' sizes
 abbrev pub Sized : List ℕ → List ℕ → Type 0
 Sized img out = (length img ≡ size small) × (length out ≡ size large)
+
+-- bytes, then zeros up to n bytes
+abbrev pub filled : ℕ → List ℕ → List ℕ
+filled n bytes = bytes ++ replicate (n - length bytes) 0
+
+-- 8 lines of w bytes, each as f makes it, then zeros in the place of 8 more
+unfoldable pub lines_of : (List ℕ → List ℕ) → ℕ → List ℕ → List ℕ
+lines_of f w lines = flat (λ i. f (part (i * w) w lines)) (upto 8) ++ replicate 256 0
+
+-- what writes a line into its place of 32 bytes leaves f of it there
+pub record Puts (post : Bor (List ℕ) → MutBor (List ℕ) → Unit {0} → MutBor (List ℕ) → Type 0) (w : ℕ)
+    (f : List ℕ → List ℕ) : Type 0 where
+  pub long : (x : List ℕ) → length x ≡ w → length (f x) ≡ 32
+  pub puts : (x : Bor (List ℕ)) (p q : MutBor (List ℕ)) → length x.now ≡ w → length p.now ≡ 32 → post x p tt q
+      → q.now ≡ f x.now
 
 -- n rows of bits from index `from` on: 'a used field and table entries of two bytes, big-endian'
 abbrev pub widened : List ℕ → ℕ → ℕ → List ℕ

@@ -2,13 +2,12 @@
 #![tactic(auto)]
 
 ghost use Rattle.std.specs.Prelude.{◌≡◌, ◌++◌, ◌+◌, ◌≤◌, ◌<◌, T, length, get_or};
-ghost use Rattle.policy.specs.Lists.{flat, upto};
 ghost use Rattle.policy.specs.Layout.{narrow, small, size as size_of};
 ghost use Rattle.policy.specs.Sound.{sound};
 ghost use Rattle.policy.specs.Eras.{carried};
 ghost use Rattle.geometry.specs.Geometry.{place_at};
 ghost use Rattle.geometry.specs.declared.Kept.TheVariants.{WaitingGrants};
-ghost use Rattle.rows.specs.Area.{part, over};
+ghost use Rattle.rows.specs.Area.{over};
 ghost use Rattle.converter.specs.Converted.{old_at, old_count, named_at, front_of, new_row, Converted};
 
 use geometry::{Card, Kept};
@@ -16,6 +15,7 @@ use geometry::{Card, Kept};
 pub mod enlarge;
 
 // An image of version 01: how many waiting grants it has,
+#[tactic(auto, using(crate::proofs::Old::old_size))]
 fn old_count(old: &[u8]) -> usize
     requires { T (sound narrow old.now) }
     ensures { result ≡ old_count old.now }
@@ -45,17 +45,9 @@ fn named_at(old: &[u8], at: usize) -> usize
     geometry::tok_at(Card::Small, callee, service)
 }
 
-// The n bytes of old at `from` over those of out at `to`.
-fn copy(old: &[u8], from: usize, n: usize, out: &mut [u8], to: usize)
-    requires { (from + n ≤ length old.now) × (to + n ≤ length out.old) }
-    ensures { out.new ≡ over to (part from n old.now) out.old }
-{
-    let end = from + n;
-    rows::put(out, to, &old[from..end]);
-}
-
 // Row r: AID and callee number as they are, then the tokens in place of the service number.
-fn write_row(old: &[u8], out: &mut [u8], r: usize)
+#[tactic(auto, using(crate::proofs::Written::writes))]
+fn write_row(old: &[u8], r: usize, out: &mut [u8])
     requires sound { T (sound narrow old.now) }
     requires sized { length out.old ≡ size_of small }
     requires row { r < old_count old.now }
@@ -64,36 +56,23 @@ fn write_row(old: &[u8], out: &mut [u8], r: usize)
     let from = old_at(r);
     let tok = named_at(old, from);
     let to = geometry::place_at(Card::Small, Kept::WaitingGrants, r);
-    copy(old, from, 18, out, to);
-    copy(old, tok, 2, out, to + 18);
-}
-
-// The first n rows, in order.
-fn write_rows(old: &[u8], out: &mut [u8], n: usize)
-    requires sound { T (sound narrow old.now) }
-    requires sized { length out.old ≡ size_of small }
-    requires rows { n ≤ old_count old.now }
-    ensures { out.new
-        ≡ over (place_at small WaitingGrants 0) (flat (new_row old.now) (upto n)) out.old }
-{
-    for r in 0..n {
-        write_row(old, out, r);
-    }
+    out[to..to + 18].copy_from_slice(&old[from..from + 18]);
+    out[to + 18..to + 20].copy_from_slice(&old[tok..tok + 2]);
 }
 
 // The new header, then all that stands before the waiting grants, and their count.
+#[tactic(auto, using(crate::proofs::Old::old_size))]
 fn copy_front(old: &[u8], out: &mut [u8])
     requires sound { T (sound narrow old.now) }
     requires sized { length out.old ≡ size_of small }
     ensures { out.new ≡ over 0 (small.header ++ front_of old.now) out.old }
 {
-    let head = geometry::header(Card::Small);
-    rows::put(out, 0, &head);
     let end = geometry::place_at(Card::Small, Kept::WaitingGrants, 0);
-    copy(old, 3, end - 3, out, 3);
+    out[..3].copy_from_slice(&geometry::header(Card::Small));
+    out[3..end].copy_from_slice(&old[3..end]);
 }
 
-// The image of version 02 with the same tables.
+// The image of version 02 with the same tables: the front, the rows in order, and zeros to the end.
 fn carry(old: &[u8], out: &mut [u8])
     requires sound { T (sound narrow old.now) }
     requires sized { length out.old ≡ size_of small }
@@ -101,10 +80,12 @@ fn carry(old: &[u8], out: &mut [u8])
 {
     copy_front(old, out);
     let n = old_count(old);
-    write_rows(old, out, n);
+    // Stays: a `for` over numbers, since a proof does not know what is left in the pieces of `chunks_exact_mut`.
+    for r in 0..n {
+        write_row(old, r, out);
+    }
     let end = geometry::place_at(Card::Small, Kept::WaitingGrants, n);
-    let rest = out.len() - end;
-    rows::clear(out, end, rest);
+    out[end..].fill(0);
 }
 
 // Whether the image is taken: it is sound by the rules before R-2, and the buffer has the new image's size. Else nothing is written.

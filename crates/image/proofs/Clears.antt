@@ -14,7 +14,7 @@ use Rattle.policy.specs.Contract.{Tok}
 use Rattle.policy.specs.Layout.{Layout}
 use Rattle.policy.specs.Tables.{Tables, no_tok, bit, decode}
 use Rattle.policy.specs.Draft.{put3}
-use Rattle.policy.proofs.Sets.{T_eq, and_l, and_r, and_i, or_l, or_r, or_e, exists_in, in_exists, in_upto}
+use Rattle.policy.proofs.Sets.{T_eq, and_l, and_r, and_i, exists_in, in_exists, in_upto}
 use Rattle.policy.proofs.Pieces.{in_or_off}
 use Rattle.policy.proofs.Bits.{bit_none}
 use Rattle.bits.proofs.Loops.{exists_snoc}
@@ -83,8 +83,8 @@ module _ (p : ℕ → Bits) (b : Bits) where
 abbrev pub along_row : ℕ → ℕ → Bits
 along_row n k x y z = eqb x n && eqb y k
 
-abbrev pub cross : ℕ → ℕ → Bits
-cross n k x y z = (eqb x n && eqb y k) || (eqb x k && eqb y n)
+abbrev pub along_column : ℕ → ℕ → Bits
+along_column n k x y z = eqb x k && eqb y n
 
 abbrev pub service : Table → ℕ → ℕ → ℕ → Bits
 service tb j s k x y z = eqb x (row_in tb k j) && eqb y (row_in tb j k) && eqb z s
@@ -124,13 +124,10 @@ module _ (c : Card) (tb : Table) where
     row_turn n m b {img' = img'} h w =
         subst (λ (z : Bits). Wrote L img' (with_table tb z t)) (cleared_more (along_row n) b m) (entry_cleared n m (cleared_by (along_row n) m b) h w)
 
-    pub cross_turn : (n m : ℕ) (b : Bits) {img one two : List ℕ} → Wrote L img (with_table tb (cleared_by (cross n) m b) t) → Wrote L one (with_entry tb n m (bit 0) (decode L img))
-        → Wrote L two (with_entry tb m n (bit 0) (decode L one)) → Wrote L two (with_table tb (cleared_by (cross n) (m + 1) b) t)
-    cross_turn n m b {two = two} h u v =
-        let old = cleared_by (cross n) m b in
-        subst (λ (z : Bits). Wrote L two (with_table tb z t))
-        ((λ r x y z. less (old x y z) (eqb x n && eqb y m) (eqb x m && eqb y n) r) ∙ cleared_more (cross n) b m)
-        (entry_cleared m n (λ x y z. old x y z && not (eqb x n && eqb y m)) (entry_cleared n m old h u) v)
+    pub column_turn : (n m : ℕ) (b : Bits) {img img' : List ℕ} → Wrote L img (with_table tb (cleared_by (along_column n) m b) t) → Wrote L img' (with_entry tb m n (bit 0) (decode L img))
+        → Wrote L img' (with_table tb (cleared_by (along_column n) (m + 1) b) t)
+    column_turn n m b {img' = img'} h w =
+        subst (λ (z : Bits). Wrote L img' (with_table tb z t)) (cleared_more (along_column n) b m) (entry_cleared m n (cleared_by (along_column n) m b) h w)
 
     pub service_turn : (j s m i k : ℕ) (b : Bits) {img img' : List ℕ} → i ≡ row_in tb m j → k ≡ row_in tb j m → Wrote L img (with_table tb (cleared_by (service tb j s) m b) t)
         → Wrote L img' (with_table tb (put3 i k s false (table_of tb (decode L img))) (decode L img)) → Wrote L img' (with_table tb (cleared_by (service tb j s) (m + 1) b) t)
@@ -158,18 +155,9 @@ module _ (c : Card) (tb : Table) where
     along_done k =
         done (along_row k) (λ x y z. eqb x k) (λ i x y z s. and_l (eqb x k) (eqb y i) s) (λ x y z p q s. (y, q, and_i (eqb x k) (eqb y y) s (eqb_refl y)))
 
-    pub cross_done : (k : ℕ) {img : List ℕ} → Wrote L img (with_table tb (cleared_by (cross k) m b) t) → Wrote L img (with_table tb (without_package k b) t)
-    cross_done k =
-        done (cross k) (λ x y z. eqb x k || eqb y k) (λ i x y z s. one i x y (or_e (eqb x k && eqb y i) (eqb x i && eqb y k) s))
-        (λ x y z p q s. two x y p q (or_e (eqb x k) (eqb y k) s))
-      where
-        one : (i x y : ℕ) → T (eqb x k && eqb y i) ⊎ T (eqb x i && eqb y k) → T (eqb x k || eqb y k)
-        one i x y (inl s) = or_l (eqb x k) (eqb y k) (and_l (eqb x k) (eqb y i) s)
-        one i x y (inr s) = or_r (eqb x k) (eqb y k) (and_r (eqb x i) (eqb y k) s)
-
-        two : (x y : ℕ) → x < m → y < m → T (eqb x k) ⊎ T (eqb y k) → (i : ℕ) × (i < m) × T ((eqb x k && eqb y i) || (eqb x i && eqb y k))
-        two x y p q (inl s) = (y, q, or_l (eqb x k && eqb y y) (eqb x y && eqb y k) (and_i (eqb x k) (eqb y y) s (eqb_refl y)))
-        two x y p q (inr s) = (x, p, or_r (eqb x k && eqb y x) (eqb x x && eqb y k) (and_i (eqb x x) (eqb y k) (eqb_refl x) s))
+    column_left : (k : ℕ) {img : List ℕ} → Wrote L img (with_table tb (cleared_by (along_column k) m b) t) → Wrote L img (with_table tb (λ x y z. b x y z && not (eqb y k)) t)
+    column_left k =
+        done (along_column k) (λ x y z. eqb y k) (λ i x y z s. and_r (eqb x i) (eqb y k) s) (λ x y z p q s. (x, p, and_i (eqb x x) (eqb y k) (eqb_refl x) s))
 
     module _ (j s : ℕ) where
       column_done : {img : List ℕ} → Wrote L img (with_table tb (cleared_by (service Calls j s) m b) t) → Wrote L img (with_table tb (in_column j s b) t)
@@ -183,6 +171,15 @@ module _ (c : Card) (tb : Table) where
           done (service Grants j s) (λ x y z. eqb x j && eqb z s)
           (λ i x y z e. and_i (eqb x j) (eqb z s) (and_l (eqb x j) (eqb y i) (and_l (eqb x j && eqb y i) (eqb z s) e)) (and_r (eqb x j && eqb y i) (eqb z s) e))
           (λ x y z p q e. (y, q, and_i (eqb x j && eqb y y) (eqb z s) (and_i (eqb x j) (eqb y y) (and_l (eqb x j) (eqb z s) e) (eqb_refl y)) (and_r (eqb x j) (eqb z s) e)))
+
+  -- a column, after the row
+  pub cross_done : (k : ℕ) (old first : List ℕ) {img : List ℕ} → Wrote L first (with_table tb (without_row k (table_of tb (decode L old))) (decode L old)) → (m n : ℕ) → m ≤ n → n ≤ m → n ≡ L.packages
+      → Wrote L img (with_table tb (cleared_by (along_column k) m (table_of tb (decode L first))) (decode L first))
+      → Wrote L img (with_table tb (without_package k (table_of tb (decode L old))) (decode L old))
+  cross_done k old first h m n low high all w =
+      let b = table_of tb (decode L old) in
+      change (decode L old) (λ (b : Bits) (x y z : ℕ). b x y z && not (eqb y k)) (without_row k b) (without_package k b)
+      (λ r x y z. less (b x y z) (eqb x k) (eqb y k) r) h (column_left h.laid m n low high all k w)
 
 module _ (c : Card) where
   pub service_done : (tb : Table) {old img : List ℕ} → Laid (layout_of c) old → (m n : ℕ) → m ≤ n → n ≤ m → n ≡ (layout_of c).packages → (j s : ℕ)
@@ -269,4 +266,4 @@ module _ (L : Layout) (n : ℕ) where
 pub laid_same : (c : Card) {old img : List ℕ} → Laid (layout_of c) img → Laid (layout_of c) old → length img ≡ length old
 laid_same c h g = laid_length (layout_of c) (layout_ok c) h ∙ sym (laid_length (layout_of c) (layout_ok c) g)
 
-pub ruleset clears = (laid_same, cleared_start, row_low, row_turn, service_turn, along_done, cross_done, service_done, toks_start, toks_turn, services_done, pow_pos, rules)
+pub ruleset clears = (laid_same, cleared_start, row_low, row_turn, column_turn, service_turn, along_done, cross_done, service_done, toks_start, toks_turn, services_done, pow_pos, rules)

@@ -1,6 +1,8 @@
 pub mod Swap
 pub mod Places
 pub mod Laid
+pub mod LaidImage
+pub mod Finds
 pub mod Access
 pub mod Replace
 pub mod Over

@@ -2,30 +2,27 @@
 use Prim.Native.Nat.{ℕ, ◌+◌, ◌-◌, ◌*◌, ◌≤◌, ◌<◌}
 use native.Mathlib.Omega.{arith}
 use native.Mathlib.Nat.{add_assoc}
-use mathlib.Core.Path.{◌≡◌, sym, ap, ap₂, ◌∙◌}
-use mathlib.Core.Bool.{Bool, false, ◌&&◌}
+use mathlib.Core.Path.{◌≡◌, ap, ap₂, ◌∙◌}
+use mathlib.Core.Bool.{Bool}
 use mathlib.Core.List.{List, []}
-use lib.Dec.{eqb}
 use lib.ListN.{length, get_or, take, drop}
 use mir.Syntax.{w64}
 use mir.Val.{bool_byte, Fits}
 use borrow.Author.Rules.{rules}
-use borrow.Author.Tests.{ne_eqb, eq-eqb}
-use Rattle.policy.specs.Contract.{Aid, eq_aid, Tok, eq_tok}
+use Rattle.policy.specs.Contract.{Aid, eq_aid, Tok}
 use Rattle.policy.specs.Tables.{Tables, no_tok, decode}
-use Rattle.policy.specs.Lookup.{number_of}
 use Rattle.geometry.specs.declared.Card.{Card}
 use Rattle.geometry.specs.declared.Kept.{Kept}
 use Rattle.geometry.specs.Geometry.{layout_of, list_at, place_at, number_in}
 use Rattle.geometry.specs.Geometry as geometry
 use Rattle.geometry.proofs.Bounds.{layout_ok, early, limits, list_in, row_in, number_in_row, tokens_in_row}
 use Rattle.image.specs.Laid.{Laid}
-use Rattle.image.specs.Read.{number_or, aid_in, tokens_in, Item, items_of, item, item_aid, item_tok, item_number, item_at, mask_of}
+use Rattle.image.specs.Read.{aid_in, tokens_in, Item, items_of, item, item_aid, item_tok, item_number, item_at, mask_of}
 use Rattle.image.proofs.Access as at
 use Rattle.image.proofs.Places.{list_fits}
+use Rattle.image.proofs.LaidImage.{is_laid}
 use Rattle.image.proofs.Seen.{aid_held_lem, laid_size}
-use Rattle.image.proofs.Masks.{mask_start, mask_turn, mask_doubles, mask_adds, mask_end}
-use Rattle.bits.proofs.Tests.{other, alike}
+use Rattle.image.proofs.Masks.{mask_turn}
 
 module _ (c : Card) (img : List ℕ) (h : Laid (layout_of c) img) (l : Kept) where
   abbrev t : Tables
@@ -81,11 +78,8 @@ module _ (c : Card) (img : List ℕ) (h : Laid (layout_of c) img) (l : Kept) whe
         pub held_in : a + 1 + n ≤ length img
         held_in = omega (arith, row_room, aid_short)
 
-        pub holder_is : (r' : ℕ) → r' ≡ number_or (layout_of c).packages (number_of (layout_of c) (decode (layout_of c) img) (take (a + 1 + n - (a + 1)) (drop (a + 1) img)))
-            → r' ≡ number_or (layout_of c).packages (number_of (layout_of c) (decode (layout_of c) img) (item_aid l (item_at l (decode (layout_of c) img) r)))
-        holder_is r' e =
-            let k : a + 1 + n - (a + 1) ≡ get_or img a 0 = omega (arith, i) in
-            e ∙ ap (λ (z : Aid). number_or (layout_of c).packages (number_of (layout_of c) t z)) (ap (λ (z : ℕ). take z (drop (a + 1) img)) k ∙ aid_seen)
+        pub holder_is : take (a + 1 + n - (a + 1)) (drop (a + 1) img) ≡ item_aid l (item_at l (decode (layout_of c) img) r)
+        holder_is = let k : a + 1 + n - (a + 1) ≡ get_or img a 0 = omega (arith, i) in ap (λ (z : ℕ). take z (drop (a + 1) img)) k ∙ aid_seen
 
       pub aid_is : (aid : List ℕ) (v : Bool) → v ≡ eq_aid (aid_in img a) aid → v ≡ eq_aid (item_aid l (item_at l (decode (layout_of c) img) r)) aid
       aid_is aid v z = z ∙ ap (λ (s : Aid). eq_aid s aid) aid_seen
@@ -121,24 +115,9 @@ module _ (c : Card) (img : List ℕ) (h : Laid (layout_of c) img) (l : Kept) whe
         pub tokens_read : (s : Tok) → s ≡ tokens_in img (a + k) → s ≡ item_tok l (item_at l (decode (layout_of c) img) r)
         tokens_read s e = e ∙ tok_seen
 
-        pub tokens_are : (s : Tok) (b : Bool) → b ≡ eq_tok (tokens_in img (a + k)) s → b ≡ eq_tok (item_tok l (item_at l (decode (layout_of c) img) r)) s
-        tokens_are s b e = e ∙ ap (λ (x : Tok). eq_tok x s) tok_seen
+pub ruleset listed = (is_laid, list_counts, list_counted, row_lt, row_aid, row_start, aid_short, held_sum, held_end, held_in, holder_is, aid_is, number_byte, number_sum, number_seen, tokens_sum, tokens_room, tokens_read, rules)
 
--- ---- a number first, then what v says
-pub number_other : (n x y : ℕ) (v : Bool) → x ≡ y → (x ≡ n → ⊥) → false ≡ eqb y n && v
-number_other n x y v e h = ap (λ (b : Bool). b && v) (sym (ne_eqb y n (λ q. h (e ∙ q))))
-
-pub number_alike : (n x y : ℕ) (b v : Bool) → x ≡ y → x ≡ n → b ≡ v → b ≡ eqb y n && v
-number_alike n x y b v e h q = q ∙ ap (λ (z : Bool). z && v) (sym (eq-eqb y n (sym e ∙ h)))
-
-pub ruleset listed = (list_counts, list_counted, row_lt, row_aid, row_start, aid_short, held_sum, held_end, held_in, holder_is, aid_is, number_byte, number_sum, number_seen, tokens_sum, tokens_room, tokens_read, tokens_are, other, alike, number_other, number_alike, rules)
-
--- ---- the loops that gather a mask of rows: `search masks`
+-- ---- the loop that gathers a mask of rows
 module _ (l : Kept) (f : Item l → Bool) (m : List (Item l)) (r mask : ℕ) (e : mask ≡ mask_of f (drop r m)) (h : 0 < r) (i : r ≤ length m) where
   pub item_turn : (b : Bool) → b ≡ f (get_or m (r - 1) (item l [] no_tok 0)) → mask * 2 + bool_byte b ≡ mask_of f (drop (r - 1) m)
   item_turn = mask_turn f m r mask e h i (item l [] no_tok 0)
-
-pub number_same : (n x y : ℕ) → x ≡ y → eqb x n ≡ eqb y n
-number_same n x y e = ap (λ (z : ℕ). eqb z n) e
-
-pub ruleset masks = (mask_start, mask_turn, mask_doubles, mask_adds, mask_end, item_turn, number_same, list_low, rules)

@@ -1,7 +1,7 @@
 -- Masks: which elements of a list pass a test, as the bits of a number; and the loop that gathers one, from the last element to the first.
 use Prim.Native.Nat.{ℕ, suc, ◌+◌, ◌-◌, ◌*◌, ◌/◌, ◌%◌, ◌^◌, ◌≤◌, ◌<◌, suc-le-suc}
 use native.Mathlib.Omega.{arith}
-use native.Mathlib.Nat.{lt_of_lt_of_le, zero-add, add-zero, add-suc, suc-add}
+use native.Mathlib.Nat.{pow-succ', lt_of_lt_of_le, zero-add, add-zero, add-suc, suc-add}
 use native.Mathlib.Numerals.{one-add}
 use mathlib.Core.Path.{◌≡◌, refl, sym, ap, ap₂, ◌∙◌}
 use mathlib.Core.Bool.{Bool, true, false, not, ◌&&◌, ◌||◌, cond}
@@ -9,7 +9,7 @@ use mathlib.Core.List.Memᴰ.{head as here}
 use mathlib.Core.List.Memᴰ.{tail as there}
 use mathlib.Core.List.{Memᴰ as In}
 use mathlib.Core.List.{List, [], ◌∷◌}
-use lib.ListN.{length, get_or, drop, length-drop, drop_of_length-le}
+use lib.ListN.{length, get_or, drop, length-drop}
 use lib.Seq.{drop-cons}
 use lib.Pow.{pow_mono}
 use lib.Bits.{bit_and, bit_or, and_lt, or_lt}
@@ -113,13 +113,7 @@ mask_or f g (x ∷ l) =
     (λ k h. bit_or_lem (mask_of f (x ∷ l)) (mask_of g (x ∷ l)) k ∙ ap₂ ◌||◌ (mask_bit f (x ∷ l) k x h) (mask_bit g (x ∷ l) k x h) ∙ sym (mask_bit (λ y. f y || g y) (x ∷ l) k x h))
 
 -- ---- the loop: m is the mask of the elements from r on
-pub mask_start : {A : Type 0} (f : A → Bool) (l : List A) (r : ℕ) → r ≡ length l → 0 ≡ mask_of f (drop r l)
-mask_start f l r e = sym (ap (mask_of f) (drop_of_length-le l {i = r} (omega arith)))
-
 module _ {A : Type 0} (f : A → Bool) (l : List A) (r m : ℕ) (e : m ≡ mask_of f (drop r l)) where
-  pub mask_end : r ≤ 0 → m ≡ mask_of f l
-  mask_end h = let z : r ≡ 0 = omega arith in e ∙ ap (λ (k : ℕ). mask_of f (drop k l)) z
-
   module _ (h : 0 < r) (i : r ≤ length l) where
     pub mask_turn : (d : A) (b : Bool) → b ≡ f (get_or l (r - 1) d) → m * 2 + bool_byte b ≡ mask_of f (drop (r - 1) l)
     mask_turn d b p =
@@ -140,9 +134,25 @@ module _ {A : Type 0} (f : A → Bool) (l : List A) (r m : ℕ) (e : m ≡ mask_
           let z = lt_of_lt_of_le (mask_lt f (drop r l)) (pow_mono n) in
           omega arith
 
-      pub mask_doubles : Fits w32 (m * 2)
-      mask_doubles = omega (arith, half)
+-- ---- the same loop where the test is still to be said: m is below 2 ^ (n - r)
+module _ (n r m : ℕ) (e : m < 2 ^ (n - r)) (h : 0 < r) (i : r ≤ n) where
+  twice : 2 ^ (n - (r - 1)) ≡ 2 * 2 ^ (n - r)
+  twice = let s : n - (r - 1) ≡ suc (n - r) = omega arith in ap (λ (k : ℕ). 2 ^ k) s ∙ pow-succ' 2 (n - r)
 
-      pub mask_adds : (b : Bool) → Fits w32 (m * 2 + bool_byte b)
-      mask_adds true = omega (arith, half)
-      mask_adds false = omega (arith, half)
+  pub mask_low : (b : Bool) → m * 2 + bool_byte b < 2 ^ (n - (r - 1))
+  mask_low true = omega (arith, twice)
+  mask_low false = omega (arith, twice)
+
+  module _ (w : n ≤ 32) where
+    low : m < 2147483648
+    low =
+        let k : n - r ≤ 31 = omega arith in
+        let z = lt_of_lt_of_le e (pow_mono k) in
+        omega arith
+
+    pub mask_doubled : Fits w32 (m * 2)
+    mask_doubled = omega (arith, low)
+
+    pub mask_added : (b : Bool) → Fits w32 (m * 2 + bool_byte b)
+    mask_added true = omega (arith, low)
+    mask_added false = omega (arith, low)

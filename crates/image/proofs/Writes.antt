@@ -2,7 +2,7 @@
 use Prim.Native.Nat.{ℕ, ◌+◌, ◌-◌, ◌^◌, ◌≤◌, ◌<◌}
 use native.Mathlib.Omega.{arith}
 use native.Mathlib.Nat.{not-le_of_lt}
-use mathlib.Core.Path.{◌≡◌, refl, sym, ap, ◌∙◌, subst}
+use mathlib.Core.Path.{◌≡◌, refl, sym, ap, ap₂, ◌∙◌, subst}
 use mathlib.Core.Bool.{Bool, cond}
 use mathlib.Core.List.{List, [], ◌∷◌, ◌++◌}
 use lib.Dec.{eqb}
@@ -14,7 +14,7 @@ use Rattle.policy.specs.Draft.{put, put2, put3}
 use Rattle.policy.proofs.Sets.{T_false}
 use Rattle.policy.proofs.Pieces.{length_aid}
 use Rattle.rows.specs.Area.{over, HasRoom, appended}
-use Rattle.rows.proofs.Over.{over_on, part_at_lem, length_over}
+use Rattle.rows.proofs.Over.{lent, over_on, part_at_lem, length_over}
 use Rattle.policy.proofs.Bits.{row_of_lt}
 use Rattle.geometry.specs.declared.Card.{Card}
 use Rattle.geometry.specs.declared.Table.{Table}
@@ -51,6 +51,27 @@ slot_made at a img s h =
     ∙ ap (over (at + 1 + n) (replicate (16 - n) 0)) q
     ∙ over_on at (n ∷ a) img (omega arith) (at + 1 + n) (replicate (16 - n) 0) (omega arith)
 
+-- the same, as writes to parts leave it
+pub slot_put : (at : ℕ) (a img : List ℕ) {x z : List ℕ} → length a ≤ 16 → at + 17 ≤ length img → x ≡ a → z ≡ replicate (length z) 0 → length z ≡ at + 17 - (at + 1 + length a)
+    → take (at + 1 + length a) (take (at + 1) (set img at (length a)) ++ (x ++ drop (at + 1 + length a - (at + 1)) (drop (at + 1) (set img at (length a)))))
+    ++ (z ++ drop (at + 17 - (at + 1 + length a)) (drop (at + 1 + length a) (take (at + 1) (set img at (length a)) ++ (x ++ drop (at + 1 + length a - (at + 1)) (drop (at + 1) (set img at (length a)))))))
+    ≡ over at (write_aid a) img
+slot_put at a img {x} {z} s h p q e =
+    let n = length a in
+    let one = set img at n in
+    let l : length x ≡ at + 1 + n - (at + 1) = ap length p ∙ omega arith in
+    let w : at + 17 - (at + 1 + n) ≡ 16 - n = omega arith in
+    let zeros : z ≡ replicate (16 - n) 0 = q ∙ ap (λ (k : ℕ). replicate k 0) (e ∙ w) in
+    lent (at + 1 + n) (at + 17 - (at + 1 + n)) z (take (at + 1) one ++ (x ++ drop (at + 1 + n - (at + 1)) (drop (at + 1) one))) e
+    ∙ ap₂ (over (at + 1 + n)) zeros (lent (at + 1) (at + 1 + n - (at + 1)) x one l ∙ ap (λ (y : List ℕ). over (at + 1) y one) p)
+    ∙ slot_made at a img s h
+
+pub slot_cleared : (at : ℕ) (img : List ℕ) {z : List ℕ} → z ≡ replicate (length z) 0 → length z ≡ at + 17 - at
+    → take at img ++ (z ++ drop (at + 17 - at) (drop at img)) ≡ over at (write_aid []) img
+slot_cleared at img {z} q e =
+    let w : at + 17 - at ≡ 17 = omega arith in
+    lent at (at + 17 - at) z img e ∙ ap (λ (y : List ℕ). over at y img) (q ∙ ap (λ (k : ℕ). replicate k 0) (e ∙ w))
+
 -- a row: an AID's place, and what follows it
 pub row_wide : (a tail : List ℕ) → length a ≤ 16 → length (write_aid a ++ tail) ≡ 17 + length tail
 row_wide a tail s = length-append (write_aid a) tail ∙ ap (λ (z : ℕ). z + length tail) (length_aid a s)
@@ -73,6 +94,13 @@ item_aid_lem WaitingGrants a s n = refl
 pub tail_three : (l : Kept) (s : Tok) (n : ℕ) {tail : List ℕ} → tail ≡ tail_of l s n → 3 ≡ length tail
 tail_three UnmetCalls s n e = sym (ap length e)
 tail_three WaitingGrants s n e = sym (ap length e)
+
+-- the same, as writes to parts leave it
+pub row_put : (a tail zeros : List ℕ) {row x : List ℕ} → length a ≤ 16 → 17 + length tail ≤ length zeros → row ≡ over 0 (write_aid a) zeros → x ≡ tail
+    → take (17 + length tail) (take 17 row ++ (x ++ drop (17 + length tail - 17) (drop 17 row))) ≡ write_aid a ++ tail
+row_put a tail zeros {row} {x} s h e p =
+    let l : length x ≡ 17 + length tail - 17 = ap length p ∙ omega arith in
+    ap (take (17 + length tail)) (lent 17 (17 + length tail - 17) x row l ∙ ap₂ (over 17) p e) ∙ row_made a tail zeros s h
 
 item_row_lem : (l : Kept) (a : Aid) (s : Tok) (n : ℕ) → write_item l (item l a s n) ≡ write_aid a ++ tail_of l s n
 item_row_lem UnmetCalls a s n = refl

@@ -1,14 +1,17 @@
 -- An image that is what its tables say, and tables with one part changed.
-use Rattle.std.specs.Prelude.{ℕ, ◌≡◌, Bool, ◌&&◌, cond, List, eqb}
+use Rattle.std.specs.Prelude.{ℕ, ◌≤◌, ◌<◌, ◌≡◌, ◌⊎◌, Bool, ◌&&◌, cond, List, [], T, eqb, length}
+use mathlib.Core.List.{Memᴰ as In}
 use Rattle.policy.specs.Contract.{Aid, Tok}
 use Rattle.policy.specs.Layout.{Layout}
-use Rattle.policy.specs.Tables.{Tables, Unmet, Waiting, decode, encode}
+use Rattle.policy.specs.Tables.{Tables, Unmet, Waiting, no_tok, decode, encode}
 use Rattle.policy.specs.Draft.{put, put2, with_calls, with_grants, with_needs}
-use Rattle.policy.specs.Room.{Room}
+use Rattle.policy.specs.Room.{BitsIn, Room}
+use Rattle.geometry.specs.declared.Card.{Card}
 use Rattle.geometry.specs.declared.Table.{Table}
 use Rattle.geometry.specs.declared.Table.TheVariants.{Calls, Grants, Needs}
 use Rattle.geometry.specs.declared.Kept.{Kept}
 use Rattle.geometry.specs.declared.Kept.TheVariants.{UnmetCalls, WaitingGrants}
+use Rattle.geometry.specs.Geometry.{layout_of, tables_of}
 use Rattle.image.specs.Read.{Item}
 
 -- ---- the three tables of bits
@@ -21,6 +24,25 @@ table_of Needs t = t.needs
 pub record Laid (L : Layout) (img : List ℕ) : Type 0 where
   pub laid : encode L (decode L img) ≡ img
   pub room : Room L (decode L img)
+
+-- the same of a card, on which grants may be given early, so that the room says nothing of services that are: a fact with one proof
+pub record RoomOn (L : Layout) (t : Tables) : Type 0 where
+  pub used_in : (n : ℕ) → T (t.used n) → n < L.packages
+  pub aid_short : (n : ℕ) → length (t.aid n) ≤ 16
+  pub aid_off : (n : ℕ) → L.packages ≤ n → t.aid n ≡ []
+  pub tok_off : (j k : ℕ) → (L.packages ≤ j) ⊎ (L.services ≤ k) → t.tok j k ≡ no_tok
+  pub provides_in : (j k : ℕ) → T (t.provides j k) → (j < L.packages) × (k < L.services)
+  pub calls_in : BitsIn L t.calls
+  pub grants_in : BitsIn L t.grants
+  pub needs_in : BitsIn L t.needs
+  pub unmet_fits : length t.unmet ≤ L.capacity
+  pub unmet_short : (u : Unmet) → In u t.unmet → length u.callee ≤ 16
+  pub waiting_fits : length t.waiting ≤ L.capacity
+  pub waiting_short : (v : Waiting) → In v t.waiting → length v.caller ≤ 16
+
+pub record LaidOn (c : Card) (img : List ℕ) : Type 0 where
+  pub laid : encode (layout_of c) (tables_of c img) ≡ img
+  pub room : RoomOn (layout_of c) (tables_of c img)
 
 -- ---- tables with one part changed
 abbrev pub with_used : (ℕ → Bool) → Tables → Tables

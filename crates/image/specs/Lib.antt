@@ -1,3 +1,4 @@
 pub mod Read
 pub mod Laid
 pub mod Wrote
+pub mod Image

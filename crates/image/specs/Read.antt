@@ -1,9 +1,9 @@
 -- What code finds in an image and its tables, as numbers.
 use Rattle.std.specs.Prelude.{ℕ, ◌+◌, ◌*◌, Bool, ◌&&◌, cond, List, [], ◌∷◌, ◌++◌, length, get_or, take, drop}
+use Rattle.std.specs.Prelude.{Option as Answer, Some, None}
 use Rattle.std.proofs.Math.Option.{Option}
 use Rattle.policy.specs.Lists.{or_else}
 use Rattle.policy.specs.Contract.{Aid, eq_aid, Tok, eq_tok, Row}
-use Rattle.policy.specs.Layout.{Layout}
 use Rattle.policy.specs.Tables.{Tables, Unmet, Waiting, no_tok, bit, write_aid}
 use Rattle.policy.specs.Lookup.{Place as Found, Spot as SpotFound}
 use Rattle.geometry.specs.declared.Kept.{Kept}
@@ -13,16 +13,19 @@ use Rattle.geometry.specs.Geometry.{tok_of}
 use Rattle.image.specs.declared.read.Place.{Place}
 use Rattle.image.specs.declared.read.Spot.{Spot}
 
+-- what a search finds, as code answers it: a number, or a place of a service or grant
+abbrev pub found : {A : Type 0} → Option A → Answer A
+found o = or_else o None (λ x. Some x)
+
+abbrev pub found_place : Option Found → Answer Place
+found_place o = or_else o None (λ p. Some (record { callee = p.callee; service = p.service }))
+
+abbrev pub found_spot : Option SpotFound → Answer Spot
+found_spot o = or_else o None (λ p. Some (record { caller = p.caller; service = p.service }))
+
 -- a number that was found, or d for none
 abbrev pub number_or : ℕ → Option ℕ → ℕ
 number_or d o = or_else o d (λ n. n)
-
--- a place that was found, or the numbers past the last for none
-abbrev pub place_or : Layout → Option Found → Place
-place_or L o = or_else o (record { callee = L.packages; service = L.services }) (λ p. record { callee = p.callee; service = p.service })
-
-abbrev pub spot_or : Layout → Option SpotFound → Spot
-spot_or L o = or_else o (record { caller = L.packages; service = L.services }) (λ p. record { caller = p.caller; service = p.service })
 
 -- the service of an AID with these tokens
 abbrev pub asked : Aid → Tokens → Row

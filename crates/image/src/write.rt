@@ -1,7 +1,8 @@
 // Writing the places of a laid image: afterwards it is laid, and its tables are those before with one part changed.
+// Stays: an image and a card apart; a struct with a `&mut` would have to say at every write that the card is the same.
 ghost use Rattle.std.specs.Prelude.{◌≡◌, true, false, [], ◌∷◌, ◌++◌, ◌+◌, ◌^◌, ◌≤◌, ◌<◌, length};
-ghost use Rattle.policy.specs.Tables.{bit, write_aid};
-ghost use Rattle.policy.specs.Draft.{put3};
+ghost use Rattle.policy.specs.Tables.{bit, row_of, write_aid};
+ghost use Rattle.policy.specs.Draft.{put, put3};
 ghost use Rattle.geometry.specs.Geometry.{layout_of, tok_of, tables_of};
 ghost use Rattle.rows.specs.Area.{over, HasRoom, keep_rows, appended};
 ghost use Rattle.image.specs.Laid.{Laid, table_of, with_used, with_aid, with_tok, with_provides, with_table, with_entry, with_items};
@@ -21,28 +22,28 @@ pub fn set_entry(img: &mut [u8], c: Card, tb: Table, i: usize, j: usize, row: u1
     geometry::put_row(img, c, at, row);
 }
 
-// Bit k of that entry set.
-pub fn set_bit(img: &mut [u8], c: Card, tb: Table, i: usize, j: usize, k: usize)
-    requires laid { Laid (layout_of c) img.old }
-    requires inside { (i < (layout_of c).packages) × (j < (layout_of c).packages) × (k < (layout_of c).services) }
-    ensures { Wrote (layout_of c) img.new
-        (with_table tb (put3 i j k true (table_of tb (tables_of c img.old))) (tables_of c img.old)) }
+// The row with bit k set, or clear.
+fn row_with(row: u16, k: usize, v: bool) -> u16
+    requires { k < 16 }
+    ensures { result ≡ row_of 16 (put k v (bit row)) }
 {
-    let at = geometry::entry_at(c, tb, i, j);
-    let row = geometry::row_at(img, c, at);
-    geometry::put_row(img, c, at, bits::with_bit(row, k));
+    if v {
+        bits::with_bit(row, k)
+    } else {
+        bits::without_bit(row, k)
+    }
 }
 
-// Bit k of that entry clear.
-pub fn clear_bit(img: &mut [u8], c: Card, tb: Table, i: usize, j: usize, k: usize)
+// Bit k of that entry set, or clear.
+pub fn put_bit(img: &mut [u8], c: Card, tb: Table, i: usize, j: usize, k: usize, v: bool)
     requires laid { Laid (layout_of c) img.old }
     requires inside { (i < (layout_of c).packages) × (j < (layout_of c).packages) × (k < (layout_of c).services) }
     ensures { Wrote (layout_of c) img.new
-        (with_table tb (put3 i j k false (table_of tb (tables_of c img.old))) (tables_of c img.old)) }
+        (with_table tb (put3 i j k v (table_of tb (tables_of c img.old))) (tables_of c img.old)) }
 {
     let at = geometry::entry_at(c, tb, i, j);
     let row = geometry::row_at(img, c, at);
-    geometry::put_row(img, c, at, bits::without_bit(row, k));
+    geometry::put_row(img, c, at, row_with(row, k, v));
 }
 
 // The used package numbers.
@@ -81,10 +82,10 @@ fn put_slot(img: &mut [u8], at: usize, aid: &[u8])
     requires { (at + 17 ≤ length img.old) × (length aid.now ≤ 16) }
     ensures { img.new ≡ over at (write_aid aid.now) img.old }
 {
-    let n = aid.len();
-    img[at] = n as u8;
-    rows::put(img, at + 1, aid);
-    rows::clear(img, at + 1 + n, 16 - n);
+    let end = at + 1 + aid.len();
+    img[at] = aid.len() as u8;
+    img[at + 1..end].copy_from_slice(aid);
+    img[end..at + 17].fill(0);
 }
 
 // The AID of package n.
@@ -105,7 +106,7 @@ pub fn clear_aid(img: &mut [u8], c: Card, n: usize)
     ensures { Wrote (layout_of c) img.new (with_aid n [] (tables_of c img.old)) }
 {
     let at = geometry::aid_at(c, n);
-    rows::put(img, at, &[0u8; 17]);
+    img[at..at + 17].fill(0);
 }
 
 // A row after the last one of a list area: an AID's place, then `tail`.
@@ -117,8 +118,8 @@ fn append(area: &mut [u8], aid: &[u8], tail: &[u8])
 {
     let mut row = [0u8; 20];
     put_slot(&mut row, 0, aid);
-    rows::put(&mut row, 17, tail);
     let width = 17 + tail.len();
+    row[17..width].copy_from_slice(tail);
     rows::append_row(area, width, &row[..width]);
 }
 
@@ -167,8 +168,7 @@ pub fn clear_row(img: &mut [u8], c: Card, tb: Table, n: usize)
     ensures { Wrote (layout_of c) img.new
         (with_table tb (without_row n (table_of tb (tables_of c img.old))) (tables_of c img.old)) }
 {
-    let size = geometry::packages(c);
-    for x in 0..size {
+    for x in 0..geometry::packages(c) {
         set_entry(img, c, tb, n, x, 0);
     }
 }
@@ -180,9 +180,8 @@ pub fn clear_cross(img: &mut [u8], c: Card, tb: Table, n: usize)
     ensures { Wrote (layout_of c) img.new
         (with_table tb (without_package n (table_of tb (tables_of c img.old))) (tables_of c img.old)) }
 {
-    let size = geometry::packages(c);
-    for x in 0..size {
-        set_entry(img, c, tb, n, x, 0);
+    clear_row(img, c, tb, n);
+    for x in 0..geometry::packages(c) {
         set_entry(img, c, tb, x, n, 0);
     }
 }
@@ -206,11 +205,8 @@ pub fn clear_column_bit(img: &mut [u8], c: Card, tb: Table, j: usize, k: usize)
         (with_table tb (without_service tb j k (table_of tb (tables_of c img.old)))
         (tables_of c img.old)) }
 {
-    let size = geometry::packages(c);
-    for x in 0..size {
-        let row = row_in(tb, x, j);
-        let column = row_in(tb, j, x);
-        clear_bit(img, c, tb, row, column, k);
+    for x in 0..geometry::packages(c) {
+        put_bit(img, c, tb, row_in(tb, x, j), row_in(tb, j, x), k, false);
     }
 }
 
@@ -221,12 +217,7 @@ pub fn clear_services(img: &mut [u8], c: Card, n: usize)
     ensures { Wrote (layout_of c) img.new (without_services n (tables_of c img.old)) }
 {
     set_provided(img, c, n, 0);
-    let size = geometry::services(c);
-    let none = Tokens {
-        interface: 0,
-        method: 0,
-    };
-    for k in 0..size {
-        put_tok(img, c, n, k, none);
+    for k in 0..geometry::services(c) {
+        put_tok(img, c, n, k, Tokens::NONE);
     }
 }

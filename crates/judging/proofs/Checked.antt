@@ -40,8 +40,8 @@ module _ (c : Card) (img : List ℕ) where
       let l = (limits c).packages_low in
       omega arith
 
-  pub passes : (r : Bool) (n number second : ℕ) → r ≡ sound L img → r ≡ true → n ≡ length (used_numbers L (decode L img)) → (number ≡ 0) × (second ≡ n) → Gives (check L img) number second img
-  passes r n number second e q m v = gives true number second (sym e ∙ q) (record { answered = sym v.0; second_is = sym (v.1 ∙ m); bytes_are = refl })
+  pub passes : (r : Bool) (n : ℕ) → r ≡ sound L img → r ≡ true → n ≡ length (used_numbers L (decode L img)) → Gives (check L img) 0 n img
+  passes r n e q m = gives true 0 n (sym e ∙ q) (record { answered = refl; second_is = sym m; bytes_are = refl })
 
-  pub fails : (r : Bool) (number second : ℕ) → r ≡ sound L img → r ≡ false → (number ≡ 1) × (second ≡ 255) → Gives (check L img) number second img
-  fails r number second e q v = gives false number second (sym e ∙ q) (record { answered = sym v.0; second_is = sym v.1; bytes_are = refl })
+  pub fails : (r : Bool) → r ≡ sound L img → r ≡ false → Gives (check L img) 1 255 img
+  fails r e q = gives false 1 255 (sym e ∙ q) (record { answered = refl; second_is = refl; bytes_are = refl })

@@ -1,22 +1,20 @@
 // Writing the empty image.
 ghost use Rattle.policy.specs.Judge.{write_empty};
-ghost use Rattle.policy.specs.Settled.{Gives};
+ghost use Rattle.answers.specs.Numbers.{Answers};
 ghost use Rattle.geometry.specs.Geometry.{layout_of};
 
-use changes::Verdict;
+use answers::{Refusal, Verdict};
 use geometry::Card;
 
 // The empty image into a buffer of the card's size; a buffer of another size is left as it is.
 pub fn write_empty(img: &mut [u8], c: Card) -> Verdict
-    ensures { Gives (write_empty (layout_of c) img.old) result.number result.second img.new }
+    ensures { Answers (write_empty (layout_of c) img.old) result img.new }
 {
-    let n = geometry::size(c);
-    if img.len() != n {
-        return changes::refused(1);
+    if img.len() != geometry::size(c) {
+        return Err(Refusal::Unsound);
     }
-    let h = geometry::header(c);
-    rows::put(img, 0, &h);
-    let rest = n - 3;
-    rows::clear(img, 3, rest);
-    changes::accepted(0)
+    let (head, rest) = img.split_at_mut(3);
+    head.copy_from_slice(&geometry::header(c));
+    rest.fill(0);
+    Ok(0)
 }

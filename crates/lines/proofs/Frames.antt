@@ -9,8 +9,7 @@ use lib.ListN.{length, take, drop, length-append, take-append-drop}
 use lib.Seq.{length-take-le}
 use borrow.Author.Tests.{leb-true}
 use Rattle.policy.specs.Lists.{flat}
-use Rattle.lines.specs.declared.Frame.{Frame}
-use Rattle.lines.specs.declared.Frame.TheVariants.{Record, Bad}
+use Rattle.std.specs.Prelude.{Option, Some, None}
 use Rattle.lines.specs.Frames.{longest, announced, Start, ends, broken, holds, cut, frame, Session, onward, session_by, session}
 
 -- a record that an input starts with: it and the rest are the input, and its length is one that a record has
@@ -35,7 +34,7 @@ module _ (s r rest : List ℕ) (n : ℕ) where
       }
   fits low high false e h = never r rest h
 
-  allowed : (a b : Bool) → leb 4 n ≡ a → leb n longest ≡ b → cut (cond (a && b) (Record n) Bad) s ≡ holds r rest → Held s r rest
+  allowed : (a b : Bool) → leb 4 n ≡ a → leb n longest ≡ b → cut (cond (a && b) (Some n) None) s ≡ holds r rest → Held s r rest
   allowed true true p q h = fits (leb-true 4 n p) (leb-true n longest q) (leb n (length s)) refl h
   allowed true false p q h = never r rest h
   allowed false b p q h = never r rest h
@@ -87,13 +86,13 @@ nothing_left [] e = refl
 nothing_left (b ∷ []) e = let z : ◌≡◌ {A = ℕ} 0 1 = cc in absurd (omega arith)
 nothing_left (high ∷ low ∷ s) e = absurd (no (announced high low) e)
   where
-    no : (f : Frame) → cut f (high ∷ low ∷ s) ≡ ends → ⊥
-    no (Record n) h = some_of (leb n (length (high ∷ low ∷ s))) h
+    no : (f : Option ℕ) → cut f (high ∷ low ∷ s) ≡ ends → ⊥
+    no (Some n) h = some_of (leb n (length (high ∷ low ∷ s))) h
       where
         some_of : (b : Bool) → cond b (holds (take n (high ∷ low ∷ s)) (drop n (high ∷ low ∷ s))) broken ≡ ends → ⊥
         some_of true h = let z : ◌≡◌ {A = ℕ} 0 1 = cc in omega arith
         some_of false h = let z : ◌≡◌ {A = ℕ} 0 1 = cc in omega arith
-    no Bad h = let z : ◌≡◌ {A = ℕ} 0 1 = cc in omega arith
+    no None h = let z : ◌≡◌ {A = ℕ} 0 1 = cc in omega arith
 
 -- no byte is lost or repeated: the records of an input that ends well are the input
 all_records : (k : ℕ) (s : List ℕ) → length s < k → (session_by k s).bad ≡ false → flat (λ r. r) (session_by k s).records ≡ s
@@ -113,10 +112,10 @@ unfolding session
 session_whole s b = all_records (suc (length s)) s (omega arith) b
 
 -- ---- what the two length bytes of a record tell
-pub announced_sizes : (high low n : ℕ) → announced high low ≡ Record n → (n ≡ high * 256 + low) × (4 ≤ n) × (n ≤ longest)
+pub announced_sizes : (high low n : ℕ) → announced high low ≡ Some n → (n ≡ high * 256 + low) × (4 ≤ n) × (n ≤ longest)
 announced_sizes high low n h = go (high * 256 + low) (leb 4 (high * 256 + low)) (leb (high * 256 + low) longest) refl refl h
   where
-    go : (m : ℕ) (a b : Bool) → leb 4 m ≡ a → leb m longest ≡ b → cond (a && b) (Record m) Bad ≡ Record n → (n ≡ m) × (4 ≤ n) × (n ≤ longest)
+    go : (m : ℕ) (a b : Bool) → leb 4 m ≡ a → leb m longest ≡ b → cond (a && b) (Some m) None ≡ Some n → (n ≡ m) × (4 ≤ n) × (n ≤ longest)
     go m true true p q h =
         let e : n ≡ m = cc in
         let l : 4 ≤ m = leb-true 4 m p in

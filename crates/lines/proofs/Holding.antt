@@ -8,8 +8,7 @@ use lib.Dec.{leb, eqb}
 use lib.ListN.{length, take, drop, get_or, length-append}
 use lib.Seq.{length-take-le, take_at, drop_at, take-append-le, drop-append-le}
 use borrow.Author.Tests.{leb-true, leb-false, le-leb}
-use Rattle.lines.specs.declared.Frame.{Frame}
-use Rattle.lines.specs.declared.Frame.TheVariants.{Record, Bad}
+use Rattle.std.specs.Prelude.{Option, Some, None}
 use Rattle.lines.specs.declared.Held.{Held}
 use Rattle.lines.specs.declared.Held.TheVariants as held
 use Rattle.lines.specs.Frames.{longest, announced, ends, broken, holds, cut, frame, announced_as, held_as}
@@ -32,7 +31,7 @@ held_long (high ∷ low ∷ s) ended h = refl
 -- ---- what they say of the whole input
 -- no more bytes are held than the frame has that they start
 abbrev pub Part : List ℕ → Type 0
-Part l = (high low : ℕ) (s : List ℕ) (m : ℕ) → l ≡ high ∷ low ∷ s → announced high low ≡ Record m → length l ≤ m
+Part l = (high low : ℕ) (s : List ℕ) (m : ℕ) → l ≡ high ∷ low ∷ s → announced high low ≡ Some m → length l ≤ m
 
 -- a record is held, whatever stands behind it
 pub record Whole (l : List ℕ) (n : ℕ) : Type 0 where
@@ -69,20 +68,20 @@ sees (b ∷ []) true = λ rest last. ap (λ (r : List ℕ). frame (b ∷ r)) (la
 sees (b ∷ []) false = record { more = omega arith; most = omega arith; going = refl; onward = λ piece h. part_short (b ∷ piece) h }
 sees (high ∷ low ∷ s) ended = go (announced high low) refl
   where
-    cutting : (f : Frame) (rest : List ℕ) → announced high low ≡ f → frame (high ∷ low ∷ (s ++ rest)) ≡ cut f (high ∷ low ∷ (s ++ rest))
-    cutting f rest e = ap (λ (f : Frame). cut f (high ∷ low ∷ (s ++ rest))) e
+    cutting : (f : Option ℕ) (rest : List ℕ) → announced high low ≡ f → frame (high ∷ low ∷ (s ++ rest)) ≡ cut f (high ∷ low ∷ (s ++ rest))
+    cutting f rest e = ap (λ (f : Option ℕ). cut f (high ∷ low ∷ (s ++ rest))) e
 
-    alone : (m : ℕ) → 4 ≤ m → m ≤ length (high ∷ low ∷ s) → announced high low ≡ Record m → IsFrame (take m (high ∷ low ∷ s))
+    alone : (m : ℕ) → 4 ≤ m → m ≤ length (high ∷ low ∷ s) → announced high low ≡ Some m → IsFrame (take m (high ∷ low ∷ s))
     alone zero p w a rest = absurd (omega arith)
     alone (suc zero) p w a rest = absurd (omega arith)
     alone (suc (suc j)) p w a rest =
         let r : List ℕ = high ∷ low ∷ take j s in
         let n : length r ≡ suc (suc j) = length-take-le (suc (suc j)) (high ∷ low ∷ s) w in
         let v : suc (suc j) ≤ length (r ++ rest) = omega (arith, n, length-append r rest) in
-        ap (λ (f : Frame). cut f (r ++ rest)) a
+        ap (λ (f : Option ℕ). cut f (r ++ rest)) a
         ∙ rw (le-leb (suc (suc j)) (length (r ++ rest)) v) (λ i. holds (take_at r rest (suc (suc j)) n i) (drop_at r rest (suc (suc j)) n i))
 
-    by : (m : ℕ) → announced high low ≡ Record m → (b e : Bool) → leb m (length (high ∷ low ∷ s)) ≡ b
+    by : (m : ℕ) → announced high low ≡ Some m → (b e : Bool) → leb m (length (high ∷ low ∷ s)) ≡ b
         → Sees (high ∷ low ∷ s) e (cond b (held.Record m) (cond e held.Bad (held.Start m)))
     by m a true e q =
         let z = announced_sizes high low m a in
@@ -93,12 +92,12 @@ sees (high ∷ low ∷ s) ended = go (announced high low) refl
           within = w;
           cuts = λ rest.
               let v : m ≤ length ((high ∷ low ∷ s) ++ rest) = omega (arith, w, length-append (high ∷ low ∷ s) rest) in
-              cutting (Record m) rest a
+              cutting (Some m) rest a
               ∙ rw (le-leb m (length ((high ∷ low ∷ s) ++ rest)) v) (λ i. holds (take-append-le m (high ∷ low ∷ s) rest w i) (drop-append-le m (high ∷ low ∷ s) rest w i));
           own = alone m z.1 w a;
           all = λ part. let u : length (high ∷ low ∷ s) ≤ m = part high low s m refl a in omega arith;
         }
-    by m a false true q = λ rest last. cutting (Record m) rest a ∙ rw (last refl, append-nil s, q)
+    by m a false true q = λ rest last. cutting (Some m) rest a ∙ rw (last refl, append-nil s, q)
     by m a false false q =
         let z = announced_sizes high low m a in
         let w : length (high ∷ low ∷ s) < m = leb-false m (length (high ∷ low ∷ s)) q in
@@ -109,9 +108,9 @@ sees (high ∷ low ∷ s) ended = go (announced high low) refl
           onward = λ piece h high₂ low₂ s₂ k e a₂. let y : k ≡ m = cc in omega arith;
         }
 
-    go : (f : Frame) → announced high low ≡ f → Sees (high ∷ low ∷ s) ended (announced_as f (length (high ∷ low ∷ s)) ended)
-    go Bad e = λ rest last. cutting Bad rest e
-    go (Record m) e = by m e (leb m (length (high ∷ low ∷ s))) ended refl
+    go : (f : Option ℕ) → announced high low ≡ f → Sees (high ∷ low ∷ s) ended (announced_as f (length (high ∷ low ∷ s)) ended)
+    go None e = λ rest last. cutting None rest e
+    go (Some m) e = by m e (leb m (length (high ∷ low ∷ s))) ended refl
 
 pub whole : (l : List ℕ) (ended : Bool) {n : ℕ} → held_as l ended ≡ held.Record n → Whole l n
 whole l ended e = subst (λ (h : Held). Sees l ended h) e (sees l ended)

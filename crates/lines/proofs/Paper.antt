@@ -9,7 +9,7 @@ use Rattle.policy.specs.Sound.{sound}
 use Rattle.policy.specs.Lookup.{number_of, free_number, free_service, contract_at}
 use Rattle.policy.specs.Draft.{look, draft, number_for}
 use Rattle.policy.specs.Judge.{judge}
-use Rattle.lines.specs.declared.Frame.TheVariants.{Record, Bad}
+use Rattle.std.specs.Prelude.{Some, None}
 use Rattle.lines.specs.Lines.{digits}
 use Rattle.lines.specs.Frames.{announced, session}
 use Rattle.lines.specs.Session.{printed}
@@ -42,5 +42,5 @@ unfolding printed session digits judge sound parse proper decode encode empty_im
 edges = (refl, refl, refl, refl, refl)
 
 -- lengths of 3, 4, 4,145 and 4,146
-pub lengths : (announced 0 3 ≡ Bad) × (announced 0 4 ≡ Record 4) × (announced 16 49 ≡ Record 4145) × (announced 16 50 ≡ Bad)
+pub lengths : (announced 0 3 ≡ None) × (announced 0 4 ≡ Some 4) × (announced 16 49 ≡ Some 4145) × (announced 16 50 ≡ None)
 lengths = (refl, refl, refl, refl)

@@ -1,7 +1,6 @@
 -- The lines that the session program prints: document 01, 'The session program'.
 use Rattle.std.specs.Prelude.{ℕ, zero, suc, ◌+◌, ◌/◌, ◌%◌, ◌≤◌, ◌≡◌, cond, List, [], ◌∷◌, ◌++◌, eqb, ltb, length, take, drop}
-use Rattle.lines.specs.declared.Shown.{Shown}
-use Rattle.lines.specs.declared.Shown.TheVariants.{Number, None}
+use Rattle.std.specs.Prelude.{Option, Some, None}
 use Rattle.rows.specs.Area.{over}
 
 -- the decimal digits of n in ASCII, the last k of them where it has more; no zero stands in front
@@ -14,17 +13,17 @@ unfoldable pub digits : ℕ → List ℕ
 digits n = digits_by (suc n) n
 
 -- a column: a number, or `-`
-abbrev pub shown : Shown → List ℕ
-shown (Number n) = digits n
+abbrev pub shown : Option ℕ → List ℕ
+shown (Some n) = digits n
 shown None = 45 ∷ []
 
 -- 'ordinal, kind, answer, package number': the columns stand a space apart, and a newline ends the line
-abbrev pub line : ℕ → Shown → ℕ → Shown → List ℕ
+abbrev pub line : ℕ → Option ℕ → ℕ → Option ℕ → List ℕ
 line ordinal kind answer second = digits ordinal ++ (32 ∷ shown kind ++ (32 ∷ digits answer ++ (32 ∷ shown second ++ (10 ∷ []))))
 
 -- the line of a record that was judged: 'package number or - on a refusal'
 abbrev pub record_line : ℕ → ℕ → ℕ → ℕ → List ℕ
-record_line ordinal kind answer second = line ordinal (Number kind) answer (cond (eqb answer 0) (Number second) None)
+record_line ordinal kind answer second = line ordinal (Some kind) answer (cond (eqb answer 0) (Some second) None)
 
 -- the line of a bad frame: 'kind -, answer 2, -'
 abbrev pub bad_line : ℕ → List ℕ

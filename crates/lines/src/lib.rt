@@ -5,22 +5,6 @@ ghost use Rattle.std.specs.Prelude.{◌+◌, ◌≤◌, ◌≡◌, [], ◌∷◌
 ghost use Rattle.lines.specs.Lines.{digits, shown, line, record_line, bad_line, Wrote, Printed};
 ghost use Rattle.lines.specs.Frames.{announced, held_as};
 
-// What stands in a column of a line: a number, or `-`.
-#[derive(Clone, Copy)]
-pub enum Shown {
-    Number(u8),
-    None,
-}
-
-// What the two length bytes of an input say of what follows.
-#[derive(Clone, Copy)]
-pub enum Frame {
-    // A record of so many bytes, its length bytes included.
-    Record(usize),
-    // No record has this length.
-    Bad,
-}
-
 // What the bytes held of an input are.
 #[derive(Clone, Copy)]
 pub enum Held {
@@ -55,25 +39,41 @@ pub fn write_number(out: &mut [u8], at: usize, n: u64) -> usize
     put_byte(out, end, 48 + (n % 10) as u8)
 }
 
-// A space and a column put from index at on.
-fn write_column(out: &mut [u8], at: usize, s: Shown) -> usize
-    requires { at + length (32 ∷ shown s) ≤ length out.old }
-    ensures { Wrote at (32 ∷ shown s) out.old result out.new }
+// The digits of a byte, three at most.
+fn write_byte(out: &mut [u8], at: usize, n: u8) -> usize
+    requires { at + 3 ≤ length out.old }
+    ensures written { Wrote at (digits n) out.old result out.new }
+    ensures short { result ≤ at + 3 }
+{
+    write_number(out, at, n as u64)
+}
+
+// A space and a column put from index at on: a number, or `-`.
+fn write_column(out: &mut [u8], at: usize, s: Option<u8>) -> usize
+    requires { at + 4 ≤ length out.old }
+    ensures written { Wrote at (32 ∷ shown s) out.old result out.new }
+    ensures short { result ≤ at + 4 }
 {
     let from = put_byte(out, at, b' ');
     match s {
-        Shown::Number(n) => write_number(out, from, n as u64),
-        Shown::None => put_byte(out, from, b'-'),
+        Some(n) => write_byte(out, from, n),
+        None => put_byte(out, from, b'-'),
     }
 }
 
 // A line: ordinal, kind, answer and package number.
-pub fn write_line(out: &mut [u8; 40], ordinal: u64, kind: Shown, answer: u8, second: Shown) -> usize
+pub fn write_line(
+    out: &mut [u8; 40],
+    ordinal: u64,
+    kind: Option<u8>,
+    answer: u8,
+    second: Option<u8>,
+) -> usize
     ensures { Printed (line ordinal kind answer second) out.old result out.new }
 {
     let mut at = write_number(out, 0, ordinal);
     at = write_column(out, at, kind);
-    at = write_column(out, at, Shown::Number(answer));
+    at = write_column(out, at, Some(answer));
     at = write_column(out, at, second);
     put_byte(out, at, b'\n')
 }
@@ -82,40 +82,26 @@ pub fn write_line(out: &mut [u8; 40], ordinal: u64, kind: Shown, answer: u8, sec
 pub fn record_line(out: &mut [u8; 40], ordinal: u64, kind: u8, answer: u8, second: u8) -> usize
     ensures { Printed (record_line ordinal kind answer second) out.old result out.new }
 {
-    if answer == 0 {
-        return write_line(
-            out,
-            ordinal,
-            Shown::Number(kind),
-            answer,
-            Shown::Number(second),
-        );
-    }
-    write_line(out, ordinal, Shown::Number(kind), answer, Shown::None)
+    let second = (answer == 0).then_some(second);
+    write_line(out, ordinal, Some(kind), answer, second)
 }
 
 // The line of a bad frame.
 pub fn bad_line(out: &mut [u8; 40], ordinal: u64) -> usize
     ensures { Printed (bad_line ordinal) out.old result out.new }
 {
-    write_line(out, ordinal, Shown::None, 2, Shown::None)
+    write_line(out, ordinal, None, 2, None)
 }
 
 // Bytes of the longest record.
 pub const LONGEST: usize = 4145;
 
-// What the two length bytes of an input announce.
-pub fn frame_length(high: u8, low: u8) -> Frame
+// What two length bytes announce: a record of so many bytes, these two included, or none, as no record has this length.
+pub fn frame_length(high: u8, low: u8) -> Option<usize>
     ensures { result ≡ announced high low }
 {
-    let n = high as usize * 256 + low as usize;
-    if n < 4 {
-        return Frame::Bad;
-    }
-    if n > LONGEST {
-        return Frame::Bad;
-    }
-    Frame::Record(n)
+    let n = u16::from_be_bytes([high, low]) as usize;
+    (4 <= n && n <= LONGEST).then_some(n)
 }
 
 // What the bytes held are, where ended says that no more come.
@@ -132,7 +118,7 @@ pub fn frame_held(bytes: &[u8], ended: bool) -> Held
         }
         return Held::Start(2);
     }
-    let Frame::Record(size) = frame_length(bytes[0], bytes[1]) else {
+    let Some(size) = frame_length(bytes[0], bytes[1]) else {
         return Held::Bad;
     };
     if size <= have {

@@ -1,4 +1,3 @@
 pub mod Found
 pub mod Planned
-pub mod Inside
 pub mod Outcome

@@ -27,16 +27,15 @@ use Rattle.rows.specs.Area.{keep_rows}
 use Rattle.image.proofs.Masks.{mask_zero, zero_mask, keep_mask}
 use Rattle.image.specs.Laid.{with_items}
 use Rattle.image.specs.Read.{Item, items_of, item, item_aid, item_tok, item_number, mask_of}
-use Rattle.geometry.specs.declared.Table.TheVariants.{Calls, Grants}
 use Rattle.geometry.specs.declared.Kept.{Kept}
 use Rattle.geometry.specs.declared.Kept.TheVariants.{UnmetCalls, WaitingGrants}
 use Rattle.changes.specs.Asked.{Asked}
-use Rattle.links.specs.Plans.{row_mask, edited, done, call_at, call_plan, grant_is, grant_plan, add_row, drop_row, add_call_plan, remove_call_plan, add_grant_plan, remove_grant_plan}
-use Rattle.links.specs.declared.spots.CallSpot.TheVariants as call
-use Rattle.links.specs.declared.spots.GrantSpot.TheVariants as grant
-use Rattle.links.specs.declared.plan.Plan.{Plan}
-use Rattle.links.specs.declared.plan.Plan.TheVariants.{Refuse, Accept}
-use Rattle.links.specs.declared.plan.Edit.TheVariants.{Set, Ungrant, Uncall, Add, Drop}
+use Rattle.std.specs.Prelude.{Result, Ok, Err}
+use Rattle.answers.specs.declared.Refusal.{Refusal}
+use Rattle.answers.specs.declared.Refusal.TheVariants.{NotInstalled, Pointless, Ungranted, UnmetFull, WaitingFull}
+use Rattle.links.specs.Plans.{place, spot, row_mask, edited, done, owned, call_plan, grant_plan, add_row, drop_row, add_call_plan, remove_call_plan, add_grant_plan, remove_grant_plan}
+use Rattle.links.specs.declared.plan.Edit.{Edit}
+use Rattle.links.specs.declared.plan.Edit.TheVariants.{Call, Uncall, Grant, Ungrant, Add, Drop}
 use Rattle.changes.proofs.Verdicts.{first_of, settled_by}
 
 -- ---- masks of the rows that are one row
@@ -94,25 +93,27 @@ module _ (L : Layout) (img : List ℕ) (a : Aid) (r : Row) where
   abbrev t : Tables
   t = decode L img
 
-  -- ---- a change of package number i: whether cause 6 applies, the short check, and the draft
+  -- ---- a change of package number i: whether cause 6 applies, the short check, and the draft; and what comes of a plan
   abbrev outcome : ℕ → Bool → Look → Draft → Out
   outcome i six k d = judged L img i d.tables (first_of (answer (6 when six ∷ [])) (answer (look_causes k)))
 
+  abbrev comes : ℕ → Result Edit Refusal → Out
+  comes i p = done L img r (owned i p)
+
   module _ (c : Change) (ask : Asked L img a c) where
     -- by the number of the package: cause 6, the short check, the draft and the plan
-    at_number : (six : Option ℕ → Bool) (k : Option ℕ → Look) (d : Option ℕ → Draft) (p : Option ℕ → Plan)
+    at_number : (six : Option ℕ → Bool) (k : Option ℕ → Look) (d : Option ℕ → Draft) (p : ℕ → Result Edit Refusal)
         → table_causes L t a c ≡ (5 when absent L t a ∷ 6 when six (number_of L t a) ∷ []) → short_look L t a c ≡ k (number_of L t a)
-        → draft L t a c ≡ d (number_of L t a) → p none ≡ Refuse 5
-        → ((i : ℕ) → outcome i (six (some i)) (k (some i)) (d (some i)) ≡ done L img r (p (some i)))
-        → settled L img a c ≡ done L img r (p (number_of L t a))
+        → draft L t a c ≡ d (number_of L t a) → ((i : ℕ) → outcome i (six (some i)) (k (some i)) (d (some i)) ≡ comes i (p i))
+        → settled L img a c ≡ done L img r (or_else (number_of L t a) (Err NotInstalled) (λ i. owned i (p i)))
     unfolding number_for
-    at_number six k d p e f g five h =
+    at_number six k d p e f g h =
         settled_by L img a c ask ∙ (λ z. judged L img (number_for L t a) (g z).tables (first_of (answer (e z)) (answer (look_causes (f z))))) ∙ go (number_of L t a)
       where
         go : (o : Option ℕ)
             → judged L img (or_else o (or_else (free_number L t) 255 (λ n. n)) (λ n. n)) (d o).tables
-            (first_of (answer (5 when not (is_some o) ∷ 6 when six o ∷ [])) (answer (look_causes (k o)))) ≡ done L img r (p o)
-        go none = ap (done L img r) (sym five)
+            (first_of (answer (5 when not (is_some o) ∷ 6 when six o ∷ [])) (answer (look_causes (k o)))) ≡ done L img r (or_else o (Err NotInstalled) (λ i. owned i (p i)))
+        go none = refl
         go (some i) = h i
 
   -- ---- a row added to a list, and dropped from it
@@ -121,18 +122,18 @@ module _ (L : Layout) (img : List ℕ) (a : Aid) (r : Row) where
   fits_in WaitingGrants f = record { granted = true; needed = true; unmet_fits = true; waiting_fits = f }
 
   -- the cause for a list that is full
-  abbrev full_in : Kept → ℕ
-  full_in UnmetCalls = 10
-  full_in WaitingGrants = 11
+  abbrev full_in : Kept → Refusal
+  full_in UnmetCalls = UnmetFull
+  full_in WaitingGrants = WaitingFull
 
   abbrev room : Kept → Bool
   room l = ltb (length (items_of l t)) L.capacity
 
-  add_row_at : (l : Kept) (n : ℕ) → outcome n (has_item l t n r) (fits_in l (room l)) (kept (edited t r n (Add l))) ≡ done L img r (add_row L t r l n (full_in l))
+  add_row_at : (l : Kept) (n : ℕ) → outcome n (has_item l t n r) (fits_in l (room l)) (kept (edited t r n (Add l))) ≡ comes n (add_row L t r l n (full_in l))
   add_row_at l n =
-      go l (has_item l t n r) (room l) ∙ ap (λ (z : Bool). done L img r (cond z (cond (room l) (Accept n (Add l)) (Refuse (full_in l))) (Refuse 6))) (sym (row_none l t n r))
+      go l (has_item l t n r) (room l) ∙ ap (λ (z : Bool). comes n (cond z (cond (room l) (Ok (Add l)) (Err (full_in l))) (Err Pointless))) (sym (row_none l t n r))
     where
-      go : (l : Kept) (b f : Bool) → outcome n b (fits_in l f) (kept (edited t r n (Add l))) ≡ done L img r (cond (not b) (cond f (Accept n (Add l)) (Refuse (full_in l))) (Refuse 6))
+      go : (l : Kept) (b f : Bool) → outcome n b (fits_in l f) (kept (edited t r n (Add l))) ≡ comes n (cond (not b) (cond f (Ok (Add l)) (Err (full_in l))) (Err Pointless))
       go l true f = refl
       go UnmetCalls false true = refl
       go UnmetCalls false false = refl
@@ -140,12 +141,12 @@ module _ (L : Layout) (img : List ℕ) (a : Aid) (r : Row) where
       go WaitingGrants false false = refl
 
   drop_row_at : (l : Kept) (n : ℕ)
-      → outcome n (not (has_item l t n r)) fine (kept (with_items l (keep (λ x. not (eq_item l (item l r.aid r.tok n) x)) (items_of l t)) t)) ≡ done L img r (drop_row L t r l n)
+      → outcome n (not (has_item l t n r)) fine (kept (with_items l (keep (λ x. not (eq_item l (item l r.aid r.tok n) x)) (items_of l t)) t)) ≡ comes n (drop_row L t r l n)
   drop_row_at l n =
       ap (λ (m : List (Item l)). outcome n (not (has_item l t n r)) fine (kept (with_items l m t))) (sym (row_drops l t n r)) ∙ go (has_item l t n r)
-      ∙ ap (λ (z : Bool). done L img r (cond z (Refuse 6) (Accept n (Drop l (row_mask l t n r))))) (sym (row_none l t n r))
+      ∙ ap (λ (z : Bool). comes n (cond z (Err Pointless) (Ok (Drop l (row_mask l t n r))))) (sym (row_none l t n r))
     where
-      go : (b : Bool) → outcome n (not b) fine (kept (edited t r n (Drop l (row_mask l t n r)))) ≡ done L img r (cond (not b) (Refuse 6) (Accept n (Drop l (row_mask l t n r))))
+      go : (b : Bool) → outcome n (not b) fine (kept (edited t r n (Drop l (row_mask l t n r)))) ≡ comes n (cond (not b) (Err Pointless) (Ok (Drop l (row_mask l t n r))))
       go true = refl
       go false = refl
 
@@ -157,42 +158,42 @@ module _ (L : Layout) (img : List ℕ) (a : Aid) (r : Row) where
   granted_at j o = or_else o (has_waiting (grant_row j r) t.waiting) (λ p. t.grants j p.caller p.service)
 
   -- ---- kind 5
-  add_call_at_lem : (i : ℕ) (o : Option Place) → outcome i (called_at i o) (short_add_call L t i o) (add_call_at L t i r o) ≡ done L img r (add_call_plan L t r (call_at L t a r i o))
+  add_call_at_lem : (i : ℕ) (o : Option Place) → outcome i (called_at i o) (short_add_call L t i o) (add_call_at L t i r o) ≡ comes i (add_call_plan L t r i o)
   add_call_at_lem i none = add_row_at UnmetCalls i
   add_call_at_lem i (some p) = go (t.calls i p.callee p.service) (t.grants p.callee i p.service)
     where
       go : (b g : Bool) → outcome i b (record { granted = g; needed = true; unmet_fits = true; waiting_fits = true }) (add_call_at L t i r (some p))
-          ≡ done L img r (cond b (Refuse 6) (cond g (Accept i (Set Calls p.callee p.service)) (Refuse 8)))
+          ≡ comes i (cond b (Err Pointless) (cond g (Ok (Call (place p))) (Err Ungranted)))
       go true g = refl
       go false true = refl
       go false false = refl
 
   -- ---- kind 6
-  remove_call_at_lem : (i : ℕ) (o : Option Place) → outcome i (not (called_at i o)) fine (remove_call_at L t i r o) ≡ done L img r (remove_call_plan L t r (call_at L t a r i o))
+  remove_call_at_lem : (i : ℕ) (o : Option Place) → outcome i (not (called_at i o)) fine (remove_call_at L t i r o) ≡ comes i (remove_call_plan L t r i o)
   remove_call_at_lem i none = drop_row_at UnmetCalls i
   remove_call_at_lem i (some p) = go (t.calls i p.callee p.service)
     where
-      go : (b : Bool) → outcome i (not b) fine (remove_call_at L t i r (some p)) ≡ done L img r (cond b (Accept i (Uncall p.callee p.service)) (Refuse 6))
+      go : (b : Bool) → outcome i (not b) fine (remove_call_at L t i r (some p)) ≡ comes i (cond b (Ok (Uncall (place p))) (Err Pointless))
       go true = refl
       go false = refl
 
   -- ---- kind 7
-  add_grant_at_lem : (j : ℕ) (o : Option Spot) → outcome j (granted_at j o) (short_add_grant L t o) (add_grant_at L t j r o) ≡ done L img r (add_grant_plan L t r (grant_is L t a r j o))
+  add_grant_at_lem : (j : ℕ) (o : Option Spot) → outcome j (granted_at j o) (short_add_grant L t o) (add_grant_at L t j r o) ≡ comes j (add_grant_plan L t r j o)
   add_grant_at_lem j none = add_row_at WaitingGrants j
   add_grant_at_lem j (some p) = go (t.grants j p.caller p.service)
     where
-      go : (b : Bool) → outcome j b fine (add_grant_at L t j r (some p)) ≡ done L img r (cond b (Refuse 6) (Accept j (Set Grants p.caller p.service)))
+      go : (b : Bool) → outcome j b fine (add_grant_at L t j r (some p)) ≡ comes j (cond b (Err Pointless) (Ok (Grant (spot p))))
       go true = refl
       go false = refl
 
   -- ---- kind 8
   remove_grant_at_lem : (j : ℕ) (o : Option Spot)
-      → outcome j (not (granted_at j o)) (short_remove_grant L t j o) (remove_grant_at L t j r o) ≡ done L img r (remove_grant_plan L t r (grant_is L t a r j o))
+      → outcome j (not (granted_at j o)) (short_remove_grant L t j o) (remove_grant_at L t j r o) ≡ comes j (remove_grant_plan L t r j o)
   remove_grant_at_lem j none = drop_row_at WaitingGrants j
   remove_grant_at_lem j (some p) = go (t.grants j p.caller p.service) (t.calls p.caller j p.service)
     where
       go : (b c : Bool) → outcome j (not b) (record { granted = not c; needed = true; unmet_fits = true; waiting_fits = true }) (remove_grant_at L t j r (some p))
-          ≡ done L img r (cond b (cond c (Refuse 8) (Accept j (Ungrant p.caller p.service))) (Refuse 6))
+          ≡ comes j (cond b (cond c (Err Ungranted) (Ok (Ungrant (spot p)))) (Err Pointless))
       go true true = refl
       go true false = refl
       go false c = refl
@@ -209,14 +210,14 @@ module _ (L : Layout) (img : List ℕ) (a : Aid) (r : Row) where
   unfolding draft short_look
   add_call_planned ask =
       at_number (add_call r) ask (λ o. or_else o false (λ i. has_row r (contract_at L t i).calls)) (λ o. or_else o fine (λ i. short_add_call L t i (server_of L t r)))
-      (λ o. or_else o (kept t) (λ i. add_call_at L t i r (server_of L t r))) (λ o. add_call_plan L t r (or_else o call.Absent (λ i. call_at L t a r i (server_of L t r)))) refl refl refl refl
+      (λ o. or_else o (kept t) (λ i. add_call_at L t i r (server_of L t r))) (λ i. add_call_plan L t r i (server_of L t r)) refl refl refl
       (λ i. ap (λ (b : Bool). outcome i b (short_add_call L t i (server_of L t r)) (add_call_at L t i r (server_of L t r))) (called ask.is_sound i) ∙ add_call_at_lem i (server_of L t r))
 
   pub remove_call_planned : Asked L img a (remove_call r) → settled L img a (remove_call r) ≡ done L img r (call_plan L t (remove_call_plan L t r) a r)
   unfolding draft short_look
   remove_call_planned ask =
       at_number (remove_call r) ask (λ o. not (or_else o false (λ i. has_row r (contract_at L t i).calls))) (λ o. fine)
-      (λ o. or_else o (kept t) (λ i. remove_call_at L t i r (server_of L t r))) (λ o. remove_call_plan L t r (or_else o call.Absent (λ i. call_at L t a r i (server_of L t r)))) refl refl refl refl
+      (λ o. or_else o (kept t) (λ i. remove_call_at L t i r (server_of L t r))) (λ i. remove_call_plan L t r i (server_of L t r)) refl refl refl
       (λ i. ap (λ (b : Bool). outcome i (not b) fine (remove_call_at L t i r (server_of L t r))) (called ask.is_sound i) ∙ remove_call_at_lem i (server_of L t r))
 
   -- R-2: no service is asked for
@@ -224,13 +225,13 @@ module _ (L : Layout) (img : List ℕ) (a : Aid) (r : Row) where
   unfolding draft short_look
   add_grant_planned early ask =
       at_number (add_grant r) ask (λ o. or_else o false (λ j. has_row r (contract_at L t j).grants)) (λ o. or_else o fine (λ j. short_add_grant L t (spot_of L t j r)))
-      (λ o. or_else o (kept t) (λ j. add_grant_at L t j r (spot_of L t j r))) (λ o. add_grant_plan L t r (or_else o grant.Absent (λ j. grant_is L t a r j (spot_of L t j r))))
-      (ap (λ (b : Bool). 5 when absent L t a ∷ 6 when (not (b || holds L t a (λ k. has_tok r.tok k.provides)) || holds L t a (λ k. has_row r k.grants)) ∷ []) early) refl refl refl
+      (λ o. or_else o (kept t) (λ j. add_grant_at L t j r (spot_of L t j r))) (λ j. add_grant_plan L t r j (spot_of L t j r))
+      (ap (λ (b : Bool). 5 when absent L t a ∷ 6 when (not (b || holds L t a (λ k. has_tok r.tok k.provides)) || holds L t a (λ k. has_row r k.grants)) ∷ []) early) refl refl
       (λ j. ap (λ (b : Bool). outcome j b (short_add_grant L t (spot_of L t j r)) (add_grant_at L t j r (spot_of L t j r))) (granted ask.is_sound j) ∙ add_grant_at_lem j (spot_of L t j r))
 
   pub remove_grant_planned : Asked L img a (remove_grant r) → settled L img a (remove_grant r) ≡ done L img r (grant_plan L t (remove_grant_plan L t r) a r)
   unfolding draft short_look
   remove_grant_planned ask =
       at_number (remove_grant r) ask (λ o. not (or_else o false (λ j. has_row r (contract_at L t j).grants))) (λ o. or_else o fine (λ j. short_remove_grant L t j (spot_of L t j r)))
-      (λ o. or_else o (kept t) (λ j. remove_grant_at L t j r (spot_of L t j r))) (λ o. remove_grant_plan L t r (or_else o grant.Absent (λ j. grant_is L t a r j (spot_of L t j r)))) refl refl refl refl
+      (λ o. or_else o (kept t) (λ j. remove_grant_at L t j r (spot_of L t j r))) (λ j. remove_grant_plan L t r j (spot_of L t j r)) refl refl refl
       (λ j. ap (λ (b : Bool). outcome j (not b) (short_remove_grant L t j (spot_of L t j r)) (remove_grant_at L t j r (spot_of L t j r))) (granted ask.is_sound j) ∙ remove_grant_at_lem j (spot_of L t j r))

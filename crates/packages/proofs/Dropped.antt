@@ -3,7 +3,7 @@ use Prim.Native.Nat.{ℕ, ◌+◌, ◌≤◌, ◌<◌}
 use native.Mathlib.Omega.{arith}
 use mathlib.Core.Path.{◌≡◌, refl, sym, ap, ◌∙◌, subst}
 use mathlib.Core.Logic.{◌⊎◌, inl, inr}
-use mathlib.Core.Bool.{Bool, true, false, ◌&&◌, cond}
+use mathlib.Core.Bool.{Bool, false, ◌&&◌}
 use mathlib.Core.List.{List, [], ◌∷◌, ◌++◌}
 use lib.ListN.{length, get_or, set, replicate, length-set, get_or-replicate}
 use lib.Seq.{get_or-set_same, get_or-set_other}
@@ -21,7 +21,6 @@ use Rattle.geometry.specs.Geometry.{layout_of}
 use Rattle.geometry.proofs.Bounds.{limits}
 use Rattle.image.specs.Wrote.{Wrote}
 use Rattle.image.proofs.Clears.{wrote_then}
-use Rattle.changes.specs.Places.{tables_without_service}
 use Rattle.changes.proofs.AppendedRows.{wrote_as}
 use Rattle.packages.specs.Writes.{dropped_one, dropped_from, NotedIn}
 
@@ -34,17 +33,6 @@ module _ (n mask : ℕ) where
   -- one more
   pub dropped_snoc : (k : ℕ) (t : Tables) → dropped_one n mask k (dropped_from n mask (upto k) t) ≡ dropped_from n mask (upto (k + 1)) t
   dropped_snoc k t = sym (ap (λ (l : List ℕ). dropped_from n mask l t) (upto_split k 1) ∙ dropped_append (upto k) (k ∷ []) t)
-
-  -- b is whether the mask names service k
-  module _ (L : Layout) (k : ℕ) (t : Tables) (b : Bool) (e : b ≡ bit mask k) where
-    drops : (x : Bool) → b ≡ x → cond x (tables_without_service n k t) t ≡ dropped_one n mask k t
-    drops x q = ap (λ (z : Bool). cond z (tables_without_service n k t) t) (sym q ∙ e)
-
-    pub drop_named : {img : List ℕ} → b ≡ true → Wrote L img (tables_without_service n k t) → Wrote L img (dropped_one n mask k t)
-    drop_named q = wrote_as L (drops true q)
-
-    pub drop_unnamed : {img : List ℕ} → b ≡ false → Wrote L img t → Wrote L img (dropped_one n mask k t)
-    drop_unnamed q = wrote_as L (drops false q)
 
 -- the first k of so many have been looked at
 pub record GoingOff (L : Layout) (n mask : ℕ) (t : Tables) (size k : ℕ) (img : List ℕ) : Type 0 where

@@ -1,3 +1,4 @@
+pub mod Chains
 pub mod Checks
 pub mod Placed
 pub mod Dropped
@@ -5,3 +6,4 @@ pub mod Brought
 pub mod Loaded
 pub mod Replaced
 pub mod Removed
+pub mod Answered

@@ -1,9 +1,9 @@
 -- A contract put on the card: the package's number and AID, its services, of which those that it has stay, and all its lists. Assumes nothing.
-use Prim.Native.Nat.{ℕ, ◌^◌, ◌≤◌, ◌<◌}
+use Prim.Native.Nat.{ℕ, ◌^◌, ◌<◌}
 use mathlib.Core.Path.{◌≡◌, refl, sym, ap, ap₂, ◌∙◌, subst}
 use mathlib.Core.Bool.{Bool, true, false, ◌&&◌, ◌||◌, cond}
 use mathlib.Core.List.{List}
-use mathlib.Core.Option.{Option}
+use mathlib.Core.Option.{Option, none, some}
 use lib.Dec.{eqb}
 use Rattle.policy.specs.Lists.{exists, or_else}
 use Rattle.policy.specs.Contract.{Aid, Tok, eq_tok, Contract}
@@ -16,16 +16,14 @@ use Rattle.policy.proofs.Bits.{bit_none}
 use Rattle.geometry.specs.declared.Card.{Card}
 use Rattle.geometry.specs.Geometry.{layout_of}
 use Rattle.image.specs.Laid.{Laid, with_used, with_aid}
-use Rattle.image.specs.Read.{number_or}
 use Rattle.image.specs.Wrote.{Wrote}
 use Rattle.image.proofs.RowBits.{bit_set}
 use Rattle.image.proofs.Writes.{used_put}
 use Rattle.image.proofs.Clears.{wrote_then}
-use Rattle.image.proofs.Numbers.{free_service_none, free_service_some}
 use Rattle.changes.specs.Places.{opened}
 use Rattle.changes.specs.Joins.{taken_in, TakesIn}
 use Rattle.changes.specs.Own.{own_rows, OwnFits}
-use Rattle.changes.proofs.ItemLoops.{Turns}
+use Rattle.changes.proofs.ListLoops.{Turns}
 use Rattle.changes.proofs.AppendedRows.{wrote_as}
 use Rattle.packages.specs.declared.decide.Bring.{Bring}
 use Rattle.packages.specs.Writes.{named, keeps, placed_one, placed_all, placed, taken, brought_in, BringsIn}
@@ -62,12 +60,12 @@ module _ (L : Layout) (n kept : ℕ) (s : Tok) (t : Tables) where
     pub place_kept : b ≡ true → Wrote L img t → Wrote L img (placed_one L n kept s t)
     place_kept q = wrote_as L (sym (ap (λ (x : Bool). placed_by x (free_service L t n)) (sym e ∙ q)))
 
-    module _ (q : b ≡ false) (k : ℕ) (f : k ≡ number_or L.services (free_service L t n)) where
-      pub place_open : k < L.services → Wrote L img (opened n k s t) → Wrote L img (placed_one L n kept s t)
-      place_open h = wrote_as L (sym (ap₂ placed_by (sym e ∙ q) (free_service_some L t n k f h)))
+    module _ (q : b ≡ false) where
+      pub place_open : {k : ℕ} → free_service L t n ≡ some k → Wrote L img (opened n k s t) → Wrote L img (placed_one L n kept s t)
+      place_open h = wrote_as L (sym (ap₂ placed_by (sym e ∙ q) h))
 
-      pub place_full : L.services ≤ k → Wrote L img t → Wrote L img (placed_one L n kept s t)
-      place_full h = wrote_as L (sym (ap₂ placed_by (sym e ∙ q) (free_service_none L t n k f h)))
+      pub place_full : free_service L t n ≡ none → Wrote L img t → Wrote L img (placed_one L n kept s t)
+      place_full h = wrote_as L (sym (ap₂ placed_by (sym e ∙ q) h))
 
 -- ---- all of them, of which each asks nothing
 abbrev pub placing : Layout → ℕ → ℕ → Turns Tok

@@ -1,5 +1,5 @@
 -- Kinds 1 and 11, a contract that comes: what its short check asks, in the parts that the code decides.
-use Rattle.std.specs.Prelude.{ℕ, ◌+◌, Bool, not, ◌&&◌, ◌||◌, cond, ◌≡◌, List, eqb, leb}
+use Rattle.std.specs.Prelude.{ℕ, ◌+◌, Bool, not, ◌&&◌, ◌||◌, cond, ◌≡◌, List, Result, Ok, Err, eqb, leb}
 use Rattle.std.proofs.Math.Option.{none, some}
 use Rattle.std.specs.Int.Bits.{bit_or}
 use Rattle.policy.specs.Lists.{is_some}
@@ -9,18 +9,21 @@ use Rattle.policy.specs.Record.{Change, load, replace}
 use Rattle.policy.specs.Causes.{answer}
 use Rattle.policy.specs.Tables.{Tables, Waiting, bit, decode, encode}
 use Rattle.policy.specs.Lookup.{number_of, service_of, free_number}
-use Rattle.policy.specs.Draft.{Look, load_at, replace_at, dropped_by, installed_aid}
+use Rattle.policy.specs.Draft.{Draft, Look, load_at, replace_at, dropped_by, installed_aid}
 use Rattle.policy.specs.ShortCheck.{count, newcomer_rights, newcomer_needs, now_met, others_rights}
 use Rattle.policy.specs.Judge.{look_causes, refusal}
 use Rattle.policy.specs.Settled.{settled}
+use Rattle.answers.specs.declared.Refusal.{Refusal}
+use Rattle.answers.specs.Numbers.{number}
 use Rattle.geometry.specs.declared.Kept.TheVariants.{UnmetCalls, WaitingGrants}
 use Rattle.geometry.specs.declared.Table.TheVariants.{Calls, Needs}
 use Rattle.image.specs.Read.{mask_of}
+use Rattle.record.specs.declared.ContractKind.{ContractKind}
+use Rattle.record.specs.declared.ContractKind.TheVariants.{Load, Replace}
 use Rattle.changes.specs.Joins.{room_after}
 use Rattle.changes.specs.Left.{in_column}
 use Rattle.changes.specs.Own.{served}
 use Rattle.packages.specs.declared.decide.Bring.{Bring}
-use Rattle.packages.specs.declared.decide.Decided.{Decided}
 use Rattle.packages.specs.Conditions.{own_granted, needs_served, others_granted}
 
 module _ (L : Layout) (t : Tables) where
@@ -116,6 +119,16 @@ module _ (L : Layout) (img : List ℕ) (k : Contract) where
     pub here : number_of L (decode L img) k.aid ≡ some b.at
     pub found : Comes L (decode L img) k b.at b
 
-  pub record Decides (c : Change) (Accepts : Bring → Type 0) (r : Decided) : Type 0 where
-    pub refused : (r.number ≡ 0 → ⊥) → settled L img k.aid c ≡ refusal r.number 255 img
-    pub accepted : r.number ≡ 0 → Accepts r.bring
+  -- it is accepted so, or refused, and then stays as it is
+  abbrev pub Decides : Change → (Bring → Type 0) → Result Bring Refusal → Type 0
+  Decides c Accepts (Ok b) = Accepts b
+  Decides c Accepts (Err e) = settled L img k.aid c ≡ refusal (number e) 255 img
+
+-- ---- of either kind: its acceptance, and what the tables come to
+abbrev pub AcceptedAs : ContractKind → Layout → List ℕ → Contract → Bring → Type 0
+AcceptedAs Load L img k b = Loads L img k b
+AcceptedAs Replace L img k b = Renews L img k b
+
+abbrev pub drafted_as : ContractKind → Layout → Tables → ℕ → Contract → Draft
+drafted_as Load L t n k = load_at L t n k
+drafted_as Replace L t n k = replace_at L t n k

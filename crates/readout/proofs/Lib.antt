@@ -1,5 +1,4 @@
-pub mod Writers
-pub mod Placed
-pub mod Turns
-pub mod Rows
 pub mod Records
+pub mod Rows
+pub mod Turns
+pub mod Writers

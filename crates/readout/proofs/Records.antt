@@ -7,32 +7,33 @@ use mathlib.Core.Bool.{Bool, true, false, not, ◌&&◌, cond}
 use mathlib.Core.List.{List, [], ◌∷◌, ◌++◌}
 use lib.Dec.{eqb, leb, ltb}
 use lib.ListN.{length, drop, length-append}
-use borrow.Author.Tests.{ltb-true, le-ltb, lt-ltb, le-leb, lt-leb, not-true, not-false}
+use borrow.Author.Tests.{ltb-true, le-leb, lt-leb, not-true, not-false}
 use Rattle.policy.specs.Lists.{flat, upto}
-use Rattle.policy.specs.Contract.{Aid, Row}
+use Rattle.policy.specs.Contract.{Row}
 use Rattle.policy.specs.Layout.{Layout, aid_size}
-use Rattle.policy.specs.Tables.{Tables, no_tok, bit, row_of, write_number, decode}
+use Rattle.policy.specs.Tables.{Tables, no_tok, write_number, decode}
 use Rattle.policy.specs.Lookup.{contract_at}
 use Rattle.policy.specs.Sound.{sound}
 use Rattle.policy.specs.Judge.{Out, refusal, aid_bytes, row_bytes, load_record, read_out}
 use Rattle.policy.specs.Settled.{Gives}
 use Rattle.policy.proofs.Sets.{T_true, true_T, and_l, length_flat_le, length_from, upto_in, in_row}
-use Rattle.policy.proofs.Bits.{bit_row_of, length_number}
+use Rattle.policy.proofs.Bits.{length_number}
 use Rattle.geometry.specs.declared.Card.{Card}
 use Rattle.geometry.specs.declared.Card.TheVariants.{Small, Large}
 use Rattle.geometry.specs.declared.Table.{Table}
 use Rattle.geometry.specs.declared.Table.TheVariants.{Needs}
 use Rattle.geometry.specs.declared.Kept.{Kept}
 use Rattle.geometry.specs.declared.Kept.TheVariants.{UnmetCalls, WaitingGrants}
-use Rattle.geometry.specs.Geometry.{layout_of, aid_at}
+use Rattle.geometry.specs.Geometry.{layout_of}
 use Rattle.policy.specs.Room.{Room}
 use Rattle.image.specs.Laid.{Laid, table_of}
-use Rattle.image.specs.Read.{aid_in, items_of, item, item_number, item_at}
+use Rattle.image.specs.Read.{items_of, item, item_number, item_at}
 use Rattle.image.proofs.Places.{list_fits, list_short}
 use Rattle.image.proofs.Laid.{sound_laid}
+use Rattle.rows.specs.Area.{over}
+use Rattle.readout.specs.declared.pen.Pen.{Pen}
 use Rattle.readout.specs.Parts.{Put, Short, given, beside, item_row, bit_row, bit_bytes, column_bytes, table_bytes, table_rows, item_bytes, list_bytes, kept_rows, kept_bytes, tok_bytes, provide_bytes, need_bytes, row_lists, body_bytes}
 use Rattle.readout.proofs.Writers.{Shorts, three_short, two_put}
-use Rattle.image.proofs.Seen.{aid_seen}
 use Rattle.readout.proofs.Rows.{kept_are, needs_are, provides_are}
 
 -- ---- how long the parts are at most
@@ -100,9 +101,18 @@ module _ (L : Layout) (t : Tables) (room : Room L t) (n : ℕ) where
       let e = length-append (kept_bytes L t n WaitingGrants) (need_bytes L t n) in
       omega (arith, room.aid_short n, provides_most, kept_most UnmetCalls, kept_most WaitingGrants, needs_most)
 
-pub body_short : (c : Card) (img : List ℕ) → Laid (layout_of c) img → (n : ℕ) → Short 4 (body_bytes (layout_of c) (decode (layout_of c) img) n)
+pub body_short : (c : Card) (img : List ℕ) → Laid (layout_of c) img → (n : ℕ) → 4 + length (body_bytes (layout_of c) (decode (layout_of c) img) n) < 65536
 body_short Small img h n = omega (arith, body_most (layout_of Small) (decode (layout_of Small) img) h.room n)
 body_short Large img h n = omega (arith, body_most (layout_of Large) (decode (layout_of Large) img) h.room n)
+
+-- ---- the body's parts
+module _ (L : Layout) (t : Tables) (n : ℕ) (own : List ℕ) (e : own ≡ aid_bytes (t.aid n)) where
+  pub body_are : own ++ (provide_bytes L t n ++ row_lists L t n) ≡ body_bytes L t n
+  unfolding contract_at
+  body_are = ap (λ (x : List ℕ). x ++ (provide_bytes L t n ++ row_lists L t n)) e
+
+  pub parts_short : (p : Pen) → Short p (body_bytes L t n) → Shorts p own (provide_bytes L t n) (row_lists L t n)
+  parts_short p = three_short own (provide_bytes L t n) (row_lists L t n) (body_bytes L t n) body_are p
 
 module _ (c : Card) (img : List ℕ) (n : ℕ) where
   abbrev L : Layout
@@ -110,31 +120,6 @@ module _ (c : Card) (img : List ℕ) (n : ℕ) where
 
   abbrev t : Tables
   t = decode (layout_of c) img
-
-  -- ---- an installed package's number
-  pub unnumbered : (m : ℕ) → m ≡ (layout_of c).packages → m ≤ n → false ≡ ltb n (layout_of c).packages && (decode (layout_of c) img).used n
-  unnumbered m e h = sym (ap (λ (b : Bool). b && t.used n) (le-ltb n L.packages (omega arith)))
-
-  pub numbered : (m row : ℕ) (b : Bool) → m ≡ (layout_of c).packages → n < m → row ≡ row_of (layout_of c).packages (decode (layout_of c) img).used → b ≡ bit row n
-      → b ≡ ltb n (layout_of c).packages && (decode (layout_of c) img).used n
-  numbered m row b e h p d =
-      let l : n < L.packages = omega arith in
-      d ∙ ap (λ (x : ℕ). bit x n) p ∙ bit_row_of L.packages t.used n l ∙ sym (ap (λ (x : Bool). x && t.used n) (lt-ltb n L.packages l))
-
-  -- ---- the body's parts
-  pub lists_short : (at : ℕ) → Short at (row_lists (layout_of c) (decode (layout_of c) img) n)
-      → Shorts at (kept_bytes (layout_of c) (decode (layout_of c) img) n UnmetCalls) (kept_bytes (layout_of c) (decode (layout_of c) img) n WaitingGrants) (need_bytes (layout_of c) (decode (layout_of c) img) n)
-  lists_short at h = three_short at (kept_bytes L t n UnmetCalls) (kept_bytes L t n WaitingGrants) (need_bytes L t n) (row_lists L t n) refl h
-
-  module _ (h : Laid (layout_of c) img) (p : n < (layout_of c).packages) (from : ℕ) (q : from ≡ aid_at (layout_of c) n) where
-    pub body_are : aid_bytes (aid_in img from) ++ (provide_bytes (layout_of c) (decode (layout_of c) img) n ++ row_lists (layout_of c) (decode (layout_of c) img) n)
-        ≡ body_bytes (layout_of c) (decode (layout_of c) img) n
-    unfolding contract_at
-    body_are = ap (λ (a : Aid). aid_bytes a ++ (provide_bytes L t n ++ row_lists L t n)) (aid_seen c img h n from p q)
-
-    pub parts_short : (at : ℕ) → Short at (body_bytes (layout_of c) (decode (layout_of c) img) n)
-        → Shorts at (aid_bytes (aid_in img from)) (provide_bytes (layout_of c) (decode (layout_of c) img) n) (row_lists (layout_of c) (decode (layout_of c) img) n)
-    parts_short at = three_short at (aid_bytes (aid_in img from)) (provide_bytes L t n) (row_lists L t n) (body_bytes L t n) body_are
 
   -- ---- the whole record
   abbrev whole : List ℕ
@@ -156,12 +141,13 @@ module _ (c : Card) (img : List ℕ) (n : ℕ) where
     unfolding load_record
     is_whole = ap₂ (λ (x y : ℕ). (x / 256 % 256) ∷ (x % 256) ∷ y ∷ 1 ∷ body_bytes L t n) (el ∙ record_length) ev
 
-    pub written : (m r : ℕ) (old mid new : List ℕ) → len ≤ length old → Put 0 ((len / 256 % 256) ∷ (len % 256) ∷ v ∷ 1 ∷ []) old m mid
-        → Put m (body_bytes (layout_of c) (decode (layout_of c) img) n) mid r new → length mid ≡ length old
-        → new ≡ load_record (layout_of c) (contract_at (layout_of c) (decode (layout_of c) img) n) ++ drop len old
-    written m r old mid new h u w same =
-        (two_put 0 front (body_bytes L t n) whole is_whole m r old mid new u w same).leaves (omega arith)
-        ∙ ap (λ (x : ℕ). whole ++ drop x old) (zero-add (length whole) ∙ sym el)
+    pub written : (p q r : Pen) → p.at ≡ 0 → len ≤ length p.out.now → Put p ((len / 256 % 256) ∷ (len % 256) ∷ v ∷ 1 ∷ []) q
+        → Put q (body_bytes (layout_of c) (decode (layout_of c) img) n) r
+        → r.out.now ≡ load_record (layout_of c) (contract_at (layout_of c) (decode (layout_of c) img) n) ++ drop len p.out.now
+    written p q r z h u w =
+        let k : length whole ≡ len = sym el in
+        (two_put front (body_bytes L t n) whole is_whole u w).leaves (omega arith)
+        ∙ ap (λ (x : ℕ). over x whole p.out.now) z ∙ ap (λ (x : ℕ). whole ++ drop x p.out.now) (zero-add (length whole) ∙ k)
 
   -- ---- the answers
   module _ (old : List ℕ) where
@@ -178,8 +164,8 @@ module _ (c : Card) (img : List ℕ) (n : ℕ) where
       pub gives_unsound : not s ≡ true → Gives (read_out (layout_of c) img n old) 1 0 old
       gives_unsound g = gives _ _ _ 1 0 old (sym es ∙ not-true s g) refl refl (record { answered = refl; second_is = refl; bytes_are = refl })
 
-      pub is_laid : not s ≡ false → Laid (layout_of c) img
-      is_laid g = sound_laid L (true_T (sym es ∙ not-false s g))
+      pub sound_is_laid : not s ≡ false → Laid (layout_of c) img
+      sound_is_laid g = sound_laid L (true_T (sym es ∙ not-false s g))
 
       module _ (u : Bool) (eu : u ≡ ltb n (layout_of c).packages && (decode (layout_of c) img).used n) (gs : not s ≡ false) where
         pub gives_absent : not u ≡ true → Gives (read_out (layout_of c) img n old) 5 0 old

@@ -20,6 +20,7 @@ use Rattle.geometry.specs.declared.Kept.TheVariants.{UnmetCalls, WaitingGrants}
 use Rattle.image.specs.Laid.{table_of}
 use Rattle.image.specs.Read.{mask_of, Item, items_of, item, item_number}
 use Rattle.image.proofs.Masks.{mask_count}
+use Rattle.readout.specs.declared.pen.Pen.{Pen}
 use Rattle.readout.specs.Parts.{Short, given, beside, item_row, bit_row, bit_bytes, table_bytes, table_rows, list_bytes, kept_rows, kept_bytes, tok_bytes, provide_bytes, need_bytes}
 use Rattle.readout.proofs.Writers.{Shorts, two_short, three_short}
 
@@ -92,8 +93,8 @@ module _ (L : Layout) (t : Tables) (n : ℕ) where
           two_lists L count (table_rows L t n tb) (own_rows l) (table_bytes L t n tb) (list_bytes L t n l) (e ∙ ap length rows_are) (table_bytes_lem tb) (list_bytes_lem l)
           ∙ sym (ap (rows_bytes L) rows_are)
 
-      pub kept_short : (at : ℕ) → Short at (kept_bytes L t n l) → Shorts at (write_number L.count_width count []) (table_bytes L t n tb) (list_bytes L t n l)
-      kept_short at h = three_short at (write_number L.count_width count []) (table_bytes L t n tb) (list_bytes L t n l) (kept_bytes L t n l) kept_are h
+      pub kept_short : (p : Pen) → Short p (kept_bytes L t n l) → Shorts p (write_number L.count_width count []) (table_bytes L t n tb) (list_bytes L t n l)
+      kept_short p = three_short (write_number L.count_width count []) (table_bytes L t n tb) (list_bytes L t n l) (kept_bytes L t n l) kept_are p
 
   -- ---- the parts that code writes one after another, and where each may start
   module _ (count : ℕ) where
@@ -109,8 +110,8 @@ module _ (L : Layout) (t : Tables) (n : ℕ) where
         ap₂ (λ (x : ℕ) (y : List ℕ). write_number L.count_width x [] ++ y) e (table_bytes_lem Needs)
         ∙ number_append L.count_width (length (table_rows L t n Needs)) [] (flat row_bytes (table_rows L t n Needs))
 
-    pub needs_short : (at : ℕ) → count ≡ length (table_rows L t n Needs) → Short at (need_bytes L t n) → Shorts at (write_number L.count_width count []) (table_bytes L t n Needs) []
-    needs_short at e h = two_short at counted (table_bytes L t n Needs) (need_bytes L t n) (needs_are e) h
+    pub needs_short : (p : Pen) → count ≡ length (table_rows L t n Needs) → Short p (need_bytes L t n) → Shorts p (write_number L.count_width count []) (table_bytes L t n Needs) []
+    needs_short p e = two_short counted (table_bytes L t n Needs) (need_bytes L t n) (needs_are e) p
 
     module _ (b : ℕ) (e : count ≡ length (keep (t.provides n) (upto L.services))) (low : b ≡ count) where
       pub provides_are : (b ∷ []) ++ flat (tok_bytes L t n) (upto L.services) ≡ provide_bytes L t n
@@ -119,5 +120,5 @@ module _ (L : Layout) (t : Tables) (n : ℕ) where
           ap₂ (λ (x : ℕ) (y : List ℕ). x ∷ y) (low ∙ e ∙ sym (length-map (keep (t.provides n) (upto L.services)) (t.tok n)))
           (kept_bytes_lem (t.provides n) (t.tok n) write_tok (upto L.services))
 
-      pub provides_short : (at : ℕ) → Short at (provide_bytes L t n) → Shorts at (b ∷ []) (flat (tok_bytes L t n) (upto L.services)) []
-      provides_short at h = two_short at (b ∷ []) tok_part (provide_bytes L t n) provides_are h
+      pub provides_short : (p : Pen) → Short p (provide_bytes L t n) → Shorts p (b ∷ []) (flat (tok_bytes L t n) (upto L.services)) []
+      provides_short p = two_short (b ∷ []) tok_part (provide_bytes L t n) provides_are p

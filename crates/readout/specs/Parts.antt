@@ -6,22 +6,31 @@ use Rattle.policy.specs.Layout.{Layout}
 use Rattle.policy.specs.Tables.{Tables, write_tok}
 use Rattle.policy.specs.Lookup.{contract_at}
 use Rattle.policy.specs.Judge.{row_bytes, rows_bytes, load_body}
+use Rattle.readout.specs.declared.package.Package.{Package}
+use Rattle.readout.specs.declared.pen.Pen.{Pen}
 use Rattle.rows.specs.Area.{over}
 use Rattle.geometry.specs.declared.Table.{Table}
 use Rattle.geometry.specs.declared.Table.TheVariants.{Calls, Grants, Needs}
 use Rattle.geometry.specs.declared.Kept.{Kept}
 use Rattle.geometry.specs.declared.Kept.TheVariants.{UnmetCalls, WaitingGrants}
+use Rattle.image.specs.Image.{lay, tables}
 use Rattle.image.specs.Laid.{table_of}
 use Rattle.image.specs.Read.{Item, items_of, item_aid, item_tok, item_number, item_at}
 
--- ---- a writer: where it ends, and what it leaves of a buffer that has room for its bytes
-pub record Put (at : ℕ) (bytes old : List ℕ) (r : ℕ) (new : List ℕ) : Type 0 where
-  pub ends : r ≡ at + length bytes
-  pub leaves : at + length bytes ≤ length old → new ≡ over at bytes old
+-- ---- a pen that put these bytes: where it stands, and what it leaves of a buffer that has room for them
+pub record Put (old : Pen) (bytes : List ℕ) (new : Pen) : Type 0 where
+  pub lent : new.out.ghost_name ≡ old.out.ghost_name
+  pub same : length new.out.now ≡ length old.out.now
+  pub ends : new.at ≡ old.at + length bytes
+  pub leaves : old.at + length bytes ≤ length old.out.now → new.out.now ≡ over old.at bytes old.out.now
 
--- a writer that starts at `at` ends where a record may end
-abbrev pub Short : ℕ → List ℕ → Type 0
-Short at bytes = at + length bytes < 65536
+-- a pen that puts them ends where a record may end
+abbrev pub Short : Pen → List ℕ → Type 0
+Short p bytes = p.at + length bytes < 65536
+
+-- what is said of a layout, tables and a package number, of a package
+abbrev pub of : {A : Type 0} → (Layout → Tables → ℕ → A) → Package → A
+of f p = f (lay p.img) (tables p.img) p.n
 
 -- bytes that stand only where a test passes
 abbrev pub given : Bool → List ℕ → List ℕ

@@ -3,114 +3,102 @@
 
 ghost use Rattle.std.specs.Prelude.{◌≡◌, ◌&&◌, ◌++◌, ◌≤◌, ◌<◌, ltb, length, drop};
 ghost use Rattle.policy.specs.Lookup.{contract_at};
-ghost use Rattle.policy.specs.Judge.{load_record, read_out};
+ghost use Rattle.policy.specs.Judge.{aid_bytes, load_record, read_out};
 ghost use Rattle.policy.specs.Settled.{Gives};
-ghost use Rattle.geometry.specs.Geometry.{layout_of, tables_of};
-ghost use Rattle.image.specs.Laid.{Laid};
-ghost use Rattle.readout.specs.Parts.{Put, Short, row_lists, body_bytes};
+ghost use Rattle.geometry.specs.Geometry.{layout_of};
+ghost use Rattle.image.specs.Image.{lay, tables};
+ghost use Rattle.answers.specs.Numbers.{answered, second_or};
+ghost use Rattle.readout.specs.Parts.{Put, Short, of, row_lists, body_bytes};
 
+use answers::Refusal;
 use geometry::{Card, Kept};
+use image::Image;
+use package::Package;
+use pen::Pen;
 
 mod lists;
+mod package;
 mod pen;
 mod sections;
 mod tables;
 
-// An answer of document 01, and the length of the record where it is 0.
-#[derive(Clone, Copy)]
-pub struct Outcome {
-    pub number: u8,
-    pub second: u16,
+impl Package<'_> {
+    // What it calls, grants and needs.
+    fn put_lists(self, pen: &mut Pen)
+        requires { Short pen.old (of row_lists self) }
+        ensures { Put pen.old (of row_lists self.entry) pen.new }
+    {
+        self.put_rows(Kept::UnmetCalls, pen);
+        self.put_rows(Kept::WaitingGrants, pen);
+        self.put_needs(pen);
+    }
+
+    // Its contract: what follows the version and the kind.
+    fn put_body(self, pen: &mut Pen)
+        requires { Short pen.old (of body_bytes self) }
+        ensures { Put pen.old (of body_bytes self.entry) pen.new }
+    {
+        pen.put(package::aid(self.img, self.n));
+        self.put_provides(pen);
+        self.put_lists(pen);
+    }
+
+    // The length of its record, found by writing its contract where nothing of it is kept.
+    fn measure(self) -> usize
+        ensures { (result ≡ length (load_record (lay self.entry.img) (of contract_at self.entry))) × (result < 65536) }
+    {
+        let mut nowhere = [0];
+        let mut pen = Pen {
+            out: &mut nowhere,
+            at: 4,
+        };
+        self.put_body(&mut pen);
+        pen.at
+    }
+
+    // Its record, of so many bytes, at the front of a buffer that has room for it.
+    fn write_record(self, len: usize, out: &mut [u8])
+        requires { (len ≡ length (load_record (lay self.img) (of contract_at self))) × (len ≤ length out.old) }
+        ensures { out.new ≡ load_record (lay self.entry.img) (of contract_at self.entry) ++ drop len out.old }
+    {
+        let front = [
+            (len / 256 % 256) as u8,
+            (len % 256) as u8,
+            geometry::version(self.img.card),
+            1,
+        ];
+        let mut pen = Pen { out, at: 0 };
+        pen.put(&front);
+        self.put_body(&mut pen);
+    }
 }
 
 // Whether n is the number of an installed package.
-fn is_used(img: &[u8], c: Card, n: usize) -> bool
-    requires { Laid (layout_of c) img.now }
-    ensures { result ≡ ltb n (layout_of c).packages && (tables_of c img.now).used n }
+fn is_used(img: Image, n: usize) -> bool
+    ensures { result ≡ ltb n (lay img.entry).packages && (tables img.entry).used n }
 {
-    if n >= geometry::packages(c) {
-        return false;
-    }
-    let row = image::read::used_row(img, c);
-    bits::has_bit(row, n)
+    n < geometry::packages(img.card) && bits::has_bit(img.used_row(), n)
 }
 
-// What package n calls, grants and needs.
-fn put_lists(img: &[u8], c: Card, n: usize, out: &mut [u8], at: usize) -> usize
-    requires laid { Laid (layout_of c) img.now }
-    requires inside { n < (layout_of c).packages }
-    requires short { Short at (row_lists (layout_of c) (tables_of c img.now) n) }
-    ensures { Put at (row_lists (layout_of c) (tables_of c img.now) n) out.old result out.new }
-{
-    let grants = sections::put_rows(img, c, Kept::UnmetCalls, n, out, at);
-    let needs = sections::put_rows(img, c, Kept::WaitingGrants, n, out, grants);
-    sections::put_needs(img, c, n, out, needs)
-}
-
-// The contract of package n: what follows the version and the kind.
-fn put_body(img: &[u8], c: Card, n: usize, out: &mut [u8], at: usize) -> usize
-    requires laid { Laid (layout_of c) img.now }
-    requires inside { n < (layout_of c).packages }
-    requires short { Short at (body_bytes (layout_of c) (tables_of c img.now) n) }
-    ensures { Put at (body_bytes (layout_of c) (tables_of c img.now) n) out.old result out.new }
-{
-    let from = geometry::aid_at(c, n);
-    let provides = pen::put_aid(img, from, out, at);
-    let rows = sections::put_provides(img, c, n, out, provides);
-    put_lists(img, c, n, out, rows)
-}
-
-// The length of package n's record, found by writing its contract where nothing of it is kept.
-fn measure(img: &[u8], c: Card, n: usize) -> usize
-    requires laid { Laid (layout_of c) img.now }
-    requires inside { n < (layout_of c).packages }
-    ensures { (result ≡ length (load_record (layout_of c) (contract_at (layout_of c) (tables_of c img.now) n))) × (result < 65536) }
-{
-    let mut nowhere = [0];
-    put_body(img, c, n, &mut nowhere, 4)
-}
-
-// Package n's record, of so many bytes, at the front of a buffer that has room for it.
-fn write_record(img: &[u8], c: Card, n: usize, len: usize, out: &mut [u8])
-    requires laid { Laid (layout_of c) img.now }
-    requires inside { n < (layout_of c).packages }
-    requires room { (len ≡ length (load_record (layout_of c) (contract_at (layout_of c) (tables_of c img.now) n)))
-        × (len ≤ length out.old) }
-    ensures { out.new ≡ load_record (layout_of c) (contract_at (layout_of c) (tables_of c img.now) n) ++ drop len
-        out.old }
-{
-    let version = geometry::version(c);
-    let front = [(len / 256 % 256) as u8, (len % 256) as u8, version, 1];
-    let body = pen::put(&front, out, 0);
-    put_body(img, c, n, out, body);
-}
-
-// Package n's contract as a kind 1 record into a buffer of any size, for any image and any number.
-pub fn read_out(img: &[u8], c: Card, n: usize, out: &mut [u8]) -> Outcome
-    ensures { Gives (read_out (layout_of c) img.now n out.old) result.number result.second out.new }
+// Package n's contract as a kind 1 record into a buffer of any size, for any image and any number: the length of the record.
+pub fn read_out(img: &[u8], c: Card, n: usize, out: &mut [u8]) -> Result<u16, Refusal>
+    ensures { Gives (read_out (layout_of c) img.now n out.old) (answered result) (second_or 0 result) out.new }
 {
     if !soundness::is_sound(img, c) {
-        return Outcome {
-            number: 1,
-            second: 0,
-        };
+        return Err(Refusal::Unsound);
     }
-    if !is_used(img, c, n) {
-        return Outcome {
-            number: 5,
-            second: 0,
-        };
+    let img = Image {
+        bytes: img,
+        card: c,
+    };
+    if !is_used(img, n) {
+        return Err(Refusal::NotInstalled);
     }
-    let len = measure(img, c, n);
+    let package = Package { img, n };
+    let len = package.measure();
     if out.len() < len {
-        return Outcome {
-            number: 12,
-            second: 0,
-        };
+        return Err(Refusal::BufferShort);
     }
-    write_record(img, c, n, len, out);
-    Outcome {
-        number: 0,
-        second: len as u16,
-    }
+    package.write_record(len, out);
+    Ok(len as u16)
 }

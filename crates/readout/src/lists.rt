@@ -1,70 +1,55 @@
-// The rows of the two lists that are package n's, in list order; and the tokens of its services.
+// The rows of the two lists that are a package's, in list order; and the tokens of its services.
 ghost use Rattle.std.specs.Prelude.{◌<◌, length};
 ghost use Rattle.policy.specs.Lists.{flat, upto};
-ghost use Rattle.geometry.specs.Geometry.{layout_of, tables_of};
-ghost use Rattle.image.specs.Laid.{Laid};
+ghost use Rattle.image.specs.Image.{lay, tables};
 ghost use Rattle.image.specs.Read.{items_of};
-ghost use Rattle.readout.specs.Parts.{Put, Short, item_bytes, list_bytes, tok_bytes};
+ghost use Rattle.readout.specs.Parts.{Put, Short, of, item_bytes, list_bytes, tok_bytes};
 
-use geometry::{Card, Kept};
+use crate::package;
+use crate::package::Package;
+use crate::pen::Pen;
+use geometry::Kept;
 
-// Row r of a list, where it is package n's: its AID and its tokens.
-fn put_item(img: &[u8], c: Card, l: Kept, n: usize, r: usize, out: &mut [u8], at: usize) -> usize
-    requires laid { Laid (layout_of c) img.now }
-    requires inside { r < length (items_of l (tables_of c img.now)) }
-    requires short { Short at (item_bytes (layout_of c) (tables_of c img.now) n l r) }
-    ensures { Put at (item_bytes (layout_of c) (tables_of c img.now) n l r) out.old result out.new }
-{
-    let number = image::lists::number(img, c, l, r);
-    if number != n {
-        return at;
+impl Package<'_> {
+    // Row r of a list, where it is the package's: its AID and its tokens.
+    fn put_item(self, l: Kept, r: usize, pen: &mut Pen)
+        requires inside { r < length (items_of l (tables self.img)) }
+        requires short { Short pen.old (of item_bytes self l r) }
+        ensures { Put pen.old (of item_bytes self.entry l r) pen.new }
+    {
+        if self.img.number(l, r) == self.n {
+            pen.put_row(package::item_aid(self.img, l, r), self.img.tokens(l, r));
+        }
     }
-    let from = geometry::place_at(c, l, r);
-    let part = geometry::tokens_in(l);
-    crate::pen::put_row(img, from, from + part, out, at)
-}
 
-// The rows of a list that are package n's: its unmet calls, or the waiting grants that it gives.
-pub fn put_list(img: &[u8], c: Card, l: Kept, n: usize, out: &mut [u8], start: usize) -> usize
-    requires laid { Laid (layout_of c) img.now }
-    requires short { Short start (list_bytes (layout_of c) (tables_of c img.now) n l) }
-    ensures { Put start (list_bytes (layout_of c) (tables_of c img.now) n l) out.old result out.new }
-{
-    let m = image::lists::count(img, c, l);
-    let mut at = start;
-    for r in 0..m {
-        at = put_item(img, c, l, n, r, out, at);
+    // The rows of a list that are the package's: its unmet calls, or the waiting grants that it gives.
+    pub fn put_list(self, l: Kept, pen: &mut Pen)
+        requires { Short pen.old (of list_bytes self l) }
+        ensures { Put pen.old (of list_bytes self.entry l) pen.new }
+    {
+        for r in 0..self.img.count(l) {
+            self.put_item(l, r, pen);
+        }
     }
-    at
-}
 
-// The tokens of service k, where package n provides it.
-fn put_service(img: &[u8], c: Card, n: usize, k: usize, out: &mut [u8], at: usize) -> usize
-    requires laid { Laid (layout_of c) img.now }
-    requires inside { (n < (layout_of c).packages) × (k < (layout_of c).services) }
-    requires short { Short at (tok_bytes (layout_of c) (tables_of c img.now) n k) }
-    ensures { Put at (tok_bytes (layout_of c) (tables_of c img.now) n k) out.old result out.new }
-{
-    let row = image::read::provided_row(img, c, n);
-    if !bits::has_bit(row, k) {
-        return at;
+    // The tokens of service k, where the package provides it.
+    fn put_service(self, k: usize, pen: &mut Pen)
+        requires inside { k < (lay self.img).services }
+        requires short { Short pen.old (of tok_bytes self k) }
+        ensures { Put pen.old (of tok_bytes self.entry k) pen.new }
+    {
+        if bits::has_bit(self.img.provided_row(self.n), k) {
+            pen.put_tokens(self.img.tokens_at(self.n, k));
+        }
     }
-    let from = geometry::tok_at(c, n, k);
-    crate::pen::put_tokens(img, from, out, at)
-}
 
-// The tokens of all services of package n.
-pub fn put_services(img: &[u8], c: Card, n: usize, out: &mut [u8], start: usize) -> usize
-    requires laid { Laid (layout_of c) img.now }
-    requires inside { n < (layout_of c).packages }
-    requires short { Short start (flat (tok_bytes (layout_of c) (tables_of c img.now) n) (upto (layout_of c).services)) }
-    ensures { Put start (flat (tok_bytes (layout_of c) (tables_of c img.now) n) (upto (layout_of c).services))
-        out.old result out.new }
-{
-    let m = geometry::services(c);
-    let mut at = start;
-    for k in 0..m {
-        at = put_service(img, c, n, k, out, at);
+    // The tokens of all its services.
+    pub fn put_services(self, pen: &mut Pen)
+        requires { Short pen.old (flat (of tok_bytes self) (upto (lay self.img).services)) }
+        ensures { Put pen.old (flat (of tok_bytes self.entry) (upto (lay self.entry.img).services)) pen.new }
+    {
+        for k in 0..geometry::services(self.img.card) {
+            self.put_service(k, pen);
+        }
     }
-    at
 }

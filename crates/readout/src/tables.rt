@@ -1,100 +1,78 @@
-// The rows of a table of bits: those of package n's row, by column and service number.
-ghost use Rattle.std.specs.Prelude.{◌≡◌, ◌<◌, length};
+// The rows of a table of bits: those of a package's row, by column and service number.
+ghost use Rattle.std.specs.Prelude.{◌≡◌, ◌≤◌, ◌<◌, length};
+ghost use Rattle.policy.specs.Lists.{keep, upto};
 ghost use Rattle.policy.specs.Tables.{row_of};
-ghost use Rattle.geometry.specs.Geometry.{layout_of, tables_of};
-ghost use Rattle.image.specs.Laid.{Laid, table_of};
-ghost use Rattle.readout.specs.Parts.{Put, Short, server, bit_bytes, column_bytes, table_bytes, table_rows};
+ghost use Rattle.image.specs.Image.{lay, tables};
+ghost use Rattle.image.specs.Laid.{table_of};
+ghost use Rattle.readout.specs.Parts.{Put, Short, of, server, bit_bytes, column_bytes, table_bytes, table_rows};
 
-use geometry::{Card, Table};
+use crate::package;
+use crate::package::Package;
+use crate::pen::Pen;
+use geometry::Table;
 
-// The package whose service a bit of column j is: a grant is on a service of package n itself.
-fn serving(tb: Table, n: usize, j: usize) -> usize
-    ensures { result ≡ server tb n j }
-{
-    match tb {
-        Table::Calls => j,
-        Table::Grants => n,
-        Table::Needs => j,
+impl Package<'_> {
+    // The package whose service a bit of column j is: a grant is on a service of the package itself.
+    fn serving(self, tb: Table, j: usize) -> usize
+        ensures { result ≡ server tb self.entry.n j }
+    {
+        match tb {
+            Table::Calls => j,
+            Table::Grants => self.n,
+            Table::Needs => j,
+        }
     }
-}
 
-// The row of service k of column j, whose bits are these, where its bit is set.
-fn put_bit(
-    img: &[u8],
-    c: Card,
-    tb: Table,
-    n: usize,
-    j: usize,
-    row: u16,
-    k: usize,
-    out: &mut [u8],
-    at: usize,
-) -> usize
-    requires laid { Laid (layout_of c) img.now }
-    requires inside { (n < (layout_of c).packages) × (j < (layout_of c).packages) × (k < (layout_of c).services) }
-    requires known { row ≡ row_of (layout_of c).services (table_of tb (tables_of c img.now) n j) }
-    requires short { Short at (bit_bytes (layout_of c) (tables_of c img.now) n tb j k) }
-    ensures { Put at (bit_bytes (layout_of c) (tables_of c img.now) n tb j k) out.old result out.new }
-{
-    if !bits::has_bit(row, k) {
-        return at;
+    // The row of service k of column j, whose bits are these, where its bit is set.
+    fn put_bit(self, tb: Table, j: usize, row: u16, k: usize, pen: &mut Pen)
+        requires inside { (j < (lay self.img).packages) × (k < (lay self.img).services) }
+        requires known { row ≡ row_of (lay self.img).services (table_of tb (tables self.img) self.n j) }
+        requires short { Short pen.old (of bit_bytes self tb j k) }
+        ensures { Put pen.old (of bit_bytes self.entry tb j k) pen.new }
+    {
+        if bits::has_bit(row, k) {
+            let tokens = self.img.tokens_at(self.serving(tb, j), k);
+            pen.put_row(package::aid(self.img, j), tokens);
+        }
     }
-    let from = geometry::aid_at(c, j);
-    let s = serving(tb, n, j);
-    let tok = geometry::tok_at(c, s, k);
-    crate::pen::put_row(img, from, tok, out, at)
-}
 
-// The rows of column j.
-fn put_column(
-    img: &[u8],
-    c: Card,
-    tb: Table,
-    n: usize,
-    j: usize,
-    out: &mut [u8],
-    start: usize,
-) -> usize
-    requires laid { Laid (layout_of c) img.now }
-    requires inside { (n < (layout_of c).packages) × (j < (layout_of c).packages) }
-    requires short { Short start (column_bytes (layout_of c) (tables_of c img.now) n tb j) }
-    ensures { Put start (column_bytes (layout_of c) (tables_of c img.now) n tb j) out.old result out.new }
-{
-    let row = image::read::entry(img, c, tb, n, j);
-    let m = geometry::services(c);
-    let mut at = start;
-    for k in 0..m {
-        at = put_bit(img, c, tb, n, j, row, k, out, at);
+    // The rows of column j.
+    fn put_column(self, tb: Table, j: usize, pen: &mut Pen)
+        requires inside { j < (lay self.img).packages }
+        requires short { Short pen.old (of column_bytes self tb j) }
+        ensures { Put pen.old (of column_bytes self.entry tb j) pen.new }
+    {
+        let row = self.img.entry(tb, self.n, j);
+        for k in 0..geometry::services(self.img.card) {
+            self.put_bit(tb, j, row, k, pen);
+        }
     }
-    at
-}
 
-// The rows of all columns.
-pub fn put_table(img: &[u8], c: Card, tb: Table, n: usize, out: &mut [u8], start: usize) -> usize
-    requires laid { Laid (layout_of c) img.now }
-    requires inside { n < (layout_of c).packages }
-    requires short { Short start (table_bytes (layout_of c) (tables_of c img.now) n tb) }
-    ensures { Put start (table_bytes (layout_of c) (tables_of c img.now) n tb) out.old result out.new }
-{
-    let m = geometry::packages(c);
-    let mut at = start;
-    for j in 0..m {
-        at = put_column(img, c, tb, n, j, out, at);
+    // The rows of all columns.
+    pub fn put_table(self, tb: Table, pen: &mut Pen)
+        requires { Short pen.old (of table_bytes self tb) }
+        ensures { Put pen.old (of table_bytes self.entry tb) pen.new }
+    {
+        for j in 0..geometry::packages(self.img.card) {
+            self.put_column(tb, j, pen);
+        }
     }
-    at
-}
 
-// How many rows there are.
-pub fn count_rows(img: &[u8], c: Card, tb: Table, n: usize) -> usize
-    requires laid { Laid (layout_of c) img.now }
-    requires inside { n < (layout_of c).packages }
-    ensures { (result ≡ length (table_rows (layout_of c) (tables_of c img.now) n tb)) × (result < 1024) }
-{
-    let m = geometry::packages(c);
-    let mut total: usize = 0;
-    for j in 0..m {
-        let row = image::read::entry(img, c, tb, n, j);
-        total += bits::count(row);
+    // How many rows column j has.
+    fn count_column(self, tb: Table, j: usize) -> usize
+        requires { j < (lay self.img).packages }
+        ensures { (result ≡ length (keep (table_of tb (tables self.entry.img) self.entry.n j) (upto (lay self.entry.img).services)))
+            × (result ≤ 16) }
+    {
+        bits::count(self.img.entry(tb, self.n, j))
     }
-    total
+
+    // How many rows there are.
+    pub fn count_bits(self, tb: Table) -> usize
+        ensures { (result ≡ length (of table_rows self.entry tb)) × (result < 1024) }
+    {
+        (0..geometry::packages(self.img.card))
+            .map(|j| self.count_column(tb, j))
+            .sum()
+    }
 }

@@ -1,14 +1,13 @@
 -- Comparing bytes and AIDs. Assumes nothing.
 use Prim.Native.Nat.{ℕ, suc}
-use mathlib.Core.Path.{◌≡◌, refl, ap, sym, ◌∙◌}
-use mathlib.Core.Bool.{Bool, true, false, and-false, and-true}
+use mathlib.Core.Path.{◌≡◌, refl, ap, ◌∙◌}
+use mathlib.Core.Bool.{Bool, false, and-false}
 use mathlib.Core.List.{List, [], ◌∷◌}
 use native.Mathlib.Omega.{arith}
 use lib.Dec.{eqb}
 use lib.ListN.{take, length, drop}
 use lib.Seq.{take_all}
 use Rattle.policy.specs.Lists.{eq_bytes}
-use Rattle.policy.specs.Contract.{Row, eq_aid, eq_tok, eq_row}
 
 pub unequal_lengths : (a b : List ℕ) → (length a ≡ length b → ⊥) → eq_bytes a b ≡ false
 unequal_lengths [] [] h = absurd (h refl)
@@ -19,11 +18,3 @@ unequal_lengths (x ∷ a) (y ∷ b) h = rw (unequal_lengths a b (λ e. h (ap suc
 -- as long as the other, and the same from its first byte on
 pub all_alike : (a b : List ℕ) {r : Bool} → length a ≡ length b → r ≡ eq_bytes (take (length b) (drop 0 a)) b → r ≡ eq_bytes a b
 all_alike a b h e = e ∙ ap (λ (z : List ℕ). eq_bytes z b) (take_all (length b) a (omega arith))
-
--- two rows: their tokens, and then their AIDs
-module _ (x y : Row) {e : Bool} (q : e ≡ eq_tok x.tok y.tok) where
-  pub row_differs : e ≡ false → false ≡ eq_row x y
-  row_differs f = sym (rw (sym q ∙ f) (and-false (eq_aid x.aid y.aid)))
-
-  pub row_by_aids : {r : Bool} → e ≡ true → r ≡ eq_aid x.aid y.aid → r ≡ eq_row x y
-  row_by_aids f h = h ∙ sym (rw (sym q ∙ f) (and-true (eq_aid x.aid y.aid)))

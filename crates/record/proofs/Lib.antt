@@ -1,9 +1,12 @@
+pub mod Found
+pub mod Sifting
+pub mod Others
+pub mod Parsed
+pub mod ByKind
+pub mod Tails
+pub mod Readers
 pub mod Fronts
 pub mod Places
-pub mod Bodies
-pub mod Header
-pub mod Taken
-pub mod Loops
 pub mod Alike
-pub mod Improper
 pub mod Marks
+mod Split

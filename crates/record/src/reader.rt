@@ -1,73 +1,94 @@
-// A reader: a record and a position in it. Its methods are thin, over covered functions. A contract's lists, and a service and its
-// callers, are read by one reader that moves on.
+// A reader: a record and a position in it, which moves on. Its methods are thin, over covered functions.
+// Stays: one method for all would ask of each reader that what it leaves is an end of the part, which is longer than the six bodies.
 ghost use Rattle.std.specs.Prelude.{◌≤◌, length, drop};
-ghost use Rattle.policy.specs.Record.{aid, tokens, token_list, caller_list, a_service};
+ghost use Rattle.policy.specs.Record.{aid, valid_row, token_list, caller_list, row_list};
 ghost use Rattle.geometry.specs.Geometry.{layout_of};
-ghost use Rattle.record.specs.Meaning.{Places, PlacesRows, Served, Brings, Bodies};
+ghost use Rattle.record.specs.Listed.{bytes_of, row_of, toks_of, aids_of, rows_of};
+ghost use Rattle.record.specs.Reading.{ReadsOn, TokensOn};
 
-use crate::{Body, Brought, ListAt, RowsAt, TokensAt};
-use geometry::Card;
+use crate::list::{Aid, Aids, Row, Rows, Services};
+use crate::parts;
+use geometry::{Card, Tokens};
 
 #[derive(Clone, Copy)]
 pub struct Reader<'a> {
     pub src: &'a [u8],
     pub at: usize,
+    ghost inside: { at ≤ length src.now },
 }
 
 impl<'a> Reader<'a> {
-    // The services of a contract, at the position.
-    pub fn services(self, c: Card) -> ListAt
-        requires { self.at ≤ length self.src.now }
-        ensures { Places tokens (token_list (layout_of c)) self.entry.at self.entry.src.now result }
+    // The AID at the position.
+    pub fn aid(&mut self) -> Option<Aid<'a>>
+        ensures { ReadsOn bytes_of aid (drop self.old.at self.old.src.now) result (drop self.new.at self.new.src.now) }
     {
-        crate::services_at(self.src, self.at, c)
-    }
-
-    // The calls, grants and needs of a contract, from the position on.
-    pub fn rows(self, c: Card) -> RowsAt
-        requires { self.at ≤ length self.src.now }
-        ensures { PlacesRows (layout_of c) self.entry.at self.entry.src.now result }
-    {
-        crate::rows_at(self.src, self.at, c)
+        let (aid, rest) = parts::read_aid(&self.src[self.at..])?;
+        *self = Reader {
+            src: self.src,
+            at: self.src.len() - rest.len(),
+        };
+        Some(aid)
     }
 
     // The tokens at the position.
-    pub fn tokens(self, c: Card) -> TokensAt
-        requires { self.at ≤ length self.src.now }
-        ensures { Served (layout_of c) self.entry.at self.entry.src.now result }
+    pub fn tokens(&mut self, c: Card) -> Option<Tokens>
+        ensures { TokensOn (layout_of c) (drop self.old.at self.old.src.now) result (drop self.new.at self.new.src.now) }
     {
-        crate::read_tokens(self.src, self.at, c)
+        let (tokens, rest) = parts::read_tokens(&self.src[self.at..], c)?;
+        *self = Reader {
+            src: self.src,
+            at: self.src.len() - rest.len(),
+        };
+        Some(tokens)
+    }
+
+    // The row at the position.
+    pub fn row(&mut self, c: Card) -> Option<Row<'a>>
+        ensures { ReadsOn row_of (valid_row (layout_of c)) (drop self.old.at self.old.src.now) result (drop self.new.at self.new.src.now) }
+    {
+        let (row, rest) = parts::read_row(&self.src[self.at..], c)?;
+        *self = Reader {
+            src: self.src,
+            at: self.src.len() - rest.len(),
+        };
+        Some(row)
+    }
+
+    // The services of a contract, at the position.
+    pub fn services(&mut self, c: Card) -> Option<Services<'a>>
+        ensures { ReadsOn toks_of (token_list (layout_of c)) (drop self.old.at self.old.src.now)
+            result (drop self.new.at self.new.src.now) }
+    {
+        let (services, rest) = parts::read_services(&self.src[self.at..], c)?;
+        *self = Reader {
+            src: self.src,
+            at: self.src.len() - rest.len(),
+        };
+        Some(services)
     }
 
     // The callers of a service, at the position.
-    pub fn callers(self, c: Card) -> ListAt
-        requires { self.at ≤ length self.src.now }
-        ensures { Places aid (caller_list (layout_of c)) self.entry.at self.entry.src.now result }
+    pub fn callers(&mut self, c: Card) -> Option<Aids<'a>>
+        ensures { ReadsOn aids_of (caller_list (layout_of c)) (drop self.old.at self.old.src.now)
+            result (drop self.new.at self.new.src.now) }
     {
-        crate::callers_at(self.src, self.at, c)
+        let (callers, rest) = parts::read_callers(&self.src[self.at..], c)?;
+        *self = Reader {
+            src: self.src,
+            at: self.src.len() - rest.len(),
+        };
+        Some(callers)
     }
-}
 
-// A contract's four lists, from a position to the record's end.
-pub fn read_lists(rec: &[u8], at: usize, c: Card) -> Brought
-    requires { at ≤ length rec.now }
-    ensures { Brings (layout_of c) at rec.now result }
-{
-    let mut r = Reader { src: rec, at };
-    let services = r.services(c);
-    r.at = services.next;
-    let rows = r.rows(c);
-    crate::contract_of(rec, services, rows)
-}
-
-// A service and its callers, from a position to the record's end.
-pub fn read_add_service(rec: &[u8], at: usize, c: Card) -> Body
-    requires { at ≤ length rec.now }
-    ensures { Bodies (layout_of c) (a_service (layout_of c) (drop at rec.now)) rec.now result }
-{
-    let mut r = Reader { src: rec, at };
-    let service = r.tokens(c);
-    r.at = service.next;
-    let callers = r.callers(c);
-    crate::service_of(rec, service, callers)
+    // The calls, grants or needs of a contract, at the position.
+    pub fn rows(&mut self, c: Card) -> Option<Rows<'a>>
+        ensures { ReadsOn rows_of (row_list (layout_of c)) (drop self.old.at self.old.src.now) result (drop self.new.at self.new.src.now) }
+    {
+        let (rows, rest) = parts::read_rows(&self.src[self.at..], c)?;
+        *self = Reader {
+            src: self.src,
+            at: self.src.len() - rest.len(),
+        };
+        Some(rows)
+    }
 }

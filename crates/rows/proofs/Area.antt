@@ -3,7 +3,7 @@ use Prim.Native.Nat.{ℕ, zero, suc, ◌+◌, ◌-◌, ◌*◌, ◌≤◌, ◌<�
 use native.Mathlib.Nat.{zero-mul, suc-mul, sub-zero, zero-sub, suc-sub-suc, mul-le-mul_right, add-zero, zero-add}
 use native.Mathlib.Numerals.{one-add, add-one}
 use native.Mathlib.Omega.{arith}
-use mathlib.Core.Path.{◌≡◌, refl, sym, ap, ◌∙◌}
+use mathlib.Core.Path.{◌≡◌, refl, sym, ap, subst, ◌∙◌}
 use mathlib.Core.Bool.{Bool, true, false, cond}
 use mathlib.Core.List.{List, [], ◌∷◌, ◌++◌, append_assoc, append-nil}
 use borrow.Author.Tests.{eq-eqb, ne_eqb}
@@ -15,7 +15,7 @@ use Rattle.policy.proofs.Sets.{flat_append}
 use Rattle.policy.proofs.Pieces.{length_pieces, piece_part, row_ends}
 use Rattle.policy.proofs.Bits.{bit_none}
 use Rattle.rows.specs.Area.{part, over, area_of, rows_in, IsArea, keep_from, keep_rows, appended, dropped}
-use Rattle.rows.proofs.Over.{over_on, part_after, length_over, length_part}
+use Rattle.rows.proofs.Over.{over_on, part_after, length_over, length_part, over_where_it_stands}
 
 -- ---- rows one after the other
 abbrev pub bytes : List (List ℕ) → List ℕ
@@ -253,6 +253,13 @@ module _ {w mask : ℕ} {a b : List ℕ} {k r : ℕ} (c : Closed w mask a b k r)
             ∙ c.same;
         is = eo;
       }
+
+  -- and stands in its place
+  pub closed_stay : r < get_or a 0 0 → (mask / 2 ^ r % 2 ≡ 1 → ⊥) → r ≤ k → Closed w mask a b (k + 1) (r + 1)
+  closed_stay lt even h =
+      let e : k ≡ r = omega (arith, c.few) in
+      let q : 1 + k * w ≡ 1 + r * w = ap (λ (x : ℕ). 1 + x * w) e in
+      subst (λ (x : List ℕ). Closed w mask a x (k + 1) (r + 1)) (sym (over_where_it_stands b (1 + k * w) (1 + r * w) w (omega (arith, kept_within lt, c.same)) q)) (closed_keep lt even)
 
   pub closed_all : get_or a 0 0 ≤ r → (k ≡ length (keep_rows mask all)) × (b ≡ over 1 (bytes (keep_rows mask all)) a)
   closed_all h =

@@ -6,7 +6,7 @@ use native.Mathlib.Omega.{arith}
 use mathlib.Core.Path.{◌≡◌, refl, sym, ap, ◌∙◌}
 use mathlib.Core.List.{List, ◌++◌, append_assoc}
 use lib.ListN.{length, get_or, take, drop, take-append-drop, set, length-append, length-drop, length-set}
-use lib.Seq.{paste, paste-zero, paste-suc, length_paste_head, take-length, length-take-le, take_at, drop_at, drop-append-add, drop-drop, get_or-append-add, get_or-take, get_or-drop}
+use lib.Seq.{paste, paste-zero, paste-suc, take-length, length-take-le, take_at, drop_at, drop-append-add, drop-drop, get_or-take, get_or-drop}
 use Rattle.rows.specs.Area.{part, over}
 
 -- ---- a loop that copies the n bytes of s into d from index at on, and has made j turns
@@ -40,26 +40,11 @@ module _ {d : List ℕ} {at : ℕ} {s : List ℕ} {n : ℕ} {a : List ℕ} {j : 
 past : (p q : List ℕ) (m n : ℕ) → length p ≡ m → drop (m + n) (p ++ q) ≡ drop n q
 past p q m n e = rw (← e) (drop-append-add p q n)
 
-get_d_past : (p q : List ℕ) (m n : ℕ) → length p ≡ m → get_or (p ++ q) (m + n) 0 ≡ get_or q n 0
-get_d_past p q m n e = rw (← e) (get_or-append-add p q n 0)
-
 pub length_part : (at n : ℕ) (l : List ℕ) → at + n ≤ length l → length (part at n l) ≡ n
 length_part at n l h = length-take-le n (drop at l) (rw length-drop (omega arith))
 
 pub get_d_part : (at n : ℕ) (l : List ℕ) (i : ℕ) → i < n → get_or (part at n l) i 0 ≡ get_or l (at + i) 0
 get_d_part at n l i h = rw (get_or-take, get_or-drop)
-
--- a byte that is copied to a place no later than its own is still as it was
-pub slide_byte : (d : List ℕ) (to from n j : ℕ) → to ≤ from → from + n ≤ length d → j < n
-    → get_or (paste d to (part from n d) j) (from + j) 0 ≡ get_or (part from n d) j 0
-slide_byte d to from n j h k i =
-    let e : length (take to d ++ take j (part from n d)) ≡ to + j = length_paste_head d to (part from n d) j (omega arith) (rw (length_part from n d k) (omega arith)) in
-    let q : from + j ≡ to + j + (from - to) = omega arith in
-    ap (λ (x : ℕ). get_or (paste d to (part from n d) j) x 0) q
-    ∙ get_d_past (take to d ++ take j (part from n d)) (drop (to + j) d) (to + j) (from - to) e
-    ∙ get_or-drop (to + j) d (from - to) 0
-    ∙ ap (λ (x : ℕ). get_or d x 0) (sym q)
-    ∙ sym (get_d_part from n d j i)
 
 -- ---- a part that was lent comes back over its place
 pub lent : (at n : ℕ) (new l : List ℕ) → length new ≡ n → take at l ++ (new ++ drop n (drop at l)) ≡ over at new l

@@ -56,15 +56,6 @@ module _ (l : List ℕ) where
   pub pair_is : (at : ℕ) → at + 2 ≤ length l → get_or l at 0 + 256 * get_or l (at + 1) 0 ≡ little (part at 2 l)
   pair_is at h = let e = little_cons at 1 h in let p = byte_is (at + 1) (omega arith) in omega arith
 
-  pub quad_is : (at : ℕ) → at + 4 ≤ length l → {p q : ℕ} → p ≡ little (part at 2 l) → q ≡ little (part (at + 2) 2 l) → p + 65536 * q ≡ little (part at 4 l)
-  quad_is at h e f =
-      let a = little_cons at 3 h in
-      let b = little_cons (at + 1) 2 (omega arith) in
-      let c = pair_is at (omega arith) in
-      let s : at + 1 + 1 ≡ at + 2 = omega arith in
-      let d = ap (λ (x : ℕ). little (part x 2 l)) s in
-      omega arith
-
   -- a word from its back, w of the bytes from the k-th on: one byte more, and all
   module _ (at : ℕ) (h : at + 8 ≤ length l) where
     pub word_turn : (k : ℕ) {w : ℕ} → 0 < k → k ≤ 8 → w ≡ little (part (at + k) (8 - k) l) → w * 256 + get_or l (at + (k - 1)) 0 ≡ little (part (at + (k - 1)) (8 - (k - 1)) l)

@@ -1,6 +1,5 @@
 pub mod Found
 pub mod Grants
 pub mod Tables
-pub mod Writes
 pub mod Plan
 pub mod Outcome

@@ -1,5 +1,6 @@
 -- Kind 3 by what is found in the tables: a plan, and the outcome that it comes to.
 use Rattle.std.specs.Prelude.{ℕ, ◌+◌, ◌≤◌, ◌<◌, Bool, true, not, ◌&&◌, ◌||◌, cond, List, [], ◌∷◌, ◌++◌, eqb, length}
+use Rattle.std.specs.Prelude.{Result, Ok, Err}
 use Rattle.std.proofs.Math.Option.{Option, none, some}
 use Rattle.policy.specs.Lists.{implies, exists, is_some, or_else}
 use Rattle.policy.specs.Contract.{Aid, eq_aid, Tok, eq_tok}
@@ -9,13 +10,17 @@ use Rattle.policy.specs.Lookup.{number_of, service_of, free_service}
 use Rattle.policy.specs.Draft.{Look, put3, with_grants, now_granted, add_service_at, asks_for}
 use Rattle.policy.specs.ShortCheck.{count, short_add_service}
 use Rattle.policy.specs.Judge.{Out, refusal}
+use Rattle.answers.specs.Numbers.{number}
+use Rattle.answers.specs.declared.Refusal.{Refusal}
+use Rattle.answers.specs.declared.Refusal.TheVariants.{NotInstalled, Pointless, NoNumber, Ungranted, WaitingFull}
+use Rattle.geometry.specs.declared.Tokens.{Tokens}
+use Rattle.geometry.specs.Geometry.{tok_of}
 use Rattle.image.specs.Laid.{with_waiting}
 use Rattle.image.specs.Read.{mask_of}
 use Rattle.changes.specs.Masks.{some_listed}
 use Rattle.changes.specs.Places.{opened}
 use Rattle.changes.specs.Joins.{holder, taken_in, TakesIn}
 use Rattle.services.specs.declared.adding.Adding.{Adding}
-use Rattle.services.specs.declared.adding.Adding.TheVariants.{Refuse, Add}
 
 -- a waiting grant is of package j's service with tokens s
 abbrev pub of_service : ℕ → Tok → Waiting → Bool
@@ -80,20 +85,33 @@ module _ (L : Layout) where
   due_mask t s j = mask_of (now_granted L t j s) t.waiting
 
   -- ---- the plan of a record with first AID a
-  module _ (t : Tables) (s : Tok) (l : List Aid) where
-    abbrev pub plan_by : ℕ → ℕ → Look → Adding
-    plan_by j k look = cond look.granted (cond look.waiting_fits (Add j k (ask_mask t s j) (due_mask t s j)) (Refuse 11)) (Refuse 8)
+  module _ (t : Tables) (n : Tokens) (l : List Aid) where
+    abbrev pub plan_by : ℕ → ℕ → Look → Result Adding Refusal
+    plan_by j k look = cond look.granted
+        (cond look.waiting_fits
+        (Ok (record {
+          service = record { provider = j; number = k; tokens = n };
+          met = ask_mask t (tok_of n) j;
+          due = due_mask t (tok_of n) j;
+        }))
+        (Err WaitingFull)) (Err Ungranted)
 
-    abbrev pub adding_at : ℕ → ℕ → Adding
-    adding_at j k = plan_by j k (short_add_service L t j s l)
+    abbrev pub adding_at : ℕ → ℕ → Result Adding Refusal
+    adding_at j k = plan_by j k (short_add_service L t j (tok_of n) l)
 
-    abbrev pub adding_plan : Aid → Adding
+    abbrev pub adding_plan : Aid → Result Adding Refusal
     adding_plan a =
-        or_else (number_of L t a) (Refuse 5) (λ j. or_else (service_of L t j s) (or_else (free_service L t j) (Refuse 7) (adding_at j))
-        (λ k. Refuse 6))
+        or_else (number_of L t a) (Err NotInstalled)
+        (λ j. or_else (service_of L t j (tok_of n)) (or_else (free_service L t j) (Err NoNumber) (adding_at j)) (λ k. Err Pointless))
 
   -- ---- the outcome of a plan
-  module _ (img : List ℕ) (s : Tok) (l : List Aid) where
-    abbrev pub adding_done : Adding → Out
-    adding_done (Refuse n) = refusal n 255 img
-    adding_done (Add j k met due) = record { answered = 0; second = j; bytes = encode L (add_service_at L (decode L img) j k s l).tables }
+  module _ (img : List ℕ) (l : List Aid) where
+    abbrev pub adding_done : Result Adding Refusal → Out
+    adding_done (Err e) = refusal (number e) 255 img
+    adding_done (Ok p) =
+        let s = p.service in
+        record {
+          answered = 0;
+          second = s.provider;
+          bytes = encode L (add_service_at L (decode L img) s.provider s.number (tok_of s.tokens) l).tables;
+        }

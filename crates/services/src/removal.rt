@@ -6,8 +6,10 @@ ghost use Rattle.policy.specs.Tables.{bit, row_of};
 ghost use Rattle.policy.specs.Lookup.{numbers};
 ghost use Rattle.policy.specs.ShortCheck.{count, short_remove_service};
 ghost use Rattle.policy.specs.Judge.{look_causes};
-ghost use Rattle.policy.specs.Settled.{settled, Gives};
+ghost use Rattle.policy.specs.Settled.{settled};
+ghost use Rattle.answers.specs.Numbers.{answered, Answers};
 ghost use Rattle.geometry.specs.Geometry.{layout_of, tok_of, tables_of};
+ghost use Rattle.image.specs.Image.{lay, tables};
 ghost use Rattle.image.specs.Laid.{Laid};
 ghost use Rattle.image.specs.Wrote.{Wrote};
 ghost use Rattle.changes.specs.Asked.{Asked};
@@ -15,60 +17,49 @@ ghost use Rattle.changes.specs.Left.{behind, RoomBehind, left_one};
 ghost use Rattle.services.specs.Removal.{between as bits_between, left_bit, left_bits, rows_with_bits, RoomWithoutService};
 ghost use Rattle.services.specs.Removal.{lists_without_service};
 
-use changes::Verdict;
+use answers::{Refusal, Verdict};
 use geometry::{Card, Kept, Table, Tokens};
+use image::Image;
 
 // ---- kind 4
 // The bits of a table for the services of package j and package i, which calls or needs them, or has them granted.
-fn between(img: &[u8], c: Card, tb: Table, j: usize, i: usize) -> u16
-    requires laid { Laid (layout_of c) img.now }
-    requires inside { (j < (layout_of c).packages) × (i < (layout_of c).packages) }
-    ensures { result ≡ row_of (layout_of c).services (bits_between tb (tables_of c img.now) j i) }
+fn between(img: Image, tb: Table, j: usize, i: usize) -> u16
+    requires { (j < (lay img).packages) × (i < (lay img).packages) }
+    ensures { result ≡ row_of (lay img.entry).services (bits_between tb (tables img.entry) j i) }
 {
     match tb {
-        Table::Calls => image::read::entry(img, c, tb, i, j),
-        Table::Grants => image::read::entry(img, c, tb, j, i),
-        Table::Needs => image::read::entry(img, c, tb, i, j),
+        Table::Calls | Table::Needs => img.entry(tb, i, j),
+        Table::Grants => img.entry(tb, j, i),
     }
 }
 
 // For how many packages a table has the bit of service k of package j.
-fn holders(img: &[u8], c: Card, tb: Table, j: usize, k: usize) -> usize
-    requires laid { Laid (layout_of c) img.now }
-    requires inside { (j < (layout_of c).packages) × (k < (layout_of c).services) }
-    ensures { result ≡ count (λ i. bits_between tb (tables_of c img.now) j i k) (numbers (layout_of c)) }
+fn holders(img: Image, tb: Table, j: usize, k: usize) -> usize
+    requires { (j < (lay img).packages) × (k < (lay img).services) }
+    ensures { result ≡ count (λ i. bits_between tb (tables img.entry) j i k) (numbers (lay img.entry)) }
 {
-    let size = geometry::packages(c);
-    let mut total: usize = 0;
-    for i in 0..size {
-        let row = between(img, c, tb, j, i);
-        total += bits::has_bit(row, k) as usize;
-    }
-    total
+    (0..geometry::packages(img.card))
+        .map(|i| bits::is_set(between(img, tb, j, i).into(), k) as usize)
+        .sum()
 }
 
 // How many rows list l has when service k of package j has gone: a row for each of its bits is added.
-fn rows_with(img: &[u8], c: Card, l: Kept, tb: Table, j: usize, k: usize) -> usize
-    requires laid { Laid (layout_of c) img.now }
-    requires inside { (j < (layout_of c).packages) × (k < (layout_of c).services) }
-    ensures { result ≡ rows_with_bits (layout_of c) l (tables_of c img.now) tb j k }
+fn rows_with(img: Image, l: Kept, tb: Table, j: usize, k: usize) -> usize
+    requires { (j < (lay img).packages) × (k < (lay img).services) }
+    ensures { result ≡ rows_with_bits (lay img.entry) l (tables img.entry) tb j k }
 {
-    let all = image::lists::count(img, c, l);
-    let more = holders(img, c, tb, j, k);
-    let total = all + more;
-    total
+    img.count(l) + holders(img, tb, j, k)
 }
 
-// The cause from 8 to 11 for which service k of package j does not go; 0 where there is none.
-fn service_cause(img: &[u8], c: Card, j: usize, k: usize) -> u8
-    requires laid { Laid (layout_of c) img.now }
-    requires inside { (j < (layout_of c).packages) × (k < (layout_of c).services) }
-    ensures { result ≡ answer (look_causes (short_remove_service (layout_of c) (tables_of c img.now) j k)) }
+// Refused by a cause from 9 to 11 where service k of package j does not go.
+fn service_cause(img: Image, j: usize, k: usize) -> Result<(), Refusal>
+    requires { (j < (lay img).packages) × (k < (lay img).services) }
+    ensures { answered result ≡ answer (look_causes (short_remove_service (lay img.entry) (tables img.entry) j k)) }
 {
-    let most = geometry::capacity(c);
-    let needed = holders(img, c, Table::Needs, j, k);
-    let unmet = rows_with(img, c, Kept::UnmetCalls, Table::Calls, j, k);
-    let waiting = rows_with(img, c, Kept::WaitingGrants, Table::Grants, j, k);
+    let most = geometry::capacity(img.card);
+    let needed = holders(img, Table::Needs, j, k);
+    let unmet = rows_with(img, Kept::UnmetCalls, Table::Calls, j, k);
+    let waiting = rows_with(img, Kept::WaitingGrants, Table::Grants, j, k);
     changes::left::first_cause(most, needed, unmet, waiting)
 }
 
@@ -83,9 +74,13 @@ fn leave_named(img: &mut [u8], c: Card, l: Kept, m: usize, j: usize, i: usize, r
         (behind l (left_one l (tables_of c img.old) ((tables_of c img.old).aid m) j i (bit row) k)
         (tables_of c img.old)) }
 {
-    let place = image::read::aid_place(img, c, m);
+    let view = Image {
+        bytes: img,
+        card: c,
+    };
+    let place = view.aid_place(m);
     let n = place[0] as usize;
-    changes::left::leave_one(img, c, l, &place[1..n + 1], j, i, row, k);
+    changes::left::leave_one(img, c, l, &place[1..=n], j, i, row, k);
 }
 
 // The row for service k of package j and package i, where the table has the bit: i's call on j, or j's grant to i.
@@ -96,7 +91,11 @@ fn leave_bit(img: &mut [u8], c: Card, l: Kept, tb: Table, j: usize, k: usize, i:
     ensures { Wrote (layout_of c) img.new
         (behind l (left_bit (layout_of c) l (tables_of c img.old) tb j k i) (tables_of c img.old)) }
 {
-    let row = between(img, c, tb, j, i);
+    let view = Image {
+        bytes: img,
+        card: c,
+    };
+    let row = between(view, tb, j, i);
     let named = changes::left::by_list(l, j, i);
     let owner = changes::left::by_list(l, i, j);
     leave_named(img, c, l, named, j, owner, row, k);
@@ -110,8 +109,7 @@ fn leave_bits(img: &mut [u8], c: Card, l: Kept, tb: Table, j: usize, k: usize)
     ensures { Wrote (layout_of c) img.new
         (behind l (left_bits (layout_of c) l (tables_of c img.old) tb j k) (tables_of c img.old)) }
 {
-    let callers = geometry::packages(c);
-    for i in 0..callers {
+    for i in 0..geometry::packages(c) {
         leave_bit(img, c, l, tb, j, k, i);
     }
 }
@@ -128,26 +126,18 @@ fn leave_service(img: &mut [u8], c: Card, j: usize, k: usize)
 }
 
 // Kind 4: the service with these tokens of the package with this AID goes.
-pub fn remove_service(img: &mut [u8], c: Card, aid: &[u8], t: Tokens) -> Verdict
-    requires { Asked (layout_of c) img.old aid.now (remove_service (tok_of t)) }
-    ensures { Gives (settled (layout_of c) img.old aid.now (remove_service (tok_of t)))
-        result.number result.second img.new }
+pub fn remove_service(img: &mut [u8], c: Card, own: &[u8], t: Tokens) -> Verdict
+    requires { Asked (layout_of c) img.old own.now (remove_service (tok_of t)) }
+    ensures { Answers (settled (layout_of c) img.old own.now (remove_service (tok_of t))) result img.new }
 {
-    let j = image::read::find_package(img, c, aid);
-    let most = geometry::packages(c);
-    if j >= most {
-        return changes::refused(5);
-    }
-    let k = image::read::find_service(img, c, j, t);
-    let size = geometry::services(c);
-    if k >= size {
-        return changes::refused(6);
-    }
-    let cause = service_cause(img, c, j, k);
-    if cause != 0 {
-        return changes::refused(cause);
-    }
+    let view = Image {
+        bytes: img,
+        card: c,
+    };
+    let j = view.find_package(own).ok_or(Refusal::NotInstalled)?;
+    let k = view.find_service(j, t).ok_or(Refusal::Pointless)?;
+    service_cause(view, j, k)?;
     leave_service(img, c, j, k);
     changes::service::clear_service(img, c, j, k);
-    changes::accepted(j)
+    Ok(j as u8)
 }

@@ -6,9 +6,11 @@ ghost use Rattle.std.specs.Prelude.{◌≡◌, true, ◌+◌, ◌^◌, ◌≤◌
 ghost use Rattle.lines.specs.Lines.{record_line, Printed};
 ghost use Rattle.lines.specs.Session.{judging, turn as turn_of};
 ghost use Rattle.lines.specs.Frames.{longest};
+ghost use Rattle.answers.specs.Numbers.{answered, second_or};
 ghost use Rattle.policy.specs.Layout.{small, size};
 ghost use Rattle.session.specs.Turned.{Turned, last_ordinal, Ready, started, took_in, gave_out, stopped, Advanced, Ran};
 
+use answers::Verdict;
 use geometry::Card;
 use lines::Held;
 
@@ -16,6 +18,16 @@ use lines::Held;
 const STDIN: i32 = 0;
 
 const STDOUT: i32 = 1;
+
+// A verdict's two numbers.
+fn numbers(v: Verdict) -> (u8, u8)
+    ensures { (result.0 ≡ answered v) × (result.1 ≡ second_or 255 v) }
+{
+    match v {
+        Ok(n) => (0, n),
+        Err(e) => (e.into(), 255),
+    }
+}
 
 // One record: judged on the image, and its line put into text.
 fn answer_record(image: &mut [u8], rec: &[u8], ordinal: u64, text: &mut [u8; 40]) -> usize
@@ -28,7 +40,8 @@ fn answer_record(image: &mut [u8], rec: &[u8], ordinal: u64, text: &mut [u8; 40]
     ensures image_after { image.new ≡ (judging image.old rec.now).2 }
 {
     let v = judging::judge(image, Card::Small, rec);
-    lines::record_line(text, ordinal, rec[3], v.number, v.second)
+    let (answer, second) = numbers(v);
+    lines::record_line(text, ordinal, rec[3], answer, second)
 }
 
 // What a turn calls for.
@@ -159,8 +172,9 @@ fn run(image: &mut [u8], buf: &mut [u8]) -> Progress
     requires buf_size { length buf.old ≡ longest }
     ensures { Ran result image.new buf.new }
 {
-    judging::empty::write_empty(image, Card::Small);
+    let _ = judging::empty::write_empty(image, Card::Small);
     let mut p = start();
+    // Stays: each turn says whether another follows.
     while p.going {
         p = advance(image, buf, p);
     }

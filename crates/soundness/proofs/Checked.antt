@@ -15,7 +15,7 @@ use Rattle.policy.specs.Contract.{Aid, valid_aid}
 use Rattle.policy.specs.Layout.{Layout, size, aid_size, waiting_size}
 use Rattle.policy.specs.Records.{ValidTok}
 use Rattle.policy.specs.Tables.{Tables, Unmet, Waiting, no_tok, bit, read_aid, write_aid, read_tok, write_tok, read_unmet, write_unmet, read_waiting, write_waiting, read_list, write_list, decode}
-use Rattle.policy.proofs.Sets.{and_l, and_r, and_i, or_e, implies_e, not_e, test, false_T, map_in, upto_in, once_map, once_upto, below_in}
+use Rattle.policy.proofs.Sets.{and_l, and_r, and_i, implies_e, not_e, test, false_T, map_in, upto_in, once_map, once_upto, below_in}
 use Rattle.policy.proofs.Equal.{eqb_of}
 use Rattle.policy.proofs.Pieces.{in_or_off, row_ends}
 use Rattle.policy.proofs.Formed.{Names, Bits, UnmetRows, WaitingRows, grant_bit, Formed, Lawful, Fitting, Ruled}
@@ -26,6 +26,8 @@ use Rattle.geometry.proofs.Bounds.{tokens_in_row}
 use Rattle.geometry.specs.declared.Table.TheVariants.{Calls, Grants, Needs}
 use Rattle.geometry.specs.declared.Kept.{Kept}
 use Rattle.geometry.specs.declared.Kept.TheVariants.{UnmetCalls, WaitingGrants}
+use Rattle.std.specs.Prelude.{Option, Some}
+use Rattle.std.specs.Option.{is_none}
 use Rattle.soundness.specs.Check.{byte_at, part_at, zeros_at, same_at, aid_ok, within, row_at, used_row, prov_row, number_at, is_tok, new_tok, tok_ok, toks_ok, method_ok, methods_ok, new_aid, blank_ok, package_ok, packages_ok}
 use Rattle.soundness.specs.Check.{rows_fit, line_ok, lines_ok, is_used, server, unserved, token_row_ok, is_provided, number_row_ok, row_size, place_at, count_of, row_ok, new_row, rows_differ, place_ok, list_ok}
 use Rattle.rows.proofs.Parts.{part_length}
@@ -35,7 +37,7 @@ use Rattle.rows.proofs.Words.{Bytes}
 use Rattle.soundness.proofs.Encoded.{tok_back, unmet_back, grant_back, Numbered, list_back, length_rows}
 use Rattle.soundness.proofs.Whole.{list_end_lem, Full, Parts}
 use Rattle.soundness.proofs.Tests.{row_low}
-use Rattle.soundness.proofs.Lookup.{cond_then, cond_else, tok_bytes_lem, method_is, past, unmet_at_lem, grant_at_lem, number_same, used_is, prov_is, calls_is, grants_is, needs_is}
+use Rattle.soundness.proofs.Lookup.{found_is, cond_then, cond_else, tok_bytes_lem, method_is, past, unmet_at_lem, grant_at_lem, number_same, used_is, prov_is, calls_is, grants_is, needs_is}
 use Rattle.soundness.proofs.Lookup.{found_used, number_with_lem}
 
 -- conjunctions as they stand in the tests
@@ -132,14 +134,14 @@ module _ (L : Layout) (lf : Full L) (l : List ℕ) (bytes : Bytes l) (len : leng
         go (inl h) = aid_read L l i h ∙ ap read_aid (blank_is i h f)
         go (inr h) = aid_off L l i h
 
-    aid_first : (i : ℕ) → T (t.used i) → number_at L l (aid_at L i) ≡ i
-    aid_first i u = eqb→eq (number_at L l (aid_at L i)) i (package_used i u).1
+    aid_first : (i : ℕ) → T (t.used i) → number_at L l (aid_at L i) ≡ Some i
+    aid_first i u = found_is (number_at L l (aid_at L i)) i (package_used i u).1
 
     aid_inj : (i j : ℕ) → T (t.used i) → T (t.used j) → t.aid i ≡ t.aid j → i ≡ j
     aid_inj i j u v e =
         let p = r.used_in i u in
         let q = r.used_in j v in
-        sym (aid_first i u) ∙ number_same L l (aid_at L i) (aid_at L j) (filled_inj (filled i p) (filled j q) (sym (aid_read L l i p) ∙ e ∙ aid_read L l j q)) ∙ aid_first j v
+        let s : Some i ≡ Some j = (sym (aid_first i u) ∙ number_same L l (aid_at L i) (aid_at L j) (filled_inj (filled i p) (filled j q) (sym (aid_read L l i p) ∙ e ∙ aid_read L l j q)) ∙ aid_first j v) in cc
 
     tok_ok_lem : (j k : ℕ) → T (t.used j) → k < m → T (tok_ok L l j k)
     unfolding toks_ok
@@ -348,7 +350,7 @@ module _ (L : Layout) (lf : Full L) (l : List ℕ) (bytes : Bytes l) (len : leng
       abbrev toks : ℕ
       toks = at + tokens_in k
 
-      abbrev number : ℕ
+      abbrev number : Option ℕ
       number = number_at L l at
 
       row_four : T (is_used L l own) × T (aid_ok l at) × T (method_ok L l toks) × T (unserved L l k toks own number)
@@ -372,12 +374,8 @@ module _ (L : Layout) (lf : Full L) (l : List ℕ) (bytes : Bytes l) (len : leng
         free : T (Free j)
         free = go number (found_used L lf l bytes len na (filled packages) at row_filled.0 row_filled.1 j u e) row_four.3
           where
-            go : (c : ℕ) → c ≡ j → T (unserved L l k toks own c) → T (Free j)
-            go c q h = pick (or_e (eqb c n) (Free c) h)
-              where
-                pick : T (eqb c n) ⊎ T (Free c) → T (Free j)
-                pick (inl z) = let a = eqb→eq c n z in let b = r.used_in j u in absurd (omega arith)
-                pick (inr z) = subst (λ (x : ℕ). T (Free x)) q z
+            go : (o : Option ℕ) → o ≡ Some j → T (unserved L l k toks own o) → T (Free j)
+            go o q h = subst (λ (x : Option ℕ). T (unserved L l k toks own x)) q h
 
         row_other : j ≡ own → ⊥
         row_other q = not_e (eqb j own) (and_l (not (eqb j own)) (new_tok L l m toks (server k j own)) free) (eqb_of q)
@@ -399,9 +397,9 @@ module _ (L : Layout) (lf : Full L) (l : List ℕ) (bytes : Bytes l) (len : leng
       abbrev service : ℕ
       service = byte_at l (at + 18)
 
-      row_three : T (is_provided L l callee service) × T (aid_ok l at) × T (eqb (number_at L l at) n)
+      row_three : T (is_provided L l callee service) × T (aid_ok l at) × T (is_none (number_at L l at))
       unfolding number_row_ok
-      row_three = three (is_provided L l callee service) (aid_ok l at) (eqb (number_at L l at) n) ok
+      row_three = three (is_provided L l callee service) (aid_ok l at) (is_none (number_at L l at)) ok
 
       number_filled : Filled (part_at l at 17) × T (valid_aid (read_aid (part_at l at 17)))
       number_filled = ok_filled l at (omega arith) row_three.1
@@ -414,9 +412,7 @@ module _ (L : Layout) (lf : Full L) (l : List ℕ) (bytes : Bytes l) (len : leng
       row_absent : (j : ℕ) → T (t.used j) → t.aid j ≡ read_aid (part_at l at 17) → ⊥
       row_absent j u e =
           let a = found_used L lf l bytes len na (filled packages) at number_filled.0 number_filled.1 j u e in
-          let b = eqb→eq (number_at L l at) n row_three.2 in
-          let c = r.used_in j u in
-          absurd (omega arith)
+          subst (λ (o : Option ℕ). T (is_none o)) a row_three.2
 
     -- the AID's place of a row that passes is filled
     fill : (early : Bool) (k : Kept) (at : ℕ) → at + row_size early k ≤ length l → T (row_ok L l early k at) → Filled (part_at l at 17)

@@ -9,3 +9,4 @@ pub mod Passes
 pub mod Agree
 pub mod Tests
 pub mod Marks
+pub mod Chains

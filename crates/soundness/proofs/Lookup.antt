@@ -5,9 +5,11 @@ use native.Mathlib.Nat.{add-zero}
 use mathlib.Core.Path.{◌≡◌, refl, sym, ap, ◌∙◌, subst}
 use mathlib.Core.Logic.{◌⊎◌, inl, inr}
 use mathlib.Core.Bool.{Bool, true, false, ◌&&◌, cond}
-use mathlib.Core.List.{List, []}
-use mathlib.Core.Option.{Option, none, some}
-use lib.Dec.{T, ltb, lt→ltb}
+use mathlib.Core.List.{List, [], ◌∷◌}
+use mathlib.Core.Option.{Option as Option', none, some}
+use Rattle.std.specs.Prelude.{Option, Some, None}
+use Rattle.std.specs.List.{find}
+use lib.Dec.{T, eqb→eq, ltb, lt→ltb}
 use lib.ListN.{length, get_or, drop}
 use lib.Seq.{take-take, get_or-drop}
 use Rattle.policy.specs.Lists.{first, upto, or_else, eq_bytes}
@@ -22,7 +24,7 @@ use Rattle.policy.proofs.Pieces.{row_ends}
 use Rattle.geometry.specs.Geometry.{aid_at, prov_at, entry_at}
 use Rattle.geometry.specs.declared.Table.TheVariants.{Calls, Grants, Needs}
 use Rattle.geometry.specs.declared.Kept.TheVariants.{WaitingGrants}
-use Rattle.soundness.specs.Check.{byte_at, part_at, row_at, used_row, prov_row, same_at, row_size, is_aid, number_at, method_ok}
+use Rattle.soundness.specs.Check.{byte_at, part_at, row_at, used_row, prov_row, same_at, row_size, is_found, is_aid, number_at, method_ok}
 use Rattle.rows.proofs.Parts.{part_byte, part_length, part_rest}
 use Rattle.soundness.proofs.Parts.{same_part, part_same, Filled, filled_inj}
 use Rattle.soundness.proofs.Decoded.{used_read, aid_read, prov_read, calls_read, grants_read, needs_read}
@@ -88,26 +90,44 @@ module _ (l : List ℕ) (at : ℕ) where
     tok = toks (past l at 19 0 (omega arith) i) (past l at 19 1 (omega arith) i);
   }
 
+-- ---- the library's option and search, by those of policy
+abbrev pub rust_of : {A : Type 0} → Option' A → Option A
+rust_of none = None
+rust_of (some x) = Some x
+
+pub find_first : {A : Type 0} (f : A → Bool) (l : List A) → find f l ≡ rust_of (first f l)
+find_first f [] = refl
+find_first f (x ∷ l) = go (f x) (find_first f l)
+  where
+    go : (b : Bool) → find f l ≡ rust_of (first f l) → cond b (Some x) (find f l) ≡ rust_of (cond b (some x) (first f l))
+    go true e = refl
+    go false e = e
+
+pub found_is : (o : Option ℕ) (n : ℕ) → T (is_found o n) → o ≡ Some n
+found_is None n t = absurd t
+found_is (Some m) n t = ap Some (eqb→eq m n t)
+
 -- ---- the lowest package with an AID
 module _ (L : Layout) (l : List ℕ) (at : ℕ) where
   abbrev packages : ℕ
   packages = L.packages
 
-  abbrev pub NumberIs : ℕ → Type 0
-  NumberIs m = ((m ≡ packages) × ((k : ℕ) → k < packages → T (is_aid L l at k) → ⊥)) ⊎ ((m < packages) × T (is_aid L l at m))
+  abbrev pub NumberIs : Option ℕ → Type 0
+  NumberIs None = (k : ℕ) → k < packages → T (is_aid L l at k) → ⊥
+  NumberIs (Some m) = (m < packages) × T (is_aid L l at m)
 
   pub number_is : NumberIs (number_at L l at)
   unfolding number_at
-  number_is = go (first (is_aid L l at) (upto packages)) (found (is_aid L l at) (upto packages))
+  number_is = subst NumberIs (sym (find_first (is_aid L l at) (upto packages))) (go (first (is_aid L l at) (upto packages)) (found (is_aid L l at) (upto packages)))
     where
-      go : (o : Option ℕ) → Found (is_aid L l at) (upto packages) o → NumberIs (or_else o packages (λ m. m))
-      go none h = inl (refl, λ k p t. h k (in_upto packages k p) t)
-      go (some m) h = inr (upto_in packages h.0, h.1)
+      go : (o : Option' ℕ) → Found (is_aid L l at) (upto packages) o → NumberIs (rust_of o)
+      go none h = λ k p t. h k (in_upto packages k p) t
+      go (some m) h = (upto_in packages h.0, h.1)
 
   -- it is the same for the same bytes
   pub number_same : (b : ℕ) → part_at l at aid_size ≡ part_at l b aid_size → number_at L l at ≡ number_at L l b
   unfolding number_at same_at
-  number_same b e = ap (λ (p : List ℕ). or_else (first (λ m. eq_bytes p (part_at l (aid_at L m) aid_size)) (upto packages)) packages (λ m. m)) e
+  number_same b e = ap (λ (p : List ℕ). find (λ m. eq_bytes p (part_at l (aid_at L m) aid_size)) (upto packages)) e
 
 -- ---- bits and tokens
 module _ (L : Layout) (lf : Full L) (l : List ℕ) (bytes : Bytes l) (len : length l ≡ size L) where
@@ -164,12 +184,12 @@ module _ (L : Layout) (lf : Full L) (l : List ℕ) (bytes : Bytes l) (len : leng
                 absurd (subst (λ (z : Aid). T (valid_aid z)) none valid)
 
         -- a used package with this AID is the one found; and none is found where none has it
-        pub found_used : (i : ℕ) → T (t.used i) → t.aid i ≡ read_aid (part_at l at aid_size) → number_at L l at ≡ i
+        pub found_used : (i : ℕ) → T (t.used i) → t.aid i ≡ read_aid (part_at l at aid_size) → number_at L l at ≡ Some i
         found_used i u e = go (number_at L l at) (number_is L l at)
           where
-            go : (k : ℕ) → NumberIs L l at k → k ≡ i
-            go k (inl h) = absurd (h.1 i (names.used_lt i u) (same_aid i (names.used_lt i u) e))
-            go k (inr h) = names.aid_inj k i (same_used k h.0 h.1) u (aid_same k h.0 h.1 ∙ sym e)
+            go : (o : Option ℕ) → NumberIs L l at o → o ≡ Some i
+            go None h = absurd (h i (names.used_lt i u) (same_aid i (names.used_lt i u) e))
+            go (Some k) h = ap Some (names.aid_inj k i (same_used k h.0 h.1) u (aid_same k h.0 h.1 ∙ sym e))
 
 -- ---- the number that is written for a service of package j is the service's, since tokens of one package differ
 module _ (L : Layout) (t : Tables) (names : Names L t.used t.aid t.tok t.provides) where
@@ -179,6 +199,6 @@ module _ (L : Layout) (t : Tables) (names : Names L t.used t.aid t.tok t.provide
       f : ℕ → Bool
       f q = t.provides j q && eq_tok (t.tok j q) s
 
-      go : (o : Option ℕ) → Found (λ q. t.provides j q && eq_tok (t.tok j q) s) (upto L.services) o → or_else o 0 (λ q. q) ≡ k
+      go : (o : Option' ℕ) → Found (λ q. t.provides j q && eq_tok (t.tok j q) s) (upto L.services) o → or_else o 0 (λ q. q) ≡ k
       go none h = absurd (h k (in_upto L.services k (names.prov_lt j k p)) (and_i (t.provides j k) (eq_tok (t.tok j k) s) p (eq_tok_of e)))
       go (some q) h = names.tok_inj j q k (and_l (t.provides j q) (eq_tok (t.tok j q) s) h.1) p (eq_tok→ (t.tok j q) s (and_r (t.provides j q) (eq_tok (t.tok j q) s) h.1) ∙ sym e)

@@ -14,7 +14,7 @@ use Rattle.policy.specs.Contract.{Aid, Tok, valid_aid}
 use Rattle.policy.specs.Layout.{Layout, size, aid_size, unmet_size}
 use Rattle.policy.specs.Records.{ValidTok}
 use Rattle.policy.specs.Tables.{Tables, Unmet, Waiting, no_tok, bit, read_aid, write_aid, read_tok, write_tok, read_unmet, number_with, read_waiting, read_list, write_list, decode}
-use Rattle.policy.proofs.Sets.{T_false, and_l, and_r, and_i, or_l, or_r, implies_i, not_i, test, false_T, in_map, in_upto, in_below}
+use Rattle.policy.proofs.Sets.{T_false, and_l, and_r, and_i, implies_i, not_i, test, false_T, in_map, in_upto, in_below}
 use Rattle.policy.proofs.Equal.{eqb_of}
 use Rattle.policy.proofs.Pieces.{in_or_off, length_aid, valid_short, length_unmet, length_waiting, row_ends}
 use Rattle.policy.proofs.Formed.{grant_bit, Formed, Lawful, Fitting, Ruled}
@@ -25,7 +25,9 @@ use Rattle.geometry.specs.Geometry.{aid_at, tok_at, entry_at, list_at, number_in
 use Rattle.geometry.specs.declared.Table.TheVariants.{Calls, Grants, Needs}
 use Rattle.geometry.specs.declared.Kept.{Kept}
 use Rattle.geometry.specs.declared.Kept.TheVariants.{UnmetCalls, WaitingGrants}
-use Rattle.soundness.specs.Check.{byte_at, part_at, zeros_at, same_at, aid_ok, within, row_at, used_row, prov_row, number_at, is_tok, new_tok, tok_ok, toks_ok, method_ok, methods_ok, new_aid, blank_ok, package_ok, packages_ok}
+use Rattle.std.specs.Prelude.{Option, Some, None}
+use Rattle.std.specs.Option.{is_none}
+use Rattle.soundness.specs.Check.{is_found, byte_at, part_at, zeros_at, same_at, aid_ok, within, row_at, used_row, prov_row, number_at, is_tok, new_tok, tok_ok, toks_ok, method_ok, methods_ok, new_aid, blank_ok, package_ok, packages_ok}
 use Rattle.soundness.specs.Check.{rows_fit, line_ok, lines_ok, is_used, is_aid, server, unserved, token_row_ok, is_provided, number_row_ok, row_size, place_at, count_of, row_ok, new_row, rows_differ, place_ok, list_ok}
 use Rattle.soundness.proofs.Parts.{same_part, byte_zeros, part_zeros, Filled, filled_ok, blank_zeros}
 use Rattle.soundness.proofs.Decoded.{used_read, aid_read, tok_read, list_read}
@@ -63,7 +65,7 @@ module _ (L : Layout) (lf : Full L) (l : List ℕ) (bytes : Bytes l) (len : leng
   new_aid_lem : (i : ℕ) → i < n → T (t.used i) → T (new_aid L l i)
   new_aid_lem i h u =
       let v : T (valid_aid (read_aid (place i))) = subst (λ (z : Aid). T (valid_aid z)) (aid_read L l i h) (fo.names.aid_valid i u) in
-      eqb_of (found_used L lf l bytes len fo.names filled (aid_at L i) (filled i h) v i u (aid_read L l i h))
+      subst (λ (o : Option ℕ). T (is_found o i)) (sym (found_used L lf l bytes len fo.names filled (aid_at L i) (filled i h) v i u (aid_read L l i h))) (eqb_of refl)
 
   -- a service with the tokens at at, where its package provides it
   tok_same : (at j k : ℕ) → j < n → k < m → T (is_tok L l at j k) → T (t.provides j k) × (t.tok j k ≡ read_tok (part_at l at 2))
@@ -293,14 +295,14 @@ module _ (L : Layout) (lf : Full L) (l : List ℕ) (bytes : Bytes l) (len : leng
           served_in UnmetCalls c own h i = h
           served_in WaitingGrants c own h i = i
 
-          go : (c : ℕ) → NumberIs L l at c → T (unserved L l k toks own c)
-          go c (inl b) = or_l (eqb c n) (not (eqb c own) && new_tok L l m toks (server k c own)) (eqb_of b.0)
-          go c (inr b) =
+          go : (o : Option ℕ) → NumberIs L l at o → T (unserved L l k toks own o)
+          go None b = tt
+          go (Some c) b =
               let j = server k c own in
-              or_r (eqb c n) (not (eqb c own) && new_tok L l m toks j) (and_i (not (eqb c own)) (new_tok L l m toks j)
+              and_i (not (eqb c own)) (new_tok L l m toks j)
               (not_i (eqb c own) (λ s. other (sym (aid_same L lf l bytes len fo.names filled at fill c b.0 b.1) ∙ ap t.aid (eqb→eq c own s))))
               (in_below (λ q. not (is_tok L l toks j q)) m (λ q d. not_i (is_tok L l toks j q) (λ s.
-              let o = tok_same toks j q (served_in k c own b.0 (fo.names.used_lt own used)) d s in off c q b.0 b.1 o.0 o.1))))
+              let o = tok_same toks j q (served_in k c own b.0 (fo.names.used_lt own used)) d s in off c q b.0 b.1 o.0 o.1)))
 
       token_row : T (token_row_ok L l k at)
       unfolding token_row_ok
@@ -348,12 +350,12 @@ module _ (L : Layout) (lf : Full L) (l : List ℕ) (bytes : Bytes l) (len : leng
               sym (ap (λ (z : List ℕ). get_or z 1 0) (drop_at (write_aid caller) _ 17 (length_aid caller (valid_short caller valid))))
               ∙ ap (λ (z : List ℕ). get_or (drop 17 z) 1 0) back ∙ past l at 19 1 (omega arith)
 
-      absent : T (eqb (number_at L l at) n)
+      absent : T (is_none (number_at L l at))
       absent = go (number_at L l at) (number_is L l at)
         where
-          go : (c : ℕ) → NumberIs L l at c → T (eqb c n)
-          go c (inl b) = eqb_of b.0
-          go c (inr b) = absurd (fo.waiting.wait_off (grant_row_lem false) has c k (same_used L lf l bytes len fo.names filled at fill valid c b.0 b.1)
+          go : (o : Option ℕ) → NumberIs L l at o → T (is_none o)
+          go None b = tt
+          go (Some c) b = absurd (fo.waiting.wait_off (grant_row_lem false) has c k (same_used L lf l bytes len fo.names filled at fill valid c b.0 b.1)
               (aid_same L lf l bytes len fo.names filled at fill c b.0 b.1) s e)
 
       number_row : T (number_row_ok L l at)
@@ -361,7 +363,7 @@ module _ (L : Layout) (lf : Full L) (l : List ℕ) (bytes : Bytes l) (len : leng
       number_row =
           let h = fo.names.used_lt callee (fo.names.prov_used callee service provided) in
           let c = fo.names.prov_lt callee service provided in
-          three_i (is_provided L l callee service) (aid_ok l at) (eqb (number_at L l at) n)
+          three_i (is_provided L l callee service) (aid_ok l at) (is_none (number_at L l at))
           (three_i (ltb callee n) (ltb service m) (bit (prov_row L l callee) service)
           (lt→ltb callee n h) (lt→ltb service m c) (subst T (prov_is L lf l bytes len callee service h c) provided)) ok absent
 

@@ -2,31 +2,29 @@
 use Prim.Native.Nat.{ℕ, ◌+◌, ◌*◌, ◌-◌, ◌^◌, ◌≤◌, ◌<◌}
 use native.Mathlib.Omega.{arith}
 use native.Mathlib.Nat.{add-sub_cancel_left, add-sub_of_le, add-mul, mul-le-mul_right}
-use native.Mathlib.Numerals.{add-one}
-use mathlib.Core.Path.{◌≡◌, refl, sym, ap, ap₂, ◌∙◌, subst}
-use mathlib.Core.Logic.{inl, inr}
-use mathlib.Core.Bool.{Bool, true, false, not, ◌&&◌, ◌||◌, cond, and-true}
-use mathlib.Core.List.{List, [], ◌∷◌, ◌++◌}
-use mathlib.Core.Option.{Option}
+use mathlib.Core.Path.{◌≡◌, refl, sym, ap, ◌∙◌, subst}
+use mathlib.Core.Bool.{Bool, true, false, not, ◌&&◌, ◌||◌, cond, and-true, and_assoc}
+use mathlib.Core.List.{List, [], ◌∷◌}
+use Rattle.std.specs.Prelude.{Option, Some, None, IfSome}
 use lib.Bits.{bit_or, or_add_and, and_le_l, and_le_r}
 use lib.Dec.{T, eqb, eqb→eq, leb, ltb, ltb→lt}
 use lib.ListN.{length, get_or, take, drop}
-use lib.Seq.{take-suc, take_all}
+use Rattle.std.specs.List.{fold}
 use borrow.Author.Tests.{not-true, not-false, lt-ltb, le-ltb, le-leb, lt-leb, eq-eqb, ne_eqb}
-use Rattle.policy.specs.Lists.{every, upto, or_else, eq_bytes}
+use Rattle.policy.specs.Lists.{every, upto, eq_bytes}
 use Rattle.policy.specs.Layout.{Layout, narrow, waiting_at, size}
 use Rattle.policy.specs.Tables.{bit}
 use Rattle.policy.proofs.Sets.{T_eq, false_T, and_l, and_r, and_i}
 use Rattle.policy.proofs.Equal.{eqb_of}
 use Rattle.policy.proofs.Pieces.{row_ends}
-use Rattle.bits.proofs.Loops.{every_append, early, first_ext}
+use Rattle.bits.proofs.Loops.{early}
 use Rattle.geometry.specs.declared.Card.{Card}
 use Rattle.geometry.specs.declared.Card.TheVariants.{Small, Large}
-use Rattle.geometry.specs.Geometry.{layout_of, aid_at, tok_at, list_at, row_size as row_size_of, number_in, tokens_in}
+use Rattle.geometry.specs.Geometry.{layout_of, tok_at, list_at, row_size as row_size_of, number_in as number_place, tokens_in}
 use Rattle.geometry.proofs.Bounds.{early as early_card, limits, row_wide, front}
 use Rattle.geometry.specs.declared.Kept.{Kept}
 use Rattle.geometry.specs.declared.Kept.TheVariants.{UnmetCalls, WaitingGrants}
-use Rattle.soundness.specs.Check.{is_zero, zeros_at, same_at, row_size, list_end, numbered, used_row, lowest_aid, is_aid, number_at, is_used}
+use Rattle.soundness.specs.Check.{is_zero, zeros_at, row_size, list_end, numbered, used_row, number_at, is_used}
 use Rattle.soundness.proofs.Lookup.{number_is, NumberIs}
 
 -- ---- what a branch tells of r, which a call ensures to be b
@@ -96,7 +94,7 @@ eqb_fell a b h = sym (ne_eqb a b h)
 pub eqb_is : {r p : ℕ} (m n : ℕ) → r ≡ m → p ≡ n → eqb r p ≡ eqb m n
 eqb_is m n e q = λ i. eqb (e i) (q i)
 
--- ---- a loop over a list's elements that gathers its elements in one number: no bit is set where all are zero
+-- ---- a fold that gathers a list's elements in one number: no bit is set where all are zero
 or_zero : (a b : ℕ) → eqb (bit_or a b) 0 ≡ eqb a 0 && eqb b 0
 or_zero a b = T_eq (eqb (bit_or a b) 0) (eqb a 0 && eqb b 0)
     (λ t. let h = eqb→eq (bit_or a b) 0 t in
@@ -106,40 +104,19 @@ or_zero a b = T_eq (eqb (bit_or a b) 0) (eqb a 0 && eqb b 0)
     let i = eqb→eq b 0 (and_r (eqb a 0) (eqb b 0) t) in
     let p : bit_or a b ≡ 0 = omega (arith, or_add_and a b) in eqb_of p)
 
-module _ (f : ℕ → Bool) (l : List ℕ) where
-  every_snoc : (p : List ℕ) (x : ℕ) → every f (p ++ (x ∷ [])) ≡ every f p && f x
-  every_snoc p x = every_append f p (x ∷ []) ∙ ap (λ (b : Bool). every f p && b) (and-true (f x))
+or_fold : (l : List ℕ) (a : ℕ) → eqb (fold bit_or a l) 0 ≡ eqb a 0 && every is_zero l
+or_fold [] a = sym (and-true (eqb a 0))
+or_fold (x ∷ l) a = or_fold l (bit_or a x) ∙ ap (λ (b : Bool). b && every is_zero l) (or_zero a x) ∙ and_assoc (eqb a 0) (eqb x 0) (every is_zero l)
 
-  each_turn : (k : ℕ) {b r : Bool} → b ≡ every f (take k l) → k < length l → r ≡ f (get_or l k 0) → b && r ≡ every f (take (k + 1) l)
-  each_turn k p h q = rw (add-one, take-suc l k 0) (ap₂ ◌&&◌ p q ∙ sym (every_snoc (take k l) (get_or l k 0)))
-
-  pub each_end : (k : ℕ) {b : Bool} → b ≡ every f (take k l) → length l ≤ k → b ≡ every f l
-  each_end k p h = p ∙ ap (every f) (take_all k l h)
-
-pub or_turn : (l : List ℕ) (k a : ℕ) → eqb a 0 ≡ every is_zero (take k l) → k < length l → eqb (bit_or a (get_or l k 0)) 0 ≡ every is_zero (take (k + 1) l)
-or_turn l k a p h = or_zero a (get_or l k 0) ∙ each_turn is_zero l k p h refl
-
--- the part from at to at + n
-pub zeros_of : (l : List ℕ) (at n : ℕ) {r : Bool} → r ≡ every is_zero (take (at + n - at) (drop at l)) → r ≡ zeros_at l at n
+-- the part from at to at + n: the code's fold, and its `==` of slices
+pub zeros_of : (l : List ℕ) (at n : ℕ) {r : ℕ} → r ≡ fold bit_or 0 (take (at + n - at) (drop at l)) → eqb r 0 ≡ zeros_at l at n
 unfolding zeros_at
-zeros_of l at n e = rw (add-sub_cancel_left at n) at e
+zeros_of l at n e = rw (add-sub_cancel_left at n) at (ap (λ (z : ℕ). eqb z 0) e ∙ or_fold (take (at + n - at) (drop at l)) 0)
 
 -- ---- the AIDs of the packages stand one after another
 pub one_package : (c : Card) → 0 < (layout_of c).packages
 one_package Small = omega arith
 one_package Large = omega arith
-
-pub aids_len : (c : Card) (n m a : ℕ) → waiting_at (layout_of c) ≤ n → a ≡ aid_at (layout_of c) 0 → m ≡ (layout_of c).packages → (a + m * 17 ≤ n) × (m ≤ 16)
-aids_len c n m a e p q = (omega arith, omega (arith, limits c))
-
-pub number_from_lem : (c : Card) (l : List ℕ) (at : ℕ) {a m r : ℕ} → a ≡ aid_at (layout_of c) 0 → m ≡ (layout_of c).packages → r ≡ lowest_aid l a m at → r ≡ number_at (layout_of c) l at
-unfolding number_at
-number_from_lem c l at p q e =
-    e ∙ (λ i. lowest_aid l (p i) (q i) at)
-    ∙ ap (λ (o : Option ℕ). or_else o (layout_of c).packages (λ m. m)) (first_ext (λ m. same_at l at (aid_at (layout_of c) 0 + m * 17) 17) (is_aid (layout_of c) l at) (upto (layout_of c).packages) (λ m _. ap (λ (x : ℕ). same_at l at x 17) (place m)))
-  where
-    place : (m : ℕ) → aid_at (layout_of c) 0 + m * 17 ≡ aid_at (layout_of c) m
-    place m = omega arith
 
 -- ---- the tokens of a package
 pub one_service : (c : Card) → 0 < (layout_of c).services
@@ -185,7 +162,7 @@ module _ (c : Card) {r : Bool} {w : ℕ} where
 pub aid_len : (early : Bool) (k : Kept) (at n : ℕ) → at + row_size early k ≤ n → at + 17 ≤ n
 aid_len early k at n h = omega (arith, row_low early k)
 
-pub number_len : (early : Bool) (k : Kept) (at n a : ℕ) → at + row_size early k ≤ n → a ≡ number_in k → at + a < n
+pub number_len : (early : Bool) (k : Kept) (at n a : ℕ) → at + row_size early k ≤ n → a ≡ number_place k → at + a < n
 number_len early UnmetCalls at n a h e = omega arith
 number_len early WaitingGrants at n a h e = omega (arith, row_low early WaitingGrants)
 
@@ -232,12 +209,12 @@ end_is c e = rw (early_card c) at e
 pub used_in : (L : Layout) (l : List ℕ) (n : ℕ) {r : Bool} → r ≡ is_used L l n → not r ≡ false → n < L.packages
 used_in L l n e h = ltb→lt n L.packages (and_l (ltb n L.packages) (bit (used_row L l) n) (subst T (held e h) tt))
 
-pub number_in_lem : (c : Card) (l : List ℕ) (at : ℕ) {m : ℕ} → m ≡ number_at (layout_of c) l at → m ≤ (layout_of c).packages
-number_in_lem c l at {m} e = go (number_is (layout_of c) l at)
+pub number_in : (c : Card) (l : List ℕ) (at : ℕ) {o : Option ℕ} → o ≡ number_at (layout_of c) l at → IfSome o (λ m. m < (layout_of c).packages)
+number_in c l at {o} e = go o (subst (NumberIs (layout_of c) l at) (sym e) (number_is (layout_of c) l at))
   where
-    go : NumberIs (layout_of c) l at (number_at (layout_of c) l at) → m ≤ (layout_of c).packages
-    go (inl b) = let h = b.0 in omega arith
-    go (inr b) = let h = b.0 in omega arith
+    go : (o : Option ℕ) → NumberIs (layout_of c) l at o → IfSome o (λ m. m < (layout_of c).packages)
+    go None h = tt
+    go (Some m) h = h.0
 
 -- ---- the header, byte by byte
 pub head_is : (l h : List ℕ) → 3 ≤ length l → length h ≡ 3 → eqb (get_or l 0 0) (get_or h 0 0) && eqb (get_or l 1 0) (get_or h 1 0) && eqb (get_or l 2 0) (get_or h 2 0) ≡ eq_bytes (take 3 l) h

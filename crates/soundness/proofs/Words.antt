@@ -1,21 +1,21 @@
 -- Bytes compared as numbers: a part of an image is another when their numbers are the same.
-use Prim.Native.Nat.{ℕ, ◌+◌, ◌*◌, ◌-◌, ◌^◌, ◌≤◌}
+use Prim.Native.Nat.{ℕ, zero, suc, ◌+◌, ◌*◌, ◌-◌, ◌^◌, ◌≤◌, ◌<◌}
 use native.Mathlib.Omega.{arith}
 use mathlib.Core.Path.{◌≡◌, refl, sym, ap, ap₂, ◌∙◌, subst}
-use mathlib.Core.Bool.{Bool, true, false, not, ◌&&◌}
+use mathlib.Core.Bool.{Bool, true, false, ◌&&◌, and-true, and_assoc}
 use mathlib.Core.List.{List}
 use lib.Bits.{bit_or, or_lt, or_add_and, and_le_l, and_le_r}
 use lib.Dec.{eqb, ltb, ltb→lt, lt→ltb}
 use lib.ListN.{length}
-use Rattle.policy.specs.Lists.{every, upto}
+use Rattle.policy.specs.Lists.{every, from, upto}
 use Rattle.policy.specs.Layout.{Layout}
-use Rattle.policy.specs.Tables.{bit}
 use Rattle.policy.proofs.Sets.{T_eq, and_l, and_r, and_i}
-use Rattle.bits.proofs.Loops.{every_snoc}
+use borrow.Author.Tests.{lt-ltb}
+use Rattle.std.specs.List.{fold}
 use Rattle.geometry.specs.Geometry.{tok_at}
 use Rattle.rows.specs.Area.{little}
 use Rattle.rows.proofs.Words.{Bytes, byte_is, pair_is, same_split, number_same}
-use Rattle.soundness.specs.Check.{byte_at, part_at, same_at, method_ok}
+use Rattle.soundness.specs.Check.{byte_at, part_at, same_at, method_ok, methods_ok}
 
 -- ---- the same bytes of an image, by their numbers and in parts
 module _ (l : List ℕ) (bytes : Bytes l) where
@@ -27,11 +27,6 @@ module _ (l : List ℕ) (bytes : Bytes l) where
   in_parts : (a b n k e : ℕ) → e ≤ k → k ≤ n → same_at l a b k && same_at l (a + e) (b + e) (n - e) ≡ same_at l a b n
   unfolding same_at
   in_parts a b n k e h i = sym (same_split l l a b n k e h i)
-
-  -- the code's test of one service's tokens, of which t are others as a number
-  pub tok_same : (prov k a b : ℕ) → a + 2 ≤ length l → b + 2 ≤ length l → {t : ℕ} {r : Bool} → t ≡ little (part_at l a 2) → r ≡ bit prov k && eqb t (little (part_at l b 2))
-      → not r ≡ not (bit prov k && same_at l a b 2)
-  tok_same prov k a b h i e f = ap not (f ∙ ap (λ (x : Bool). bit prov k && x) (same_number a b 2 h i e refl))
 
   -- two words, two words and a byte, and two words with a last four bytes that may begin in them
   module _ (a b : ℕ) {p q r s : ℕ} (ep : p ≡ little (part_at l a 8)) (eq : q ≡ little (part_at l b 8)) (er : r ≡ little (part_at l (a + 8) 8)) (es : s ≡ little (part_at l (b + 8) 8)) where
@@ -67,9 +62,14 @@ gathered k a b = T_eq (ltb (bit_or a b) (2 ^ k)) (ltb a (2 ^ k) && ltb b (2 ^ k)
     and_i (ltb a (2 ^ k)) (ltb b (2 ^ k)) (lt→ltb a (2 ^ k) (omega (arith, or_add_and a b, and_le_r a b))) (lt→ltb b (2 ^ k) (omega (arith, or_add_and a b, and_le_l a b))))
     (λ t. lt→ltb (bit_or a b) (2 ^ k) (or_lt k a b (ltb→lt a (2 ^ k) (and_l (ltb a (2 ^ k)) (ltb b (2 ^ k)) t)) (ltb→lt b (2 ^ k) (and_r (ltb a (2 ^ k)) (ltb b (2 ^ k)) t))))
 
--- the tokens of package j, of which the first k are gathered in all: it tells whether their method tokens are below the limit
-abbrev pub Gathered : Layout → List ℕ → ℕ → ℕ → ℕ → Type 0
-Gathered L l j all k = ltb all (256 * L.methods) ≡ every (λ q. method_ok L l (tok_at L j q)) (upto k)
+-- the numbers that f gives below n are below a power of 2 where each passes p
+module _ (top t n : ℕ) (power : top ≡ 2 ^ t) (f : ℕ → ℕ) (p : ℕ → Bool) (each : (k : ℕ) → k < n → ltb (f k) top ≡ p k) where
+  gather : (d i a : ℕ) → i + d ≤ n → ltb (fold (λ all k. bit_or all (f k)) a (from i d)) top ≡ ltb a top && every p (from i d)
+  gather zero i a h = sym (and-true (ltb a top))
+  gather (suc d) i a h =
+      gather d (suc i) (bit_or a (f i)) (omega arith)
+      ∙ ap (λ (b : Bool). b && every p (from (suc i) d)) (subst (λ (z : ℕ). ltb (bit_or a (f i)) z ≡ ltb a z && ltb (f i) z) (sym power) (gathered t a (f i)) ∙ ap (λ (b : Bool). ltb a top && b) (each i (omega arith)))
+      ∙ and_assoc (ltb a top) (p i) (every p (from (suc i) d))
 
 module _ (L : Layout) (top : 256 * L.methods ≡ 2 ^ 15) (l : List ℕ) (bytes : Bytes l) (j : ℕ) where
   -- the method token is the high byte
@@ -81,7 +81,12 @@ module _ (L : Layout) (top : 256 * L.methods ≡ 2 ^ 15) (l : List ℕ) (bytes :
       (λ t. let i = ltb→lt p (256 * L.methods) t in lt→ltb (byte_at l (at + 1)) L.methods (omega arith))
       (λ t. let i = ltb→lt (byte_at l (at + 1)) L.methods t in lt→ltb p (256 * L.methods) (omega arith))
 
-  pub gather : (all k : ℕ) {p : ℕ} → Gathered L l j all k → tok_at L j k + 2 ≤ length l → p ≡ little (part_at l (tok_at L j k) 2) → Gathered L l j (bit_or all p) (k + 1)
-  gather all k {p} g h e =
-      subst (λ (z : ℕ). ltb (bit_or all p) z ≡ ltb all z && ltb p z) (sym top) (gathered 15 all p)
-      ∙ ap₂ ◌&&◌ g (pair_low (tok_at L j k) h e) ∙ sym (every_snoc (λ q. method_ok L l (tok_at L j q)) k)
+  -- all tokens of package j, gathered in one number
+  pub methods_of : (n : ℕ) {r : ℕ} → n ≡ L.services → ((k : ℕ) → k < n → tok_at L j k + 2 ≤ length l)
+      → r ≡ fold (λ all k. bit_or all (little (part_at l (tok_at L j k) 2))) 0 (upto n) → ltb r (256 * L.methods) ≡ methods_ok L l j
+  unfolding methods_ok
+  methods_of n {r} e h q =
+      ap (λ (z : ℕ). ltb z (256 * L.methods)) q
+      ∙ gather (256 * L.methods) 15 n top (λ k. little (part_at l (tok_at L j k) 2)) (λ k. method_ok L l (tok_at L j k)) (λ k i. pair_low (tok_at L j k) (h k i) refl) n 0 0 (omega arith)
+      ∙ ap (λ (b : Bool). b && every (λ k. method_ok L l (tok_at L j k)) (upto n)) (lt-ltb 0 (256 * L.methods) (omega arith))
+      ∙ ap (λ (z : ℕ). every (λ k. method_ok L l (tok_at L j k)) (upto z)) e

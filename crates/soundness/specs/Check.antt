@@ -1,15 +1,19 @@
 -- The check of an image, as code makes it: tests of its bytes, for the items of document 01, 'An image is sound when'.
-use Rattle.std.specs.Prelude.{ℕ, ◌+◌, ◌*◌, ◌-◌, ◌%◌, Bool, true, false, not, ◌&&◌, ◌||◌, cond, eqb, leb, ltb}
-use Rattle.std.specs.Prelude.{List, length, get_or, take, drop}
+use Rattle.std.specs.Prelude.{ℕ, ◌+◌, ◌*◌, ◌-◌, ◌%◌, Bool, true, false, not, ◌&&◌, cond, eqb, leb, ltb}
+use Rattle.std.specs.Prelude.{List, length, get_or, take, drop, Option, Some, None}
+use Rattle.std.specs.List.{find}
+use Rattle.std.specs.Option.{is_none}
 use Rattle.std.specs.Int.Bits.{bit_xor}
-use Rattle.policy.specs.Lists.{implies, every, first, upto, or_else, eq_bytes}
+use Rattle.policy.specs.Lists.{implies, every, upto, eq_bytes}
 use Rattle.policy.specs.Layout.{Layout, narrow, ahead, aid_size, unmet_size, waiting_size, size}
-use Rattle.policy.specs.Layout.{used_at, aids_at, tokens_at, provides_at, calls_at, grants_at, needs_at}
+use Rattle.policy.specs.Layout.{used_at, tokens_at, provides_at, calls_at, grants_at, needs_at}
 use Rattle.policy.specs.Tables.{bit, read_number}
 use Rattle.rows.specs.Area.{little}
 use Rattle.geometry.specs.Geometry.{aid_at, tok_at, prov_at, list_at, number_in, tokens_in}
 use Rattle.geometry.specs.declared.Kept.{Kept}
 use Rattle.geometry.specs.declared.Kept.TheVariants.{UnmetCalls, WaitingGrants}
+use Rattle.soundness.specs.declared.rules.Rules.{Rules}
+use Rattle.soundness.specs.declared.rules.Rules.TheVariants.{Early, Before}
 
 -- ---- bytes
 abbrev pub byte_at : List ℕ → ℕ → ℕ
@@ -38,6 +42,11 @@ row_mark l at n = bit_xor (little (part_at l (at + (n - 16)) 8)) (little (part_a
 -- a valid AID, and zeros to the end of its place
 unfoldable pub aid_ok : List ℕ → ℕ → Bool
 aid_ok l at = leb 5 (byte_at l at) && leb (byte_at l at) 16 && zeros_at l (at + (1 + byte_at l at)) (16 - byte_at l at)
+
+-- the code's rules are R-2's
+abbrev pub is_early : Rules → Bool
+is_early Early = true
+is_early Before = false
 
 -- the bytes of a list's rows, by whether R-2's rules are in force
 abbrev pub row_size : Bool → Kept → ℕ
@@ -75,9 +84,10 @@ abbrev pub server : Kept → ℕ → ℕ → ℕ
 server UnmetCalls n own = n
 server WaitingGrants n own = own
 
--- the lowest of the n AIDs from aids on that is the one at at; n where none is
-abbrev pub lowest_aid : List ℕ → ℕ → ℕ → ℕ → ℕ
-lowest_aid l aids n at = or_else (first (λ m. same_at l at (aids + m * aid_size) aid_size) (upto n)) n (λ m. m)
+-- what was found is n
+abbrev pub is_found : Option ℕ → ℕ → Bool
+is_found None n = false
+is_found (Some m) n = eqb m n
 
 -- services of which the row prov has those provided, and whose tokens stand in the line of the table toks
 module _ (l : List ℕ) (toks line prov : ℕ) where
@@ -138,9 +148,9 @@ module _ (L : Layout) (l : List ℕ) where
   abbrev pub is_aid : ℕ → ℕ → Bool
   is_aid at n = same_at l at (aid_at L n) aid_size
 
-  -- the lowest package that has the AID at at; the number of packages where none has
-  unfoldable pub number_at : ℕ → ℕ
-  number_at at = lowest_aid l (aids_at L) L.packages at
+  -- the lowest package that has the AID at at
+  unfoldable pub number_at : ℕ → Option ℕ
+  number_at at = find (is_aid at) (upto L.packages)
 
   abbrev pub is_tok : ℕ → ℕ → ℕ → Bool
   is_tok at j k = has_tok l (tokens_at L) (j * (L.services * 2)) (prov_row j) at k
@@ -166,7 +176,7 @@ module _ (L : Layout) (l : List ℕ) where
 
   -- the first package with its AID is n
   abbrev pub new_aid : ℕ → Bool
-  new_aid n = eqb (number_at (aid_at L n)) n
+  new_aid n = is_found (number_at (aid_at L n)) n
 
   unfoldable pub blank_ok : ℕ → Bool
   blank_ok n = zeros_at l (aid_at L n) aid_size && eqb (prov_row n) 0 && zeros_at l (tok_at L n 0) (L.services * 2)
@@ -191,9 +201,10 @@ module _ (L : Layout) (l : List ℕ) where
   abbrev pub is_used : ℕ → Bool
   is_used n = ltb n L.packages && bit used_row n
 
-  -- package n is not installed, or it is not the row's own and there is no service with the tokens at at
-  abbrev pub unserved : Kept → ℕ → ℕ → ℕ → Bool
-  unserved k at own n = eqb n L.packages || (not (eqb n own) && new_tok L.services at (server k n own))
+  -- no package was found, or the one found is not the row's own and there is no service with the tokens at at
+  abbrev pub unserved : Kept → ℕ → ℕ → Option ℕ → Bool
+  unserved k at own None = true
+  unserved k at own (Some n) = not (eqb n own) && new_tok L.services at (server k n own)
 
   unfoldable pub token_row_ok : Kept → ℕ → Bool
   token_row_ok k at =
@@ -207,7 +218,7 @@ module _ (L : Layout) (l : List ℕ) where
   unfoldable pub number_row_ok : ℕ → Bool
   number_row_ok at =
       is_provided (byte_at l (at + number_in WaitingGrants)) (byte_at l (at + tokens_in WaitingGrants))
-      && aid_ok l at && eqb (number_at at) L.packages
+      && aid_ok l at && is_none (number_at at)
 
   -- ---- 'list counts are at most 16; no list row repeats'; and the places past the count are zero
   unfoldable pub row_ok : Bool → Kept → ℕ → Bool

@@ -1,29 +1,18 @@
 // Bytes of an image: zeros, the same bytes, and the place of an AID.
 ghost use Rattle.std.specs.Prelude.{◌≡◌, ◌+◌, ◌≤◌, length};
-ghost use Rattle.policy.specs.Lists.{every};
-ghost use Rattle.soundness.specs.Check.{is_zero, zeros_at, same_at, row_mark, aid_ok};
+ghost use Rattle.soundness.specs.Check.{zeros_at, same_at, row_mark, aid_ok};
 
-// Every byte is zero.
-fn zeros(part: &[u8]) -> bool
-    ensures { result ≡ every is_zero part.now }
-{
-    let mut all: u8 = 0;
-    for k in 0..part.len() {
-        all = all | part[k];
-    }
-    all == 0
-}
-
-// The n bytes from at on are zero.
+// The n bytes from at on are zero: a fold without branches.
+#[tactic(auto, using(crate::proofs::Tests::zeros_of))]
 pub fn zeros_at(img: &[u8], at: usize, n: usize) -> bool
     requires { at + n ≤ length img.now }
     ensures { result ≡ zeros_at img.now at n }
 {
-    let end = at + n;
-    zeros(&img[at..end])
+    img[at..at + n].iter().fold(0, |all, b| all | *b) == 0
 }
 
 // The n bytes from a on are those from b on: the last 4, which may begin in the 16 before them, and the first 16 as two words.
+// Stays: `==` of slices is a call that is not inlined; a check of the small card took 10516 instructions with it, 8362 with words.
 pub fn same_row(img: &[u8], a: usize, b: usize, n: usize) -> bool
     requires { (16 ≤ n) × (n ≤ 20) × (a + n ≤ length img.now) × (b + n ≤ length img.now) }
     ensures { result ≡ same_at img.now a b n }
@@ -35,6 +24,7 @@ pub fn same_row(img: &[u8], a: usize, b: usize, n: usize) -> bool
 }
 
 // The AIDs in the places at a and b are the same: two words and a byte.
+// Stays: made one with same_row by three words, and inlined, a check of the small card took 10282 instructions, apart 6969.
 pub fn same_aid(img: &[u8], a: usize, b: usize) -> bool
     requires { (a + 17 ≤ length img.now) × (b + 17 ≤ length img.now) }
     ensures { result ≡ same_at img.now a b 17 }
@@ -44,20 +34,22 @@ pub fn same_aid(img: &[u8], a: usize, b: usize) -> bool
         & (img[a + 16] == img[b + 16])
 }
 
+// The tokens at a are those at b.
+pub fn same_tok(img: &[u8], a: usize, b: usize) -> bool
+    requires { (a + 2 ≤ length img.now) × (b + 2 ≤ length img.now) }
+    ensures { result ≡ same_at img.now a b 2 }
+{
+    rows::pair(img, a) == rows::pair(img, b)
+}
+
 // A valid AID stands at at, with zeros to the end of its place.
+#[tactic(auto, unfolding(crate::specs::Check::aid_ok))]
 pub fn aid_ok(img: &[u8], at: usize) -> bool
     requires { at + 17 ≤ length img.now }
     ensures { result ≡ aid_ok img.now at }
 {
     let n = img[at] as usize;
-    if n < 5 {
-        return false;
-    }
-    if 16 < n {
-        return false;
-    }
-    let rest = 16 - n;
-    zeros_at(img, at + (1 + n), rest)
+    5 <= n && n <= 16 && zeros_at(img, at + (1 + n), 16 - n)
 }
 
 // The mark of the n bytes at at.

@@ -8,4 +8,4 @@ use Rattle.card.proofs.card_check.Goals as goal
 pub returns : goal.returns
 returns c =
     let image = c.args.image.now in
-    packs_on (λ (k : Card). check (layout_of k) image) c.card_of-c.ensures c.check_image-checked.ensures c.join.ensures
+    packs_on (λ (k : Card). check (layout_of k) image) c.card_of-c.ensures c.check_image-checked.ensures c.verdict.ensures

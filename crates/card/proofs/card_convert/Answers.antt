@@ -4,4 +4,4 @@ use Rattle.card.proofs.Packs.{conversion}
 use Rattle.card.proofs.card_convert.Goals as goal
 
 pub returns : goal.returns
-returns c = conversion narrow small c.convert-took.ensures c.taken.ensures
+returns c = conversion narrow small c.convert.ensures c.taken.ensures

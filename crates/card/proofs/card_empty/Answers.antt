@@ -8,4 +8,4 @@ use Rattle.card.proofs.card_empty.Goals as goal
 pub returns : goal.returns
 returns c =
     let lent = c.args.image.now in
-    packs_on (λ (k : Card). write_empty (layout_of k) lent) c.card_of-c.ensures c.write_empty-emptied.ensures c.join.ensures
+    packs_on (λ (k : Card). write_empty (layout_of k) lent) c.card_of-c.ensures c.write_empty-emptied.ensures c.verdict.ensures

@@ -4,4 +4,4 @@ use Rattle.card.proofs.Packs.{conversion}
 use Rattle.card.proofs.card_enlarge.Goals as goal
 
 pub returns : goal.returns
-returns c = conversion small large c.enlarge-took.ensures c.taken.ensures
+returns c = conversion small large c.enlarge.ensures c.taken.ensures

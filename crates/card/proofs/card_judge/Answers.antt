@@ -8,4 +8,4 @@ use Rattle.card.proofs.card_judge.Goals as goal
 pub returns : goal.returns
 returns c =
     let a = c.args in
-    packs_on (λ (k : Card). judge (layout_of k) a.image.now a.rec.now) c.card_of-c.ensures c.judge-judged.ensures c.join.ensures
+    packs_on (λ (k : Card). judge (layout_of k) a.image.now a.rec.now) c.card_of-c.ensures c.judge-judged.ensures c.verdict.ensures

@@ -1,27 +1,16 @@
 -- `converter::carry` meets its contract. Assumes nothing.
-use Rattle.converter.proofs.Written.{writes}
+use native.Mathlib.Omega.{arith}
+use Rattle.converter.proofs.Laid.{laid_on}
+use Rattle.converter.proofs.Written.{rows_none, all_made}
 use Rattle.converter.proofs.carry.Goals as goal
 
-pub copy_front-requires : goal.copy_front-requires
-copy_front-requires c = search writes
+pub loop-r-init : goal.loop-r-init
+loop-r-init c = rows_none c.args.old.now c.requires.sound _ _ (omega arith) (omega arith)
 
-pub old_count-n-requires : goal.old_count-n-requires
-old_count-n-requires c = search writes
-
-pub write_rows-requires : goal.write_rows-requires
-write_rows-requires c = search writes
-
-pub place_at-end-requires : goal.place_at-end-requires
-place_at-end-requires c = search writes
-
-pub overflow_sub-rest : goal.overflow_sub-rest
-overflow_sub-rest c = search writes
-
-pub clear-requires : goal.clear-requires
-clear-requires c = search writes
-
-pub shape_of-out : goal.shape_of-out
-shape_of-out c = search writes
+pub loop-r-preserved : goal.loop-r-preserved
+loop-r-preserved c = laid_on c.loop-r.invariant _ _ c.loop-r-test.true (omega arith) c.write_row.ensures
 
 pub returns : goal.returns
-returns c = search writes
+returns c =
+    let a = c.args in
+    all_made a.old.now c.requires.sound a.out.now c.requires.sized _ c.old_count-n.ensures _ _ _ c.copy_front.ensures c.loop-r.invariant c.loop-r-test.false _ c.place_at-end.ensures _ (c.fill.ensures.after (λ y e. e))

@@ -1,27 +1,9 @@
 -- `converter::copy_front` meets its contract. Assumes nothing.
-use Rattle.converter.proofs.Written.{writes}
+use mathlib.Core.Path.{◌∙◌}
+use Rattle.converter.proofs.Written.{front_made}
 use Rattle.converter.proofs.copy_front.Goals as goal
 
-pub header-head-requires : goal.header-head-requires
-header-head-requires c = search writes
-
-pub slice_bounds-put-end : goal.slice_bounds-put-end
-slice_bounds-put-end c = search writes
-
-pub put-requires : goal.put-requires
-put-requires c = search writes
-
-pub place_at-end-requires : goal.place_at-end-requires
-place_at-end-requires c = search writes
-
-pub overflow_sub-end : goal.overflow_sub-end
-overflow_sub-end c = search writes
-
-pub copy-requires : goal.copy-requires
-copy-requires c = search writes
-
-pub shape_of-out : goal.shape_of-out
-shape_of-out c = search writes
-
 pub returns : goal.returns
-returns c = search writes
+returns c =
+    let a = c.args in
+    front_made a.old.now c.requires.sound a.out.now c.requires.sized _ c.place_at-end.ensures _ _ (c.copy_from_slice.ensures.after ∙ c.header.ensures) c.copy_from_slice-2.ensures.after

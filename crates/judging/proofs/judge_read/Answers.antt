@@ -1,43 +1,33 @@
--- `judging::judge_read` meets its contract, kind by kind. Assumes nothing.
+-- `judging::judge_read` meets its contract, kind by kind.
 use Rattle.judging.proofs.Judged.{asked_always, settles_always, remove_proper, service_proper}
 use Rattle.judging.proofs.judge_read.Goals as goal
 
 pub contract-requires : goal.contract-requires
-contract-requires c =
-    let d = rw c.in-Contract.is at c.requires in
-    record { taken = rw c.aid_bytes-own.ensures d.taken; stands = d.fits.1 }
+contract-requires c = rw c.in-Contract.is at c.requires
 
 pub remove-requires : goal.remove-requires
-remove-requires c =
-    let d = rw c.in-Remove.is at c.requires in
-    rw c.aid_bytes-own.ensures (asked_always _ _ _ _ (remove_proper _ _) d.taken)
+remove-requires c = asked_always _ _ _ _ (remove_proper _ _) (rw c.in-Remove.is at c.requires)
 
 pub add_service-requires : goal.add_service-requires
-add_service-requires c =
-    let d = rw c.in-AddService.is at c.requires in
-    record { taken = rw c.aid_bytes-own.ensures d.taken; stands = d.fits.1 }
+add_service-requires c = rw c.in-AddService.is at c.requires
 
 pub remove_service-requires : goal.remove_service-requires
-remove_service-requires c =
-    let d = rw c.in-RemoveService.is at c.requires in
-    rw c.aid_bytes-own.ensures (asked_always _ _ _ _ (service_proper _ _ _) d.taken)
+remove_service-requires c = asked_always _ _ _ _ (service_proper _ _ _) (rw c.in-RemoveService.is at c.requires)
 
 pub change-requires : goal.change-requires
-change-requires c =
-    let d = rw c.in-Row.is at c.requires in
-    record { taken = rw c.aid_bytes-own.ensures d.taken; fits = d.fits.1 }
+change-requires c = rw c.in-Row.is at c.requires
 
 pub returns-in-Contract : goal.returns-in-Contract
-returns-in-Contract c = rw c.in-Contract.is (rw c.aid_bytes-own.ensures at c.contract.ensures)
+returns-in-Contract c = rw c.in-Contract.is c.contract.ensures
 
 pub returns-in-Remove : goal.returns-in-Remove
-returns-in-Remove c = rw c.in-Remove.is (settles_always _ _ _ _ (remove_proper _ _) (rw c.aid_bytes-own.ensures at c.remove.ensures))
+returns-in-Remove c = rw c.in-Remove.is (settles_always _ _ _ _ (remove_proper _ _) c.remove.ensures)
 
 pub returns-in-AddService : goal.returns-in-AddService
-returns-in-AddService c = rw c.in-AddService.is (rw c.aid_bytes-own.ensures at c.add_service.ensures)
+returns-in-AddService c = rw c.in-AddService.is c.add_service.ensures
 
 pub returns-in-RemoveService : goal.returns-in-RemoveService
-returns-in-RemoveService c = rw c.in-RemoveService.is (settles_always _ _ _ _ (service_proper _ _ _) (rw c.aid_bytes-own.ensures at c.remove_service.ensures))
+returns-in-RemoveService c = rw c.in-RemoveService.is (settles_always _ _ _ _ (service_proper _ _ _) c.remove_service.ensures)
 
 pub returns-in-Row : goal.returns-in-Row
-returns-in-Row c = rw c.in-Row.is (rw c.aid_bytes-own.ensures at c.change.ensures)
+returns-in-Row c = rw c.in-Row.is c.change.ensures

@@ -16,10 +16,10 @@ pub returns-in_default : goal.returns-in_default
 returns-in_default c = rw (held_long _ _ c.if-have-lt2.false, ← c.frame_length.ensures, c.in_default.is)
 
 pub returns-then-size-have : goal.returns-then-size-have
-returns-then-size-have c = rw (held_long _ _ c.if-have-lt2.false, ← c.frame_length.ensures, c.in-Record.is, le-leb _ _ c.if-size-have.true)
+returns-then-size-have c = rw (held_long _ _ c.if-have-lt2.false, ← c.frame_length.ensures, c.in-Some.is, le-leb _ _ c.if-size-have.true)
 
 pub returns-then-ended-2 : goal.returns-then-ended-2
-returns-then-ended-2 c = rw (held_long _ _ c.if-have-lt2.false, ← c.frame_length.ensures, c.in-Record.is, lt-leb _ _ c.if-size-have.false, c.if-ended-2.true)
+returns-then-ended-2 c = rw (held_long _ _ c.if-have-lt2.false, ← c.frame_length.ensures, c.in-Some.is, lt-leb _ _ c.if-size-have.false, c.if-ended-2.true)
 
 pub returns : goal.returns
-returns c = rw (held_long _ _ c.if-have-lt2.false, ← c.frame_length.ensures, c.in-Record.is, lt-leb _ _ c.if-size-have.false, c.if-ended-2.false)
+returns c = rw (held_long _ _ c.if-have-lt2.false, ← c.frame_length.ensures, c.in-Some.is, lt-leb _ _ c.if-size-have.false, c.if-ended-2.false)

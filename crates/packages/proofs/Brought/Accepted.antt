@@ -4,16 +4,16 @@ use native.Mathlib.Omega.{arith}
 use mathlib.Core.Path.{◌≡◌, refl, sym, ap, ◌∙◌, subst}
 use mathlib.Core.List.{List, []}
 use lib.Dec.{T}
-use Rattle.policy.specs.Contract.{Aid, Contract, valid_aid}
+use Rattle.policy.specs.Contract.{Contract, valid_aid}
 use Rattle.policy.specs.Layout.{Layout}
 use Rattle.policy.specs.Record.{Change}
 use Rattle.policy.specs.Causes.{answer}
-use Rattle.policy.specs.Tables.{Tables, decode, encode}
+use Rattle.policy.specs.Tables.{Tables, decode}
 use Rattle.policy.specs.Sound.{sound}
 use Rattle.policy.specs.Draft.{Draft, Look, Services, new_services, draft}
 use Rattle.policy.specs.ShortCheck.{short_look}
 use Rattle.policy.specs.Judge.{Out, table_causes, look_causes}
-use Rattle.policy.specs.Settled.{settled, Gives}
+use Rattle.policy.specs.Settled.{settled}
 use Rattle.policy.proofs.Formed.{Fitting}
 use Rattle.policy.proofs.SoundFacts.{sound_formed, sound_lawful, sound_fitting}
 use Rattle.policy.proofs.BroughtNames.{Coming, brought_at}
@@ -23,13 +23,10 @@ use Rattle.policy.proofs.Settled.{settled_short, accepted_formed}
 use Rattle.changes.specs.Asked.{Asked}
 use Rattle.changes.specs.Joins.{taken_in, TakesIn}
 use Rattle.changes.specs.Own.{OwnFits, own_rows}
-use Rattle.image.specs.Wrote.{Wrote}
 use Rattle.changes.proofs.SoundRows.{callers_in, given_in}
-use Rattle.changes.proofs.Verdicts.{accepted_gives}
-use Rattle.packages.specs.Decides.{Comes, Decides}
+use Rattle.packages.specs.Decides.{Comes}
 use Rattle.packages.specs.Writes.{placed, taken, brought_in, BringsIn}
 use Rattle.packages.specs.declared.decide.Bring.{Bring}
-use Rattle.packages.specs.declared.decide.Decided.{Decided}
 use Rattle.packages.proofs.Brought.Readied.{readied, readied_with}
 use Rattle.packages.proofs.Brought.Services.{services_placed}
 use Rattle.packages.proofs.Brought.Joined.{joined, takes_in, taken_joined}
@@ -100,13 +97,3 @@ module _ (L : Layout) (img : List ℕ) (k : Contract) (b : Bring) (ok : Accepted
 
     pub brought_own : brought_in L k b v ≡ own_done L (decode L img) b.at k (new_services L (decode L img) b.at k)
     brought_own = ap (own_rows L n k.calls k.grants k.needs) taken_is ∙ own_is L t n k now ok.coming ok.valid
-
--- ---- the verdict
-module _ (L : Layout) (img : List ℕ) (c : Change) {number second : ℕ} where
-  pub decided_refused : (k : Contract) (Accepts : Bring → Type 0) (d : Decided) → Decides L img k c Accepts d → (d.number ≡ 0 → ⊥) → (number ≡ d.number) × (second ≡ 255)
-      → Gives (settled L img k.aid c) number second img
-  decided_refused k A d says ne v = subst (λ (o : Out). Gives o number second img) (sym (says.refused ne)) (record { answered = sym v.0; second_is = sym v.1; bytes_are = refl })
-
-  pub decided_done : (a : Aid) (n : ℕ) (t : Tables) → settled L img a c ≡ record { answered = 0; second = n; bytes = encode L t }
-      → {after : List ℕ} → Wrote L after t → (number ≡ 0) × (second ≡ n) → Gives (settled L img a c) number second after
-  decided_done a n t e {after} w v = subst (λ (o : Out). Gives o number second after) (sym e) (accepted_gives L w n v)

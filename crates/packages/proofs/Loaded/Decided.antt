@@ -1,10 +1,12 @@
 -- Kind 1: what the code has found decides the load. Assumes nothing.
-use Prim.Native.Nat.{ℕ, zero, suc, ◌≤◌, ◌<◌}
-use native.Mathlib.Omega.{arith}
+use Prim.Native.Nat.{ℕ, ◌≤◌}
 use mathlib.Core.Path.{◌≡◌, refl, sym, ap, ap₂, ◌∙◌, subst}
-use mathlib.Core.Bool.{Bool, not, ◌&&◌, ◌||◌, cond}
+use mathlib.Core.Bool.{Bool, true, false, not, ◌&&◌, ◌||◌, cond}
 use mathlib.Core.List.{List}
 use mathlib.Core.Option.{Option, none, some}
+use Rattle.std.specs.Prelude.{Result, Ok, Err}
+use Rattle.answers.specs.Numbers.{number, answered}
+use Rattle.answers.specs.declared.Refusal.{Refusal}
 use lib.Dec.{T, eqb, eqb→eq}
 use Rattle.policy.specs.Lists.{is_some, or_else}
 use Rattle.policy.specs.Contract.{Contract}
@@ -21,14 +23,12 @@ use Rattle.policy.proofs.Bits.{bit_none}
 use Rattle.policy.proofs.Formed.{Formed}
 use Rattle.policy.proofs.Found.{FreeIs, free_number_is}
 use Rattle.policy.proofs.SoundFacts.{sound_formed, sound_fitting}
-use Rattle.policy.proofs.Settled.{settled_refused, settled_short, settled_accepted}
-use Rattle.image.specs.Read.{number_or}
+use Rattle.policy.proofs.Settled.{settled_refused, settled_accepted}
 use Rattle.image.proofs.Masks.{mask_ext}
-use Rattle.image.proofs.Numbers.{package_none, package_some, free_package_none, free_package_some}
 use Rattle.changes.specs.Asked.{Asked}
-use Rattle.packages.specs.Decides.{comes_due, bring_cause, Newcomes, Comes, load_of, Loads, Decides}
+use Rattle.packages.specs.Decides.{comes_due, bring_cause, Newcomes, Comes, load_of, Loads}
 use Rattle.packages.specs.declared.decide.Bring.{Bring}
-use Rattle.packages.specs.declared.decide.Decided.{Decided}
+use Rattle.packages.proofs.Checks.{none_is, refused_late}
 use Rattle.packages.proofs.Brought.ShortCheck.{load_look}
 
 -- at a free number
@@ -50,16 +50,10 @@ module _ (L : Layout) (img : List ℕ) (k : Contract) (ask : Asked L img k.aid (
   abbrev t : Tables
   t = decode L img
 
-  abbrev Decide : Decided → Type 0
-  Decide = Decides L img k (load_of k) (Loads L img k)
-
   -- causes 4 and 7, by what the searches found
   pub early : (o f : Option ℕ) → number_of L (decode L img) k.aid ≡ o → free_number L (decode L img) ≡ f
       → answer (table_causes L (decode L img) k.aid (load_of k)) ≡ cond (is_some o) 4 (cond (not (is_some f)) 7 0)
   early o f e q = λ i. cond (is_some (e i)) 4 (cond (not (is_some (q i))) 7 0)
-
-  refuses : (r : Decided) (m : ℕ) → r.number ≡ suc m → settled L img k.aid (load_of k) ≡ refusal (suc m) 255 img → Decide r
-  refuses r m e h = record { refused = λ z. h ∙ ap (λ (x : ℕ). refusal x 255 img) (sym e); accepted = λ z. absurd (omega arith) }
 
   -- no cause applies
   accepted_at : (m : ℕ) → number_of L t k.aid ≡ none → free_number L t ≡ some m → answer (look_causes (short_look L t k.aid (load_of k))) ≡ 0
@@ -69,43 +63,38 @@ module _ (L : Layout) (img : List ℕ) (k : Contract) (ask : Asked L img k.aid (
       settled_accepted L img k.aid (load_of k) ask.is_sound ask.within ask.is_proper (early none (some m) o f) e
       ∙ ap₂ (λ (x y : Option ℕ). record { answered = 0; second = or_else x (or_else y 255 (λ z. z)) (λ z. z); bytes = encode L (or_else y (kept t) (λ z. load_at L t z k)).tables }) o f
 
-  -- old is what the search for the package gave, of n packages, and m the lowest unused number
-  module _ (n old : ℕ) (en : n ≡ L.packages) (eo : old ≡ number_or L.packages (number_of L (decode L img) k.aid)) (r : Decided) where
-    pub decides_4 : old < n → r.number ≡ 4 → Decides L img k (load_of k) (Loads L img k) r
-    decides_4 h e = refuses r 3 e (settled_refused L img k.aid (load_of k) 3 (early (some old) (free_number L t) (package_some L t k.aid old eo (omega arith)) refl))
+  pub decides_4 : is_some (number_of L (decode L img) k.aid) ≡ true → settled L img k.aid (load_of k) ≡ refusal 4 255 img
+  decides_4 h =
+      settled_refused L img k.aid (load_of k) 3
+      (early (number_of L t k.aid) (free_number L t) refl refl ∙ (λ i. cond (h i) 4 (cond (not (is_some (free_number L t))) 7 0)))
 
-    module _ (h : n ≤ old) (m : ℕ) (em : m ≡ number_or L.packages (free_number L (decode L img))) where
-      away : number_of L t k.aid ≡ none
-      away = package_none L t k.aid old eo (omega arith)
+  -- the package is not there
+  module _ (gone : is_some (number_of L (decode L img) k.aid) ≡ false) where
+    away : number_of L t k.aid ≡ none
+    away = none_is (number_of L t k.aid) gone
 
-      pub decides_7 : n ≤ m → r.number ≡ 7 → Decides L img k (load_of k) (Loads L img k) r
-      decides_7 g e = refuses r 6 e (settled_refused L img k.aid (load_of k) 6 (early none none away (free_package_none L t m em (omega arith))))
+    pub decides_7 : free_number L (decode L img) ≡ none → settled L img k.aid (load_of k) ≡ refusal 7 255 img
+    decides_7 f = settled_refused L img k.aid (load_of k) 6 (early none none away f)
 
-      pub decides_late : L.capacity ≤ 32 → m < n → (b : Bring) → Newcomes L (decode L img) k m b → r.bring ≡ b → r.number ≡ bring_cause L (decode L img) k b
-          → Decides L img k (load_of k) (Loads L img k) r
+    -- m is the lowest unused number, b what is found of the contract there, and r whether one of causes 8 to 11 is against it
+    module _ (low : L.capacity ≤ 32) {m : ℕ} (free : free_number L (decode L img) ≡ some m) {b : Bring} (new : Newcomes L (decode L img) k m b) where
+      none_there : T (t.used m) → ⊥
+      none_there = (subst (FreeIs L.packages t.used) free (free_number_is L t)).1
+
+      found : Comes L t k m b
+      found = newcomes_so L t k m b (sound_formed L img ask.is_sound) none_there new
+
+      late : (r : Result Unit Refusal) → answered r ≡ bring_cause L t k b → answered r ≡ answer (look_causes (short_look L t k.aid (load_of k)))
       unfolding short_look
-      decides_late low g b new eb ec = go r.number refl
-        where
-          free : free_number L t ≡ some m
-          free = free_package_some L t m em (omega arith)
+      late r ec = ec ∙ ap (λ (l : Look). answer (look_causes l)) (load_look L t (sound_formed L img ask.is_sound) (sound_fitting L img ask.is_sound) low k m b found none_there)
 
-          none_there : T (t.used m) → ⊥
-          none_there = (subst (FreeIs L.packages t.used) free (free_number_is L t)).1
+      pub decides_late : (r : Result Unit Refusal) → answered r ≡ bring_cause L (decode L img) k b → {e : Refusal} → r ≡ Err e → settled L img k.aid (load_of k) ≡ refusal (number e) 255 img
+      decides_late r ec = refused_late L img k.aid (load_of k) ask (early none (some m) away free) (late r ec)
 
-          found : Comes L t k m b
-          found = newcomes_so L t k m b (sound_formed L img ask.is_sound) none_there new
-
-          late : r.number ≡ answer (look_causes (short_look L t k.aid (load_of k)))
-          late = ec ∙ ap (λ (l : Look). answer (look_causes l)) (load_look L t (sound_formed L img ask.is_sound) (sound_fitting L img ask.is_sound) low k m b found none_there)
-
-          loads : answer (look_causes (short_look L t k.aid (load_of k))) ≡ 0 → Loads L img k b
-          loads z = record {
-            outcome = accepted_at m away free z ∙ ap (λ (x : ℕ). record { answered = 0; second = x; bytes = encode L (load_at L t x k).tables }) (sym new.at_is);
-            away = away;
-            free = free ∙ ap some (sym new.at_is);
-            found = subst (λ (x : ℕ). Comes L t k x b) (sym new.at_is) found;
-          }
-
-          go : (x : ℕ) → r.number ≡ x → Decide r
-          go zero z = record { refused = λ q. absurd (q z); accepted = λ q. subst (Loads L img k) (sym eb) (loads (sym late ∙ z)) }
-          go (suc x) z = refuses r x z (settled_short L img k.aid (load_of k) ask.is_sound ask.within ask.is_proper (early none (some m) away free) x (sym late ∙ z))
+      pub loads : (r : Result Unit Refusal) → answered r ≡ bring_cause L (decode L img) k b → {x : Unit} → r ≡ Ok x → Loads L img k b
+      loads r ec p = record {
+        outcome = accepted_at m away free (sym (late r ec) ∙ ap answered p) ∙ ap (λ (x : ℕ). record { answered = 0; second = x; bytes = encode L (load_at L t x k).tables }) (sym new.at_is);
+        away = away;
+        free = free ∙ ap some (sym new.at_is);
+        found = subst (λ (x : ℕ). Comes L t k x b) (sym new.at_is) found;
+      }

@@ -1,13 +1,12 @@
 -- Kind 11: what the code has found decides the whole contract. Assumes nothing.
-use Prim.Native.Nat.{ℕ, zero, suc, ◌≤◌, ◌<◌}
-use native.Mathlib.Omega.{arith}
+use Prim.Native.Nat.{ℕ, ◌≤◌}
 use mathlib.Core.Path.{◌≡◌, refl, sym, ap, ◌∙◌, subst}
 use mathlib.Core.Bool.{Bool, true, false, not, ◌||◌, cond, or_comm}
 use mathlib.Core.List.{List}
 use mathlib.Core.Option.{Option, none, some}
 use lib.Bits.{bit_or}
 use lib.Dec.{T, eqb}
-use borrow.Author.Tests.{not-true, not-false}
+use Rattle.std.specs.Prelude.{Result, Ok, Err}
 use Rattle.policy.specs.Lists.{exists, is_some, or_else}
 use Rattle.policy.specs.Contract.{Contract}
 use Rattle.policy.specs.Layout.{Layout}
@@ -23,15 +22,17 @@ use Rattle.policy.proofs.Formed.{Formed, Fitting}
 use Rattle.policy.proofs.Found.{NumberIs, number_is}
 use Rattle.policy.proofs.SoundFacts.{sound_formed, sound_fitting}
 use Rattle.policy.proofs.KindReplace.{or_never, none_waited}
-use Rattle.policy.proofs.Settled.{settled_refused, settled_short, settled_accepted}
-use Rattle.image.specs.Read.{number_or, mask_of}
+use Rattle.policy.proofs.Settled.{settled_refused, settled_accepted}
+use Rattle.image.specs.Read.{mask_of}
 use Rattle.image.proofs.Masks.{mask_ext, mask_or, mask_zero}
-use Rattle.image.proofs.Numbers.{package_none, package_some}
+use Rattle.answers.specs.Numbers.{number, answered}
+use Rattle.answers.specs.declared.Refusal.{Refusal}
+use Rattle.answers.specs.declared.Refusal.TheVariants.{Ungranted}
 use Rattle.changes.specs.Asked.{Asked}
 use Rattle.packages.specs.Conditions.{kept_granted}
-use Rattle.packages.specs.Decides.{comes_due, bring_cause, Replaces, Comes, replace_of, Renews, Decides}
+use Rattle.packages.specs.Decides.{comes_due, bring_cause, Replaces, Comes, replace_of, Renews}
 use Rattle.packages.specs.declared.decide.Bring.{Bring}
-use Rattle.packages.specs.declared.decide.Decided.{Decided}
+use Rattle.packages.proofs.Checks.{refused_late}
 use Rattle.packages.proofs.Brought.ShortCheck.{replace_stays, replace_look}
 
 -- at the package's number
@@ -52,15 +53,9 @@ module _ (L : Layout) (img : List ℕ) (k : Contract) (ask : Asked L img k.aid (
   abbrev t : Tables
   t = decode L img
 
-  abbrev Decide : Decided → Type 0
-  Decide = Decides L img k (replace_of k) (Renews L img k)
-
   -- cause 5, by what the search found
   pub absent_or : (o : Option ℕ) → number_of L (decode L img) k.aid ≡ o → answer (table_causes L (decode L img) k.aid (replace_of k)) ≡ cond (not (is_some o)) 5 0
   absent_or o e = λ i. cond (not (is_some (e i))) 5 0
-
-  refuses : (r : Decided) (m : ℕ) → r.number ≡ suc m → settled L img k.aid (replace_of k) ≡ refusal (suc m) 255 img → Decide r
-  refuses r m e h = record { refused = λ z. h ∙ ap (λ (x : ℕ). refusal x 255 img) (sym e); accepted = λ z. absurd (omega arith) }
 
   accepted_at : (m : ℕ) → number_of L t k.aid ≡ some m → answer (look_causes (short_look L t k.aid (replace_of k))) ≡ 0
       → settled L img k.aid (replace_of k) ≡ record { answered = 0; second = m; bytes = encode L (replace_at L t m k).tables }
@@ -69,52 +64,46 @@ module _ (L : Layout) (img : List ℕ) (k : Contract) (ask : Asked L img k.aid (
       settled_accepted L img k.aid (replace_of k) ask.is_sound ask.within ask.is_proper (absent_or (some m) o) e
       ∙ ap (λ (x : Option ℕ). record { answered = 0; second = or_else x (or_else (free_number L t) 255 (λ z. z)) (λ z. z); bytes = encode L (or_else x (kept t) (λ z. replace_at L t z k)).tables }) o
 
-  -- n is what the search for the package gave, of size packages
-  module _ (size n : ℕ) (es : size ≡ L.packages) (en : n ≡ number_or L.packages (number_of L (decode L img) k.aid)) (r : Decided) where
-    pub decides_5 : size ≤ n → r.number ≡ 5 → Decides L img k (replace_of k) (Renews L img k) r
-    decides_5 h e = refuses r 4 e (settled_refused L img k.aid (replace_of k) 4 (absent_or none (package_none L t k.aid n en (omega arith))))
+  pub decides_5 : number_of L (decode L img) k.aid ≡ none → settled L img k.aid (replace_of k) ≡ refusal 5 255 img
+  decides_5 o = settled_refused L img k.aid (replace_of k) 4 (absent_or none o)
 
-    -- what is found of the contract there, and whether what stays is granted
-    module _ (g : n < size) (b : Bring) (new : Replaces L (decode L img) k n b) (stay : Bool) (ek : stay ≡ kept_granted L (decode L img) k.grants n b.dropped) (low : L.capacity ≤ 32) where
-      formed : Formed L t
-      formed = sound_formed L img ask.is_sound
+  -- n is the package's number, b what is found of the contract there, and stay whether what stays is granted
+  module _ (low : L.capacity ≤ 32) {n : ℕ} (here : number_of L (decode L img) k.aid ≡ some n) {b : Bring} (new : Replaces L (decode L img) k n b) {stay : Bool}
+      (ek : stay ≡ kept_granted L (decode L img) k.grants n b.dropped) where
+    formed : Formed L t
+    formed = sound_formed L img ask.is_sound
 
-      fitting : Fitting L t
-      fitting = sound_fitting L img ask.is_sound
+    fitting : Fitting L t
+    fitting = sound_fitting L img ask.is_sound
 
-      here : number_of L t k.aid ≡ some n
-      here = package_some L t k.aid n en (omega arith)
+    its : NumberIs t k.aid (some n)
+    its = subst (NumberIs t k.aid) here (number_is L t formed.names k.aid)
 
-      its : NumberIs t k.aid (some n)
-      its = subst (NumberIs t k.aid) here (number_is L t formed.names k.aid)
+    found : Comes L t k n b
+    found = replaces_so L t k n b formed its.0 its.1 new
 
-      found : Comes L t k n b
-      found = replaces_so L t k n b formed its.0 its.1 new
+    -- the answer of the short check at its number
+    at_its : {x : ℕ} → x ≡ answer (look_causes (short_replace L t n k)) → x ≡ answer (look_causes (short_look L t k.aid (replace_of k)))
+    unfolding short_look
+    at_its e = e ∙ ap (λ (o : Option ℕ). answer (look_causes (or_else o fine (λ i. short_replace L t i k)))) (sym here)
 
-      -- the answer of the short check at its number
-      at_its : {x : ℕ} → x ≡ answer (look_causes (short_replace L t n k)) → x ≡ answer (look_causes (short_look L t k.aid (replace_of k)))
-      unfolding short_look
-      at_its e = e ∙ ap (λ (o : Option ℕ). answer (look_causes (or_else o fine (λ i. short_replace L t i k)))) (sym here)
+    pub decides_8 : stay ≡ false → settled L img k.aid (replace_of k) ≡ refusal 8 255 img
+    decides_8 q =
+        let r : Result Unit Refusal = Err Ungranted in
+        refused_late L img k.aid (replace_of k) ask (absent_or (some n) here) {r = r} (at_its (replace_stays L t formed fitting low k n b found its.0 its.1 (sym ek ∙ q))) refl
 
-      renews : answer (look_causes (short_look L t k.aid (replace_of k))) ≡ 0 → Renews L img k b
-      renews z = record {
-        outcome = accepted_at n here z ∙ ap (λ (x : ℕ). record { answered = 0; second = x; bytes = encode L (replace_at L t x k).tables }) (sym new.at_is);
+    -- r is whether one of causes 8 to 11 is against it
+    module _ (q : stay ≡ true) where
+      late : (r : Result Unit Refusal) → answered r ≡ bring_cause L t k b → answered r ≡ answer (look_causes (short_look L t k.aid (replace_of k)))
+      late r ec = at_its (ec ∙ ap (λ (l : Look). answer (look_causes l)) (replace_look L t formed fitting low k n b found its.0 its.1 (sym ek ∙ q)))
+
+      pub decides_late : (r : Result Unit Refusal) → answered r ≡ bring_cause L (decode L img) k b → {e : Refusal} → r ≡ Err e
+          → settled L img k.aid (replace_of k) ≡ refusal (number e) 255 img
+      decides_late r ec = refused_late L img k.aid (replace_of k) ask (absent_or (some n) here) (late r ec)
+
+      pub renews : (r : Result Unit Refusal) → answered r ≡ bring_cause L (decode L img) k b → {x : Unit} → r ≡ Ok x → Renews L img k b
+      renews r ec p = record {
+        outcome = accepted_at n here (sym (late r ec) ∙ ap answered p) ∙ ap (λ (x : ℕ). record { answered = 0; second = x; bytes = encode L (replace_at L t x k).tables }) (sym new.at_is);
         here = here ∙ ap some (sym new.at_is);
         found = subst (λ (x : ℕ). Comes L t k x b) (sym new.at_is) found;
       }
-
-      refuses_late : (x : ℕ) → r.number ≡ suc x → r.number ≡ answer (look_causes (short_look L t k.aid (replace_of k))) → Decide r
-      refuses_late x z late = refuses r x z (settled_short L img k.aid (replace_of k) ask.is_sound ask.within ask.is_proper (absent_or (some n) here) x (sym late ∙ z))
-
-      pub decides_8 : not stay ≡ true → r.number ≡ 8 → Decides L img k (replace_of k) (Renews L img k) r
-      decides_8 q e = refuses_late 7 e (at_its (e ∙ replace_stays L t formed fitting low k n b found its.0 its.1 (sym ek ∙ not-true stay q)))
-
-      pub decides_late : not stay ≡ false → r.bring ≡ b → r.number ≡ bring_cause L (decode L img) k b → Decides L img k (replace_of k) (Renews L img k) r
-      decides_late q eb ec = go r.number refl
-        where
-          late : r.number ≡ answer (look_causes (short_look L t k.aid (replace_of k)))
-          late = at_its (ec ∙ ap (λ (l : Look). answer (look_causes l)) (replace_look L t formed fitting low k n b found its.0 its.1 (sym ek ∙ not-false stay q)))
-
-          go : (x : ℕ) → r.number ≡ x → Decide r
-          go zero z = record { refused = λ q. absurd (q z); accepted = λ q. subst (Renews L img k) (sym eb) (renews (sym late ∙ z)) }
-          go (suc x) z = refuses_late x z late

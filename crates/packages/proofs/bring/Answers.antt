@@ -1,23 +1,17 @@
--- `packages::bring` meets its contract. Assumes nothing.
-use mathlib.Core.Path.{subst}
+-- `packages::bring` meets its contract.
+use native.Mathlib.Omega.{arith}
 use Rattle.geometry.specs.Geometry.{layout_of}
-use Rattle.record.specs.declared.ContractKind.{ContractKind}
-use Rattle.record.specs.Meaning.{whole_in}
-use Rattle.changes.specs.Asked.{Asked}
+use Rattle.geometry.proofs.Bounds.{limits}
+use Rattle.image.proofs.LaidImage.{laid_on}
+use Rattle.record.specs.Listed.{contract_by}
+use Rattle.changes.proofs.Verdicts.{asked_laid}
+use Rattle.packages.proofs.Answered.{number_in_as}
 use Rattle.packages.proofs.bring.Goals as goal
 
-pub load-requires : goal.load-requires
-load-requires c =
+pub invariant_of-contract : goal.invariant_of-contract
+invariant_of-contract c = record { laid = laid_on c.args.c (asked_laid _ _ _ c.requires) }
+
+pub overflow_cast-result : goal.overflow_cast-result
+overflow_cast-result c =
     let a = c.args in
-    record { asked = subst (λ (k : ContractKind). Asked (layout_of a.c) a.img.now a.aid.now (whole_in k a.rec.now a.l)) c.in-Load.is c.requires.asked; stands = c.requires.stands }
-
-pub replace-requires : goal.replace-requires
-replace-requires c =
-    let a = c.args in
-    record { asked = subst (λ (k : ContractKind). Asked (layout_of a.c) a.img.now a.aid.now (whole_in k a.rec.now a.l)) c.in-Replace.is c.requires.asked; stands = c.requires.stands }
-
-pub returns-in-Load : goal.returns-in-Load
-returns-in-Load c = rw c.in-Load.is c.load.ensures
-
-pub returns-in-Replace : goal.returns-in-Replace
-returns-in-Replace c = rw c.in-Replace.is c.replace.ensures
+    omega (arith, number_in_as a.k (layout_of a.c) a.img.now (contract_by a.own.now a.l) c.contract.ensures c.in_ok-b.was c.requires, limits a.c)

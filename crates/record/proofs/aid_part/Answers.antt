@@ -1,13 +1,9 @@
--- `record::aid_part` meets its contract: the part that the read record names.
-use mathlib.Core.Path.{◌∙◌}
-use Rattle.record.proofs.Header.{parsed_fits, first_none, first_some}
+-- `record::aid_part` meets its contract: the AID that was read.
+use Rattle.record.proofs.Parsed.{first_none, first_some}
 use Rattle.record.proofs.aid_part.Goals as goal
 
-pub returns-in_default : goal.returns-in_default
-returns-in_default c = first_none c.read_record.ensures c.in_default.is
+pub returns-in-Some : goal.returns-in-Some
+returns-in-Some c = first_some _ _ c.in-Some.ensures
 
-pub aid_bytes-requires : goal.aid_bytes-requires
-aid_bytes-requires c = (parsed_fits c.read_record.ensures c.in-Whole.is).0
-
-pub returns : goal.returns
-returns c = c.aid_bytes.ensures ∙ first_some c.read_record.ensures c.in-Whole.is
+pub returns-in-None : goal.returns-in-None
+returns-in-None c = first_none _ _ c.in-None.ensures

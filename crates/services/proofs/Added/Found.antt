@@ -1,68 +1,62 @@
--- What the code of kind 3 finds: AIDs on the card, unmet calls that are granted, and room beside the rows that stay. Assumes nothing.
-use Prim.Native.Nat.{ℕ, ◌≤◌, ◌<◌}
+-- What the code of kind 3 finds: rows that a mask names, unmet calls that are granted, and callers that have no row yet. Assumes nothing.
+use Prim.Native.Nat.{ℕ, suc, ◌+◌, ◌≤◌, ◌<◌}
 use native.Mathlib.Omega.{arith}
-use mathlib.Core.Path.{◌≡◌, refl, sym, ap, ◌∙◌}
-use mathlib.Core.Bool.{Bool, true, false, not, ◌&&◌, ◌||◌}
-use mathlib.Core.List.{List}
-use mathlib.Core.Option.{Option}
-use lib.Dec.{T, ltb}
-use lib.ListN.{length}
-use borrow.Author.Tests.{ltb-true, ltb-false}
-use Rattle.policy.specs.Lists.{implies, exists, is_some}
-use Rattle.policy.specs.Contract.{Aid as Bytes, eq_aid}
-use Rattle.policy.specs.Layout.{Layout}
-use Rattle.policy.specs.Tables.{Tables, Unmet, bit}
-use Rattle.policy.specs.Lookup.{number_of}
-use Rattle.policy.specs.Draft.{installed_aid}
-use Rattle.image.specs.Read.{mask_of, number_or, unmet_row}
-use Rattle.image.proofs.Numbers.{package_none, package_some}
-use Rattle.services.specs.Adding.{waits_in, is_lone, due_to, by_callers}
-use Rattle.bits.proofs.Tests.{asking_by}
-use Rattle.changes.proofs.MaskedRows.{named}
+use native.Mathlib.Nat.{add-zero, add-suc, suc-add, zero-add}
+use mathlib.Core.Path.{◌≡◌, refl, sym, ap, ap₂, ◌∙◌}
+use mathlib.Core.Logic.{◌⊎◌, inl, inr}
+use mathlib.Core.Bool.{Bool, true, false, ◌&&◌, ◌||◌}
+use mathlib.Core.List.{List, [], ◌∷◌}
+use lib.ListN.{length, get_or}
+use lib.Dec.{T, eqb, leb}
+use borrow.Author.Tests.{le-leb, lt-leb, ne_eqb}
+use mathlib.Core.Option.{Option, none, some}
+use Rattle.std.specs.Prelude.{Some, None, is_none, Option as Answer}
+use Rattle.std.specs.Option.{option_eq, option_map}
+use Rattle.std.specs.List.{slice_get}
+use Rattle.std.proofs.lemmas.Option.{slice_get_cases, slice_get_within}
+use Rattle.image.specs.Read.{found, number_or}
+use Rattle.policy.specs.Lists.{every, exists, from, upto}
+use Rattle.policy.specs.Tables.{bit}
+use Rattle.changes.specs.Masks.{some_listed}
 
--- ---- an AID on the card, or not
-module _ (L : Layout) (t : Tables) (a : Bytes) (n r : ℕ) (e : n ≡ L.packages) (q : r ≡ number_or L.packages (number_of L t a)) where
-  pub is_installed : r < n → true ≡ installed_aid L t a
-  is_installed h = sym (ap (λ (o : Option ℕ). is_some o) (package_some L t a r q (omega arith)))
+-- ---- a test h of the numbers of the rows of l
+module _ {A : Type 0} (d : A) (h : ℕ → Bool) where
+  every_from : (p : A → Bool) (i : ℕ) (l : List A) → ((n : ℕ) → n < length l → h (i + n) ≡ p (get_or l n d)) → every h (from i (length l)) ≡ every p l
+  every_from p i [] e = refl
+  every_from p i (x ∷ l) e = ap₂ (λ (b c : Bool). b && c) (ap h (sym (add-zero i)) ∙ e 0 (omega arith)) (every_from p (suc i) l (λ n q. ap h (suc-add i n ∙ sym (add-suc i n)) ∙ e (suc n) (omega arith)))
 
-  pub not_installed : n ≤ r → false ≡ installed_aid L t a
-  not_installed h = sym (ap (λ (o : Option ℕ). is_some o) (package_none L t a r q (omega arith)))
+  -- all of them, where h is p of the rows
+  pub every_row : (p : A → Bool) (l : List A) {n : ℕ} → n ≡ length l → ((r : ℕ) → r < length l → h r ≡ p (get_or l r d)) → every h (upto n) ≡ every p l
+  every_row p l k e = ap (λ (n : ℕ). every h (upto n)) k ∙ every_from p 0 l (λ n q. ap h (zero-add n) ∙ e n q)
 
-  pub below_installed : ltb r n ≡ installed_aid L t a
-  below_installed = go (ltb r n) refl
-    where
-      go : (b : Bool) → ltb r n ≡ b → b ≡ installed_aid L t a
-      go true h = is_installed (ltb-true r n h)
-      go false h = not_installed (ltb-false r n h)
+-- one of those that a mask names
+module _ {A : Type 0} (d : A) (g : A → Bool) (mask : ℕ) where
+  named_from : (h : ℕ → Bool) (i : ℕ) (l : List A) → ((n : ℕ) → n < length l → h (i + n) ≡ bit mask (i + n) && g (get_or l n d)) → exists h (from i (length l)) ≡ some_listed g mask i l
+  named_from h i [] e = refl
+  named_from h i (x ∷ l) e =
+      ap₂ (λ (b c : Bool). b || c) (ap h (sym (add-zero i)) ∙ e 0 (omega arith) ∙ ap (λ (k : ℕ). bit mask k && g x) (add-zero i))
+      (named_from h (suc i) l (λ n q. let z : suc i + n ≡ i + suc n = suc-add i n ∙ sym (add-suc i n) in ap h z ∙ e (suc n) (omega arith) ∙ ap (λ (k : ℕ). bit mask k && g (get_or l n d)) (sym z)))
 
-  -- one that is installed is not lone, and one that is not is so where its grant does not wait
-  pub not_lone : (mask : ℕ) → r < n → false ≡ is_lone L mask t a
-  not_lone mask h = ap (λ (b : Bool). not (b || waits_in mask t a)) (is_installed h)
+  pub named_row : (l : List A) {n : ℕ} → n ≡ length l → exists (λ r. bit mask r && g (get_or l r d)) (upto n) ≡ some_listed g mask 0 l
+  named_row l e =
+      ap (λ (n : ℕ). exists (λ r. bit mask r && g (get_or l r d)) (upto n)) e
+      ∙ named_from (λ r. bit mask r && g (get_or l r d)) 0 l (λ n q. ap (λ (k : ℕ). bit mask (0 + n) && g (get_or l k d)) (zero-add n))
 
-  pub lone_by : (mask : ℕ) (b : Bool) → b ≡ waits_in mask t a → n ≤ r → not b ≡ is_lone L mask t a
-  lone_by mask b w h = ap not w ∙ ap (λ (z : Bool). not (z || waits_in mask t a)) (not_installed h)
+-- the package that holds an AID is n
+pub held_same : (m n : ℕ) (o : Option ℕ) → n < m → option_eq eqb (found o) (Some n) ≡ eqb (number_or m o) n
+held_same m n none h = sym (ne_eqb m n (λ e. absurd (omega arith)))
+held_same m n (some i) h = refl
+
+-- l has no thing past the first n
+pub nth_none : {A B : Type 0} (v : A → B) (l : List B) (n : ℕ) (r : Answer A) → option_map v r ≡ slice_get l n → is_none r ≡ leb (length l) n
+nth_none {B = B} v l n None e = go (slice_get_cases l n).1
+  where
+    go : ((x : B) × (n < length l) × (slice_get l n ≡ Some x) × (get_or l n x ≡ x)) ⊎ ((length l ≤ n) × (slice_get l n ≡ None)) → true ≡ leb (length l) n
+    go (inl p) = cc (e, p.2)
+    go (inr p) = sym (le-leb (length l) n p.0)
+nth_none v l n (Some x) e = sym (lt-leb (length l) n (slice_get_within l n (v x) (sym e)))
 
 -- a used package's AID
 pub used_same : (b x r : Bool) → T b → r ≡ b && x → r ≡ x
 used_same false x r h e = elim h [ ]
 used_same true x r h e = e
-
--- unmet call r, which the mask m names, is by one of the callers l, or a waiting grant is to its caller
-module _ (L : Layout) (t : Tables) (l : List Bytes) (due m r : ℕ) (b x : Bool) (n : ℕ) (e : b ≡ bit m r) (h : not b ≡ false) (c : n ≡ (unmet_row t r).caller)
-    (p : x ≡ exists (eq_aid (t.aid n)) l) where
-  abbrev row_by : ℕ → Bool
-  row_by n = exists (eq_aid (t.aid n)) l || due_to L due t n
-
-  by_row : (q : Bool) → q ≡ row_by n → q ≡ implies (bit m r) (row_by (unmet_row t r).caller)
-  by_row q z = asking_by b (bit m r) (row_by (unmet_row t r).caller) q e h (z ∙ ap row_by c)
-
-  pub row_among : x ≡ true → true ≡ implies (bit m r) (exists (eq_aid (t.aid (unmet_row t r).caller)) l || due_to L due t (unmet_row t r).caller)
-  row_among y = by_row true (ap (λ (z : Bool). z || due_to L due t n) (sym y ∙ p))
-
-  pub row_due : (q : Bool) → x ≡ false → q ≡ due_to L due t n → q ≡ implies (bit m r) (exists (eq_aid (t.aid (unmet_row t r).caller)) l || due_to L due t (unmet_row t r).caller)
-  row_due q y z = by_row q (z ∙ ap (λ (v : Bool). v || due_to L due t n) (sym y ∙ p))
-
-pub row_by_lem : (L : Layout) (t : Tables) (l : List Bytes) (due : ℕ) (f : Unmet → Bool) (m r : ℕ) (b : Bool) → m ≡ mask_of f t.unmet → r < length t.unmet
-    → b ≡ implies (bit m r) (exists (eq_aid (t.aid (unmet_row t r).caller)) l || due_to L due t (unmet_row t r).caller) → b ≡ by_callers L t l due f (unmet_row t r)
-row_by_lem L t l due f m r b e h q =
-    q ∙ ap (λ (z : Bool). implies z (exists (eq_aid (t.aid (unmet_row t r).caller)) l || due_to L due t (unmet_row t r).caller)) (named f t.unmet m r _ e h)

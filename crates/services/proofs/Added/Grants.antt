@@ -1,7 +1,7 @@
 -- What the grants of kind 3 leave, one by one: a bit, or a row that waits, once. Assumes nothing.
 use Prim.Native.Nat.{ℕ, suc, ◌+◌, ◌≤◌, ◌<◌}
 use native.Mathlib.Omega.{arith}
-use mathlib.Core.Path.{◌≡◌, refl, sym, ap, ◌∙◌, subst}
+use mathlib.Core.Path.{◌≡◌, refl, ap}
 use mathlib.Core.Bool.{Bool, true, false, not, ◌||◌, cond}
 use mathlib.Core.List.{List, [], ◌∷◌, ◌++◌}
 use mathlib.Core.Option.{Option, none, some}
@@ -10,45 +10,14 @@ use Rattle.policy.specs.Lists.{keep, is_some}
 use Rattle.policy.specs.Contract.{Aid, eq_aid, Tok}
 use Rattle.policy.specs.ShortCheck.{count}
 use Rattle.policy.specs.Layout.{Layout}
-use Rattle.policy.specs.Tables.{Tables, Waiting, bit, decode}
+use Rattle.policy.specs.Tables.{Tables, Waiting, bit}
 use Rattle.policy.specs.Lookup.{number_of}
 use Rattle.policy.specs.Draft.{put3, with_grants}
 use Rattle.policy.proofs.Sets.{keep_ext, length_snoc}
-use Rattle.image.specs.Laid.{Laid, with_waiting}
-use Rattle.image.specs.Wrote.{Wrote}
-use Rattle.image.specs.Read.{number_or}
-use Rattle.image.proofs.Numbers.{package_none, package_some}
-use Rattle.services.specs.Adding.{waits_in, waited_at, is_lone, granted_at, granted_to_each}
+use Rattle.image.specs.Laid.{with_waiting}
+use Rattle.services.specs.Adding.{waits_in, is_lone, granted_at, granted_to_each}
 use Rattle.changes.proofs.MaskedRows.{some_more}
-use Rattle.changes.proofs.ItemLoops.{Turns}
-
--- ---- a grant that waits: r is that it did so already
-module _ (L : Layout) (mask j : ℕ) (s : Tok) (a : Aid) (r : Bool) where
-  pub waits_already : {img : List ℕ} → r ≡ waits_in mask (decode L img) a → r ≡ true → Laid L img → Wrote L img (waited_at mask j s a (decode L img))
-  waits_already {img} e q h = record {
-    laid = h;
-    tables = ap (λ (z : Bool). with_waiting (cond z (decode L img).waiting ((decode L img).waiting ++ (record { caller = a; callee = j; tok = s } ∷ []))) (decode L img)) (sym q ∙ e);
-  }
-
-  pub waits_now : (t : Tables) {img : List ℕ} (b : Aid) → r ≡ waits_in mask t a → r ≡ false → b ≡ a
-      → Wrote L img (with_waiting (t.waiting ++ (record { caller = b; callee = j; tok = s } ∷ [])) t) → Wrote L img (waited_at mask j s a t)
-  waits_now t {img} b e q p w =
-      subst (λ (z : Bool). Wrote L img (with_waiting (cond z t.waiting (t.waiting ++ (record { caller = a; callee = j; tok = s } ∷ []))) t)) (sym q ∙ e)
-      (subst (λ (z : Aid). Wrote L img (with_waiting (t.waiting ++ (record { caller = z; callee = j; tok = s } ∷ [])) t)) p w)
-
--- ---- one grant: i is what the search for its caller gave, of n packages
-module _ (L : Layout) (t : Tables) (mask j k : ℕ) (s : Tok) (a : Aid) (n i : ℕ) (e : n ≡ L.packages) (q : i ≡ number_or L.packages (number_of L t a)) where
-  pub grant_bit_lem : {img : List ℕ} → i < n → Wrote L img (with_grants (put3 j i k true t.grants) t.waiting t) → Wrote L img (granted_at L mask j k s a t (number_of L t a))
-  grant_bit_lem {img} h w = subst (λ (o : Option ℕ). Wrote L img (granted_at L mask j k s a t o)) (sym (package_some L t a i q (omega arith))) w
-
-  unknown : n ≤ i → number_of L t a ≡ none
-  unknown h = package_none L t a i q (omega arith)
-
-  pub grant_waits : {img : List ℕ} → n ≤ i → Wrote L img (waited_at mask j s a t) → Wrote L img (granted_at L mask j k s a t (number_of L t a))
-  grant_waits {img} h w = subst (λ (o : Option ℕ). Wrote L img (granted_at L mask j k s a t o)) (sym (unknown h)) w
-
-  pub grant_lone : n ≤ i → waits_in mask t a ≡ false → is_lone L mask t a ≡ true
-  grant_lone h w = ap (λ (o : Option ℕ). not (is_some o || waits_in mask t a)) (unknown h) ∙ ap not w
+use Rattle.changes.proofs.ListLoops.{Turns}
 
 -- ---- the grants, one by one; a grant changes no lookup, and one that is added is none of the mask's
 module _ (L : Layout) (mask j k : ℕ) (s : Tok) where

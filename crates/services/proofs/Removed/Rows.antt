@@ -1,47 +1,39 @@
 -- Kind 4: the rows that a service leaves behind, how many they are, and the lists with them. Assumes nothing.
-use Prim.Native.Nat.{ℕ, ◌+◌, ◌-◌, ◌≤◌, ◌<◌, suc, zero}
+use Prim.Native.Nat.{ℕ, ◌+◌, ◌≤◌, ◌<◌, suc, zero}
 use native.Mathlib.Omega.{arith}
-use mathlib.Core.Path.{◌≡◌, refl, sym, ap, ◌∙◌, subst}
+use mathlib.Core.Path.{◌≡◌, refl, sym, ap, ◌∙◌}
 use mathlib.Core.Bool.{Bool, true, false, cond, ◌&&◌, and-true, and-false}
 use mathlib.Core.List.{List, [], ◌∷◌, map}
-use lib.ListN.{length, get_or, take, drop, replicate, length-map}
-use lib.Seq.{take_at}
+use lib.ListN.{length, length-map}
 use borrow.Author.Tests.{eq-eqb, ne_eqb}
 use Rattle.policy.specs.Lists.{keep, from}
-use Rattle.policy.specs.Contract.{Aid}
 use Rattle.policy.specs.Layout.{Layout}
-use Rattle.policy.specs.Tables.{Tables, Unmet, Waiting, bit, row_of, write_aid, decode}
+use Rattle.policy.specs.Tables.{Tables, Unmet, Waiting, bit, row_of}
 use Rattle.policy.specs.ShortCheck.{count}
 use Rattle.policy.proofs.Sets.{flat_ext, true_T, false_T}
-use Rattle.policy.proofs.Pieces.{length_aid}
 use Rattle.geometry.specs.declared.Table.{Table}
 use Rattle.geometry.specs.declared.Table.TheVariants.{Calls, Grants, Needs}
 use Rattle.geometry.specs.declared.Kept.{Kept}
 use Rattle.geometry.specs.declared.Kept.TheVariants.{UnmetCalls, WaitingGrants}
 use Rattle.image.specs.Read.{item}
 use Rattle.image.specs.Laid.{with_unmet, with_waiting}
-use Rattle.image.specs.Wrote.{Wrote}
-use Rattle.changes.specs.Left.{only, by_list, behind, left_one, RoomBehind}
-use Rattle.services.specs.Removal.{between, left_bit, left_bits, rows_with_bits, RoomWithoutService, lists_without_service}
+use Rattle.changes.specs.Left.{only, by_list, left_one, RoomBehind}
+use Rattle.services.specs.Removal.{between, left_bit, left_bits, rows_with_bits}
 use lib.Dec.{eqb, eqb→eq}
 use Rattle.policy.specs.Lookup.{numbers, places, service_at}
 use Rattle.policy.specs.Draft.{call_row, left_by}
 use Rattle.changes.proofs.LeftRows.{only_keep}
-use Rattle.image.proofs.Clears.{wrote_then}
-use Rattle.bits.proofs.Row.{row_bit}
+use mir.Val.{bool_byte}
+use Rattle.bits.proofs.Row.{bit_seen, row_bit}
+use Rattle.bits.proofs.Tests.{bool_is}
 
--- ---- an AID in a copy of its place
-module _ (place : List ℕ) (a : Aid) (e : place ≡ write_aid a) (h : length a ≤ 16) where
-  pub place_low : get_or place 0 0 ≤ 16
-  place_low = let q = ap (λ (l : List ℕ). get_or l 0 0) e in omega arith
+-- a bit of a row that was read, as a number
+pub bit_number : (n : ℕ) (f : ℕ → Bool) (row k : ℕ) (b : Bool) → b ≡ bit row k → row ≡ row_of n f → k < n → bool_byte b ≡ cond (f k) 1 0
+bit_number n f row k b e q h = bool_is b (f k) (bit_seen n f row k b e q h)
 
-  pub place_long : length place ≡ 17
-  place_long = ap length e ∙ length_aid a h
-
-  pub place_aid : take (get_or place 0 0 + 1 - 1) (drop 1 place) ≡ a
-  place_aid =
-      let q : length a + 1 - 1 ≡ length a = omega arith in
-      ap (λ (l : List ℕ). take (get_or l 0 0 + 1 - 1) (drop 1 l)) e ∙ take_at a (replicate (16 - length a) 0) (length a + 1 - 1) (sym q)
+pub bit_small : (b : Bool) (n : ℕ) → 0 < n → bool_byte b ≤ n
+bit_small true n h = omega arith
+bit_small false n h = omega arith
 
 between_apart : (tb : Table) (t : Tables) (u : List Unmet) (w : List Waiting) → between tb (with_unmet u (with_waiting w t)) ≡ between tb t
 between_apart Calls t u w = refl
@@ -111,10 +103,3 @@ module _ (L : Layout) (t : Tables) (j k : ℕ) where
 -- ---- `leave_service`: service k of package j goes
 pub bits_room : (L : Layout) (l : Kept) (t : Tables) (tb : Table) (j k : ℕ) → rows_with_bits L l t tb j k ≤ L.capacity → RoomBehind l L (left_bits L l t tb j k) t
 bits_room L l t tb j k r = let e = bits_length L l t tb j k in omega arith
-
-module _ (L : Layout) (j k : ℕ) (img : List ℕ) {img1 : List ℕ} (w : Wrote L img1 (behind UnmetCalls (left_bits L UnmetCalls (decode L img) Calls j k) (decode L img))) where
-  pub grants_room : RoomWithoutService L (decode L img) j k → RoomBehind WaitingGrants L (left_bits L WaitingGrants (decode L img1) Grants j k) (decode L img1)
-  grants_room r = subst (λ (z : Tables). RoomBehind WaitingGrants L (left_bits L WaitingGrants z Grants j k) z) (sym w.tables) (bits_room L WaitingGrants (decode L img) Grants j k r.1)
-
-  pub service_left : {img2 : List ℕ} → Wrote L img2 (behind WaitingGrants (left_bits L WaitingGrants (decode L img1) Grants j k) (decode L img1)) → Wrote L img2 (lists_without_service L (decode L img) j k)
-  service_left v = wrote_then L (λ z. behind WaitingGrants (left_bits L WaitingGrants z Grants j k) z) w v

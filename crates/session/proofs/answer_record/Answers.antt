@@ -3,4 +3,4 @@ use Rattle.session.proofs.Answered.{answered}
 use Rattle.session.proofs.answer_record.Goals as goal
 
 pub returns : goal.returns
-returns c = let both = answered _ _ c.judge-v.ensures c.record_line.ensures in record { printed = both.0; image_after = both.1 }
+returns c = let both = answered _ _ c.judge-v.ensures (rw (c.numbers-answer.ensures.0, c.numbers-answer.ensures.1) at c.record_line.ensures) in record { printed = both.0; image_after = both.1 }

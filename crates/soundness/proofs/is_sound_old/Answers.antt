@@ -2,8 +2,5 @@
 use Rattle.soundness.proofs.Agree.{old_sound_of}
 use Rattle.soundness.proofs.is_sound_old.Goals as goal
 
-pub sized_ok-requires : goal.sized_ok-requires
-sized_ok-requires c = c.old_size.ensures
-
 pub returns : goal.returns
-returns c = let a = c.args in old_sound_of a.img.now (λ k. (c.type_inv.img k).fits) c.old_size.ensures c.old_header.ensures c.sized_ok.ensures
+returns c = let a = c.args in old_sound_of a.img.now (λ k. (c.type_inv.img k).fits) c.old_size.ensures c.old_header.ensures c.check_ok.ensures

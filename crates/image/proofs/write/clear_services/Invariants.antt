@@ -1,5 +1,4 @@
 -- `image::write::clear_services` meets its contract. Assumes nothing.
-use Prim.Native.Nat.{◌≤◌}
 use Rattle.policy.specs.Tables.{decode}
 use Rattle.geometry.specs.Geometry.{layout_of}
 use Rattle.image.specs.Wrote.{Wrote}
@@ -7,4 +6,4 @@ use Rattle.image.proofs.Clears.{without_toks}
 use Rattle.image.proofs.write.clear_services.Given as goal
 
 abbrev pub invariant-loop-k : goal.invariant-loop-k
-invariant-loop-k l = (l.k ≤ l.size) × Wrote (layout_of l.c) l.img (without_toks l.n l.k (decode (layout_of l.c) l.initial.img))
+invariant-loop-k l = Wrote (layout_of l.c) l.img (without_toks l.n l.k (decode (layout_of l.c) l.initial.img))

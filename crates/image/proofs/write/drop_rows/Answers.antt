@@ -1,4 +1,4 @@
--- `image::write::drop_rows` meets its contract. Assumes nothing.
+-- `image::write::drop_rows` meets its contract.
 use Prim.Native.Nat.{◌-◌}
 use native.Mathlib.Omega.{arith}
 use Rattle.geometry.proofs.Bounds.{list_in}

@@ -1,19 +1,16 @@
--- `judging::checking::check_image` meets its contract. Assumes nothing.
+-- `judging::checking::check_image` meets its contract.
+use native.Mathlib.Omega.{arith}
 use Rattle.judging.proofs.Checked.{sound_size, count_low, passes, fails}
 use Rattle.judging.proofs.checking.check_image.Goals as goal
 
-pub count_used-n-requires : goal.count_used-n-requires
-count_used-n-requires c = let a = c.args in sound_size a.c a.img.now _ c.is_sound.ensures c.if-is_sound.true
+pub returns-then-not-is_sound : goal.returns-then-not-is_sound
+returns-then-not-is_sound c = fails c.args.c c.args.img.now _ c.is_sound.ensures c.if-not-is_sound.true
 
-pub accepted-requires : goal.accepted-requires
-accepted-requires c = let a = c.args in count_low a.c a.img.now _ c.count_used-n.ensures
+pub count_used-requires : goal.count_used-requires
+count_used-requires c = sound_size c.args.c c.args.img.now _ c.is_sound.ensures c.if-not-is_sound.false
 
-pub returns-then-is_sound : goal.returns-then-is_sound
-returns-then-is_sound c =
-    let a = c.args in
-    passes a.c a.img.now _ _ _ _ c.is_sound.ensures c.if-is_sound.true c.count_used-n.ensures c.accepted.ensures
+pub overflow_cast-result : goal.overflow_cast-result
+overflow_cast-result c = omega (arith, count_low c.args.c c.args.img.now _ c.count_used.ensures)
 
 pub returns : goal.returns
-returns c =
-    let a = c.args in
-    fails a.c a.img.now _ _ _ c.is_sound.ensures c.if-is_sound.false c.refused.ensures
+returns c = passes c.args.c c.args.img.now _ _ c.is_sound.ensures c.if-not-is_sound.false c.count_used.ensures

@@ -1,14 +1,10 @@
--- `links::plan::plan_row` meets its contract: each arm's plan is that of its kind. Assumes nothing.
+-- `links::plan::plan_row` meets its contract.
+use borrow.Author.Rules.{rules}
+use Rattle.links.proofs.Found.{call_refused}
 use Rattle.links.proofs.plan.plan_row.Goals as goal
 
-pub returns-in-AddCall : goal.returns-in-AddCall
-returns-in-AddCall c = rw c.in-AddCall.is c.plan_add_call.ensures
+pub returns-in_err-edit-in-AddCall-clause-is : goal.returns-in_err-edit-in-AddCall-clause-is
+returns-in_err-edit-in-AddCall-clause-is c = search (call_refused, rules)
 
-pub returns-in-RemoveCall : goal.returns-in-RemoveCall
-returns-in-RemoveCall c = rw c.in-RemoveCall.is c.plan_remove_call.ensures
-
-pub returns-in-AddGrant : goal.returns-in-AddGrant
-returns-in-AddGrant c = rw c.in-AddGrant.is c.plan_add_grant.ensures
-
-pub returns-in-RemoveGrant : goal.returns-in-RemoveGrant
-returns-in-RemoveGrant c = rw c.in-RemoveGrant.is c.plan_remove_grant.ensures
+pub returns-in_err-edit-in-RemoveCall-clause-is : goal.returns-in_err-edit-in-RemoveCall-clause-is
+returns-in_err-edit-in-RemoveCall-clause-is c = search (call_refused, rules)

@@ -1,24 +1,19 @@
--- `packages::conditions::caller_granted` meets its contract. Assumes nothing.
-use Rattle.policy.specs.Record.{a_row}
-use Rattle.policy.specs.Tables.{decode}
-use Rattle.geometry.specs.Geometry.{layout_of}
+-- `packages::conditions::caller_granted` meets its contract.
+use mathlib.Core.Path.{◌∙◌}
+use borrow.Author.Tests.{eq-eqb}
 use Rattle.geometry.proofs.Bounds.{limits}
-use Rattle.record.specs.Meaning.{items_in}
-use Rattle.packages.proofs.Checks.{seeks_none, kept_none, kept_by}
+use Rattle.image.specs.Image.{lay, tables}
+use Rattle.record.specs.Listed.{rows_of}
+use Rattle.packages.proofs.Checks.{kept_none, kept_by}
 use Rattle.packages.proofs.conditions.caller_granted.Goals as goal
 
 pub returns-then-kept-eq0 : goal.returns-then-kept-eq0
 returns-then-kept-eq0 c =
     let a = c.args in
-    let L = layout_of a.c in
-    seeks_none
-    (kept_none L (decode L a.img.now) (limits a.c).services_low (items_in a_row a.rec.now a.grants) a.n a.i a.dropped
-    c.entry-row.result c.others-kept.result c.entry-row.ensures c.others-kept.ensures c.if-kept-eq0.true)
-    c.requires.among
+    let z = c.if-kept-eq0.true in
+    (eq-eqb _ 0 z ∙ kept_none (lay a.img) (tables a.img) (limits a.img.card).services_low (rows_of a.grants) a.n a.i a.dropped c.entry.result c.others-kept.result c.entry.ensures c.others-kept.ensures z, c.requires.among)
 
-pub returns : goal.returns
-returns c =
+pub returns-else-kept-eq0 : goal.returns-else-kept-eq0
+returns-else-kept-eq0 c =
     let a = c.args in
-    let L = layout_of a.c in
-    kept_by L (decode L a.img.now) (limits a.c).services_low (items_in a_row a.rec.now a.grants) a.n a.i a.dropped
-    c.entry-row.result c.others-kept.result c.entry-row.ensures c.others-kept.ensures c.row_granted.ensures
+    (c.row_granted.ensures.0 ∙ kept_by (lay a.img) (tables a.img) (limits a.img.card).services_low (rows_of a.grants) a.n a.i a.dropped c.entry.result c.others-kept.result c.entry.ensures c.others-kept.ensures, c.row_granted.ensures.1)

@@ -1,20 +1,12 @@
--- `packages::conditions::may_call` meets its contract. Assumes nothing.
-use native.Mathlib.Omega.{arith}
-use Rattle.geometry.proofs.Bounds.{limits}
-use Rattle.packages.proofs.Checks.{checks}
+-- `packages::conditions::may_call` meets its contract.
+use mathlib.Core.Path.{◌∙◌}
+use Rattle.geometry.specs.Geometry.{tok_of}
+use Rattle.image.specs.Image.{lay, tables}
+use Rattle.packages.proofs.Checks.{may_bit}
 use Rattle.packages.proofs.conditions.may_call.Goals as goal
 
-pub awaited-m-requires : goal.awaited-m-requires
-awaited-m-requires c = search checks
-
-pub returns-then-due-m-ne0 : goal.returns-then-due-m-ne0
-returns-then-due-m-ne0 c = search checks
-
-pub entry-row-requires : goal.entry-row-requires
-entry-row-requires c = search checks
-
-pub has_bit-requires : goal.has_bit-requires
-has_bit-requires c = omega (arith, (limits c.args.c).services_low, c.requires.inside.2)
-
-pub returns : goal.returns
-returns c = search checks
+pub returns-else-due-awaited-ne0 : goal.returns-else-due-awaited-ne0
+returns-else-due-awaited-ne0 c =
+    let a = c.args in
+    may_bit (lay a.img) (tables a.img) a.due c.awaited.result a.n (tok_of a.t) (record { callee = a.p.callee; service = a.p.service })
+    c.awaited.ensures c.if-due-awaited-ne0.false _ _ (c.into.ensures ∙ c.entry.ensures) c.is_set.ensures c.requires.2

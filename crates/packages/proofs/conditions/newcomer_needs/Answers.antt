@@ -1,22 +1,9 @@
--- `packages::conditions::newcomer_needs` meets its contract. Assumes nothing.
-use native.Mathlib.Omega.{arith}
-use Rattle.record.proofs.Loops.{todo_start, todo_end, every_stop, every_next}
+-- `packages::conditions::newcomer_needs` meets its contract.
+use Rattle.std.proofs.Common.{rules}
+use Rattle.image.specs.Image.{lay, tables}
+use Rattle.changes.specs.Own.{served}
+use Rattle.record.proofs.Found.{all_is}
 use Rattle.packages.proofs.conditions.newcomer_needs.Goals as goal
 
-pub loop-todo-init : goal.loop-todo-init
-loop-todo-init c = todo_start c.requires.stands
-
-pub take_row-r-requires : goal.take_row-r-requires
-take_row-r-requires c = (c.loop-todo.invariant.stands, c.loop-todo-test.true)
-
-pub loop-todo-smaller : goal.loop-todo-smaller
-loop-todo-smaller c = omega (arith, c.take_row-r.ensures.split.fewer)
-
-pub loop-todo-preserved : goal.loop-todo-preserved
-loop-todo-preserved c = every_next _ c.take_row-r.ensures.split c.is_served.ensures c.loop-todo.invariant c.if-is_served.true
-
-pub returns-else-is_served : goal.returns-else-is_served
-returns-else-is_served c = every_stop _ c.take_row-r.ensures.split c.is_served.ensures c.loop-todo.invariant c.if-is_served.false
-
 pub returns : goal.returns
-returns c = todo_end c.loop-todo.invariant c.loop-todo-test.false
+returns c = let a = c.args in all_is (served (lay a.img) (tables a.img)) c.all.new.self c.all.ensures.ran (λ x b q k. search (rules, k))

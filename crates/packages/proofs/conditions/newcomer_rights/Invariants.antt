@@ -1,11 +1,14 @@
--- `packages::conditions::newcomer_rights` meets its contract. Assumes nothing.
-use Rattle.policy.specs.Tables.{decode}
-use Rattle.geometry.specs.Geometry.{layout_of}
-use Rattle.packages.proofs.Checks.{Tally}
+-- `packages::conditions::newcomer_rights` meets its contract: the calls to come decide.
+use Rattle.std.specs.Prelude.{◌≡◌, ◌+◌, not}
+use Rattle.policy.specs.ShortCheck.{count}
+use Rattle.image.specs.Image.{lay, tables}
+use Rattle.record.specs.Listed.{rows_of}
+use Rattle.changes.specs.Own.{served}
+use Rattle.packages.specs.Conditions.{own_granted}
 use Rattle.packages.proofs.conditions.newcomer_rights.Given as goal
 
-abbrev pub invariant-loop-todo : goal.invariant-loop-todo
-invariant-loop-todo l = Tally (layout_of l.c) (decode (layout_of l.c) l.img) l.due l.n l.rec l.initial.todo l.todo l.unserved
-
-abbrev pub decreases-loop-todo : goal.decreases-loop-todo
-decreases-loop-todo l = l.todo.count
+abbrev pub invariant-loop-r : goal.invariant-loop-r
+invariant-loop-r l = record {
+  granted : own_granted (lay l.img) (tables l.img) l.due l.n (rows_of l.r-iterator) ≡ own_granted (lay l.img) (tables l.img) l.due l.n (rows_of l.calls);
+  counted : l.unserved + count (λ x. not (served (lay l.img) (tables l.img) x)) (rows_of l.r-iterator) ≡ count (λ x. not (served (lay l.img) (tables l.img) x)) (rows_of l.calls);
+}

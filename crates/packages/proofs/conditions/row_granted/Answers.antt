@@ -1,28 +1,16 @@
--- `packages::conditions::row_granted` meets its contract. Assumes nothing.
+-- `packages::conditions::row_granted` meets its contract: those so far are granted, and the search goes on among the grants.
 use native.Mathlib.Omega.{arith}
-use Rattle.packages.proofs.Checks.{seekings}
+use mathlib.Core.Path.{ap}
+use mathlib.Core.Bool.{not}
+use Rattle.image.specs.Image.{lay}
+use Rattle.bits.proofs.Loops.{every_more, every_fails, every_done}
 use Rattle.packages.proofs.conditions.row_granted.Goals as goal
 
-pub services-size-requires : goal.services-size-requires
-services-size-requires c = search seekings
-
-pub loop-k-init : goal.loop-k-init
-loop-k-init c = search seekings
-
-pub service_granted-s-requires : goal.service_granted-s-requires
-service_granted-s-requires c = record { laid = c.requires.laid; inside = (c.requires.inside.0, c.requires.inside.1, omega (arith, c.loop-k-test.true, c.services-size.ensures)); stands = c.requires.stands; among = c.loop-k.invariant.rest }
-
-pub returns-then-not-s : goal.returns-then-not-s
-returns-then-not-s c = search seekings
-
-pub overflow_step-k : goal.overflow_step-k
-overflow_step-k c = search seekings
-
-pub loop-k-smaller : goal.loop-k-smaller
-loop-k-smaller c = search seekings
+pub returns-then-not-service_granted : goal.returns-then-not-service_granted
+returns-then-not-service_granted c = (every_fails _ (lay c.args.img).services c.loop-k.k c.service_granted.ensures.0 (ap not c.if-not-service_granted.true) (omega arith), c.service_granted.ensures.1)
 
 pub loop-k-preserved : goal.loop-k-preserved
-loop-k-preserved c = search seekings
+loop-k-preserved c = record { granted = every_more _ c.loop-k.k c.loop-k.invariant.granted c.service_granted.ensures.0 (ap not c.if-not-service_granted.false); among = c.service_granted.ensures.1 }
 
 pub returns : goal.returns
-returns c = search seekings
+returns c = (every_done _ _ c.loop-k.k c.loop-k.invariant.granted (omega arith), c.loop-k.invariant.among)

@@ -1,12 +1,14 @@
--- `packages::conditions::row_granted` meets its contract. Assumes nothing.
-use Rattle.policy.specs.Lists.{implies}
-use Rattle.policy.specs.Record.{a_row}
-use Rattle.policy.specs.Tables.{bit, decode}
-use Rattle.geometry.specs.Geometry.{layout_of}
-use Rattle.record.specs.Meaning.{items_in}
-use Rattle.packages.specs.Conditions.{granted_to}
-use Rattle.packages.proofs.Checks.{Seeking}
+-- `packages::conditions::row_granted` meets its contract: those so far are granted, and the search goes on among the grants.
+use Rattle.std.specs.Prelude.{◌≡◌, true}
+use Rattle.policy.specs.Lists.{every, upto}
+use Rattle.policy.specs.Tables.{bit}
+use Rattle.image.specs.Image.{lay, tables}
+use Rattle.record.specs.Listed.{rows_of, Among}
+use Rattle.packages.specs.Conditions.{service_granted}
 use Rattle.packages.proofs.conditions.row_granted.Given as goal
 
 abbrev pub invariant-loop-k : goal.invariant-loop-k
-invariant-loop-k l = Seeking l.rec l.grants (λ z. implies (bit l.row z) (granted_to (layout_of l.c) (decode (layout_of l.c) l.img) (items_in a_row l.rec l.grants) l.i ((decode (layout_of l.c) l.img).tok l.n z))) l.size l.k l.rest
+invariant-loop-k l = record {
+  granted : every (service_granted (lay l.img) (tables l.img) (rows_of l.grants) l.n l.i (bit l.row)) (upto l.k) ≡ true;
+  among : Among l.grants l.from;
+}

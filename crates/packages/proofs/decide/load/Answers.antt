@@ -1,30 +1,27 @@
--- `packages::decide::load` meets its contract. Assumes nothing.
-use native.Mathlib.Omega.{arith}
-use mathlib.Core.Path.{refl}
+-- `packages::decide::load` meets its contract.
+use mathlib.Core.Path.{◌≡◌, sym, ◌∙◌}
+use Rattle.std.proofs.Common.{rules, Err}
 use Rattle.geometry.proofs.Bounds.{limits}
-use Rattle.image.proofs.Laid.{sound_laid}
-use Rattle.packages.proofs.Loaded.Decided.{decides_4, decides_7, decides_late}
+use Rattle.image.proofs.LaidImage.{found_none, found_some}
+use Rattle.changes.proofs.Tests.{found_is}
+use Rattle.packages.proofs.Loaded.Decided.{decides_4, decides_7, decides_late, loads}
 use Rattle.packages.proofs.decide.load.Goals as goal
 
-pub find_package-old-requires : goal.find_package-old-requires
-find_package-old-requires c = sound_laid _ c.requires.asked.is_sound
+pub returns-then-is_some : goal.returns-then-is_some
+returns-then-is_some c = decides_4 _ _ _ c.requires (sym (found_is _ c.find_package.ensures.is) ∙ sym c.is_some.ensures ∙ c.if-is_some.true)
 
-pub returns-then-old-n : goal.returns-then-old-n
-returns-then-old-n c = decides_4 _ _ _ c.requires.asked _ _ c.packages-n.ensures c.find_package-old.ensures _ c.if-old-n.true c.refused.ensures
+pub returns-in_default : goal.returns-in_default
+returns-in_default c =
+    let gone = sym (found_is _ c.find_package.ensures.is) ∙ sym c.is_some.ensures ∙ c.if-is_some.false in
+    decides_7 _ _ _ c.requires gone (found_none _ _ c.free_number.ensures.is c.in_default.is)
 
-pub free_number-at-requires : goal.free_number-at-requires
-free_number-at-requires c = sound_laid _ c.requires.asked.is_sound
-
-pub returns-then-at-n : goal.returns-then-at-n
-returns-then-at-n c = decides_7 _ _ _ c.requires.asked _ _ c.packages-n.ensures c.find_package-old.ensures _ c.if-old-n.false _ c.free_number-at.ensures c.if-at-n.true c.refused-then-at-n.ensures
-
-pub newcomer-bring-requires : goal.newcomer-bring-requires
-newcomer-bring-requires c = record { sound = c.requires.asked.is_sound; stands = c.requires.stands }
-
-pub cause-number-requires : goal.cause-number-requires
-cause-number-requires c = record { sound = c.requires.asked.is_sound; inside = omega (arith, c.newcomer-bring.ensures.at_is, c.if-at-n.false, c.packages-n.ensures); stands = c.requires.stands }
+pub returns-in_err-cause : goal.returns-in_err-cause
+returns-in_err-cause c =
+    let gone = sym (found_is _ c.find_package.ensures.is) ∙ sym c.is_some.ensures ∙ c.if-is_some.false in
+    let e : c.from_residual.result ≡ Err c.in_err-cause.field-0.0 = search rules in
+    rw e (decides_late _ _ _ c.requires gone (limits c.args.img.card).capacity_low (found_some _ _ c.free_number.ensures.is c.in-Some.is) c.newcomer-b.ensures _ (c.cause.ensures c.args.own.now) c.in_err-cause.was)
 
 pub returns : goal.returns
 returns c =
-    decides_late _ _ _ c.requires.asked _ _ c.packages-n.ensures c.find_package-old.ensures _ c.if-old-n.false _ c.free_number-at.ensures (limits c.args.c).capacity_low c.if-at-n.false
-    _ c.newcomer-bring.ensures refl (c.cause-number.ensures c.args.aid.now)
+    let gone = sym (found_is _ c.find_package.ensures.is) ∙ sym c.is_some.ensures ∙ c.if-is_some.false in
+    loads _ _ _ c.requires gone (limits c.args.img.card).capacity_low (found_some _ _ c.free_number.ensures.is c.in-Some.is) c.newcomer-b.ensures _ (c.cause.ensures c.args.own.now) c.in_ok-cause.was

@@ -1,27 +1,19 @@
--- `packages::decide::waiters_fit` meets its contract. Assumes nothing.
-use native.Mathlib.Omega.{arith}
-use Rattle.record.proofs.Loops.{todo_start}
-use Rattle.changes.proofs.ItemRoom.{room_stop, room_next, room_end}
+-- `packages::decide::waiters_fit` meets its contract.
+use mathlib.Core.Path.{ap}
+use mathlib.Core.Bool.{not}
+use Rattle.std.proofs.Common.{rules}
+use Rattle.std.proofs.lemmas.Iterator.Consumers.{YieldsList-from_first, YieldsList-from_filter}
+use Rattle.policy.specs.Contract.{Row}
+use Rattle.image.specs.Image.{lay, tables}
+use Rattle.record.specs.Listed.{row_of, toks_of, rows_of}
+use Rattle.packages.specs.Decides.{both_there}
+use Rattle.packages.proofs.Checks.{none_after}
 use Rattle.packages.proofs.decide.waiters_fit.Goals as goal
 
-pub loop-todo-init : goal.loop-todo-init
-loop-todo-init c = todo_start c.requires.stands
-
-pub take_row-r-requires : goal.take_row-r-requires
-take_row-r-requires c = (c.loop-todo.invariant.stands, c.loop-todo-test.true)
-
-pub returns-then-left-new : goal.returns-then-left-new
-returns-then-left-new c =
-    let l = c.loop-todo in
-    room_stop _ l.left c.take_row-r.ensures.split c.waits-new.ensures l.invariant c.if-left-new.true
-
-pub loop-todo-smaller : goal.loop-todo-smaller
-loop-todo-smaller c = omega (arith, c.take_row-r.ensures.split.fewer)
-
-pub loop-todo-preserved : goal.loop-todo-preserved
-loop-todo-preserved c =
-    let l = c.loop-todo in
-    room_next _ l.left c.take_row-r.ensures.split c.waits-new.ensures l.invariant c.if-left-new.false
-
 pub returns : goal.returns
-returns c = let l = c.loop-todo in room_end _ l.left l.invariant c.loop-todo-test.false
+returns c =
+    let a = c.args in
+    let test = λ (x : Row). not (both_there (lay a.img) (tables a.img) (toks_of a.provides) x) in
+    none_after {v = row_of} {s = c.filter.result} test (rows_of a.grants) c.nth.result c.nth.new.self a.room c.nth.ensures.ran
+    (YieldsList-from_filter _ test (YieldsList-from_first row_of rows_of (rows_of a.grants) (ap rows_of c.filter.ensures.source)) c.filter.ensures.closure (λ x b q k. search (rules, k)))
+    c.is_none.ensures

@@ -3,13 +3,13 @@ use Rattle.geometry.specs.Geometry.{layout_of}
 use Rattle.packages.proofs.Removed.Rows.{own_dropped, left_room, list_left}
 use Rattle.packages.proofs.removal.leave_list.Goals as goal
 
-pub leave_rows-requires : goal.leave_rows-requires
-leave_rows-requires c =
+pub leave_rows-requires-clause-room : goal.leave_rows-requires-clause-room
+leave_rows-requires-clause-room c =
     let mask = c.with_number-own in
     let a = c.args in
     let L = layout_of a.c in
     let w = own_dropped L a.l a.tb a.aid.now a.n a.img.now mask.result mask.ensures c.drop_rows.ensures in
-    record { laid = w.laid; inside = c.requires.inside; short = c.requires.short; room = left_room L a.l a.tb a.aid.now a.n a.img.now c.requires.room w }
+    left_room L a.l a.tb a.aid.now a.n a.img.now c.requires.room w
 
 pub returns : goal.returns
 returns c =

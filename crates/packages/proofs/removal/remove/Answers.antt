@@ -1,46 +1,24 @@
--- `packages::removal::remove` meets its contract. Assumes nothing.
-use Rattle.packages.proofs.Removed.Outcome.{removed_room}
-use Rattle.packages.proofs.Removed.Outcome.{removal}
+-- `packages::removal::remove` meets its contract.
+use mathlib.Core.Path.{◌≡◌}
+use Rattle.std.proofs.Common.{rules, Err}
+use Rattle.image.proofs.LaidImage.{laid_on, found_none, found_some}
+use Rattle.changes.proofs.Verdicts.{asked_laid}
+use Rattle.packages.proofs.Removed.Outcome.{remove_absent, remove_refused, removed_room, remove_done}
 use Rattle.packages.proofs.removal.remove.Goals as goal
 
-pub find_package-n-requires : goal.find_package-n-requires
-find_package-n-requires c = search removal
+pub invariant_of-view : goal.invariant_of-view
+invariant_of-view c = record { laid = laid_on c.args.c (asked_laid _ _ _ c.requires) }
 
-pub packages-most-requires : goal.packages-most-requires
-packages-most-requires c = search removal
+pub returns-in_default : goal.returns-in_default
+returns-in_default c = remove_absent _ _ _ (found_none _ _ c.find_package.ensures.is c.in_default.is)
 
-pub refused-requires : goal.refused-requires
-refused-requires c = search removal
+pub returns-in_err-remove_cause : goal.returns-in_err-remove_cause
+returns-in_err-remove_cause c =
+    let e : c.from_residual.result ≡ Err c.in_err-remove_cause.field-0.0 = search rules in
+    rw e (remove_refused _ _ _ c.requires (found_some _ _ c.find_package.ensures.is c.in-Some.is) _ c.remove_cause.ensures c.in_err-remove_cause.was)
 
-pub shape_of-img-then-n-most : goal.shape_of-img-then-n-most
-shape_of-img-then-n-most c = search removal
-
-pub returns-then-n-most : goal.returns-then-n-most
-returns-then-n-most c = search removal
-
-pub remove_cause-cause-requires : goal.remove_cause-cause-requires
-remove_cause-cause-requires c = search removal
-
-pub refused-requires-then-cause-ne0 : goal.refused-requires-then-cause-ne0
-refused-requires-then-cause-ne0 c = search removal
-
-pub shape_of-img-then-cause-ne0 : goal.shape_of-img-then-cause-ne0
-shape_of-img-then-cause-ne0 c = search removal
-
-pub returns-then-cause-ne0 : goal.returns-then-cause-ne0
-returns-then-cause-ne0 c = search removal
-
-pub leave_lists-requires : goal.leave_lists-requires
-leave_lists-requires c = record { laid = search removal; inside = search removal; short = search removal; room = search (removed_room, c.remove_cause-cause.ensures, c.if-cause-ne0.false) }
-
-pub clear_package-requires : goal.clear_package-requires
-clear_package-requires c = record { laid = c.leave_lists.ensures.laid; inside = search removal }
-
-pub accepted-requires : goal.accepted-requires
-accepted-requires c = search removal
-
-pub shape_of-img : goal.shape_of-img
-shape_of-img c = search removal
+pub leave_lists-requires-clause-room : goal.leave_lists-requires-clause-room
+leave_lists-requires-clause-room c = removed_room _ _ _ c.requires (found_some _ _ c.find_package.ensures.is c.in-Some.is) _ c.remove_cause.ensures c.in_ok-remove_cause.was
 
 pub returns : goal.returns
-returns c = search removal
+returns c = remove_done _ _ _ c.requires (found_some _ _ c.find_package.ensures.is c.in-Some.is) _ c.remove_cause.ensures c.in_ok-remove_cause.was c.leave_lists.ensures c.clear_package.ensures

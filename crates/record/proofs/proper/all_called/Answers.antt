@@ -1,26 +1,16 @@
 -- `record::proper::all_called` meets its contract: the rows to come decide, and the search goes on among the calls.
-use native.Mathlib.Omega.{arith}
-use borrow.Author.Tests.{not-true, not-false}
-use Rattle.record.proofs.Loops.{todo_start, todo_end, every_stop, every_next, among_all}
+use Rattle.std.proofs.Common.{rules}
+use Rattle.policy.specs.Contract.{eq_row}
+use Rattle.record.specs.Listed.{row_of}
+use Rattle.record.proofs.Found.{every_stop, every_next}
 use Rattle.record.proofs.proper.all_called.Goals as goal
 
-pub loop-todo-init : goal.loop-todo-init
-loop-todo-init c = (todo_start c.requires.0, among_all c.requires.1)
+pub returns-then-not-seek : goal.returns-then-not-seek
+returns-then-not-seek c =
+    let s = c.seek.ensures (eq_row (row_of c.in-Some.need)) (λ r b k. search rules) c.loop-need.invariant.1 in
+    every_stop _ c.loop-need.invariant.0 c.in-Some.ensures.steps s.0 c.if-not-seek.true
 
-pub take_row-r-requires : goal.take_row-r-requires
-take_row-r-requires c = (c.loop-todo.invariant.0.stands, c.loop-todo-test.true)
-
-pub seek_from-s-requires : goal.seek_from-s-requires
-seek_from-s-requires c = (c.take_row-r.ensures.other, c.requires.1, c.loop-todo.invariant.1)
-
-pub returns-then-not-s : goal.returns-then-not-s
-returns-then-not-s c = every_stop _ c.take_row-r.ensures.split c.seek_from-s.ensures.found c.loop-todo.invariant.0 (not-true _ c.if-not-s.true)
-
-pub loop-todo-smaller : goal.loop-todo-smaller
-loop-todo-smaller c = omega (arith, c.take_row-r.ensures.split.fewer)
-
-pub loop-todo-preserved : goal.loop-todo-preserved
-loop-todo-preserved c = (every_next _ c.take_row-r.ensures.split c.seek_from-s.ensures.found c.loop-todo.invariant.0 (not-false _ c.if-not-s.false), c.seek_from-s.ensures.rest)
-
-pub returns : goal.returns
-returns c = todo_end c.loop-todo.invariant.0 c.loop-todo-test.false
+pub loop-need-preserved : goal.loop-need-preserved
+loop-need-preserved c =
+    let s = c.seek.ensures (eq_row (row_of c.in-Some.need)) (λ r b k. search rules) c.loop-need.invariant.1 in
+    (every_next _ c.loop-need.invariant.0 c.in-Some.ensures.steps s.0 c.if-not-seek.false, s.1)

@@ -1,12 +1,9 @@
--- `record::proper::callers_proper` meets its contract: the things to come decide.
+-- `record::proper::callers_proper` meets its contract: the callers to come decide.
+use Rattle.std.specs.Prelude.{◌≡◌}
 use Rattle.policy.specs.Contract.{eq_aid}
-use Rattle.policy.specs.Record.{aid}
-use Rattle.record.proofs.Loops.{Left}
-use Rattle.record.proofs.Improper.{own_aid, others}
+use Rattle.record.specs.Listed.{aids_of}
+use Rattle.record.proofs.Others.{own_aid, others}
 use Rattle.record.proofs.proper.callers_proper.Given as goal
 
-abbrev pub invariant-loop-todo : goal.invariant-loop-todo
-invariant-loop-todo l = Left aid l.rec (others (own_aid l.own) eq_aid) l.initial.todo l.todo
-
-abbrev pub decreases-loop-todo : goal.decreases-loop-todo
-decreases-loop-todo l = l.todo.count
+abbrev pub invariant-loop-a : goal.invariant-loop-a
+invariant-loop-a l = others (own_aid l.own) eq_aid (aids_of l.todo) ≡ others (own_aid l.own) eq_aid (aids_of l.of)

@@ -1,30 +1,49 @@
 -- `record::proper::contract_proper` meets its contract: the answers so far decide.
-use mathlib.Core.Bool.{not}
-use mathlib.Core.Path.{ap, refl}
-use Rattle.record.proofs.Improper.{stop_1, stop_2, stop_3, stop_4, last_decides}
+use mathlib.Core.Path.{◌≡◌, refl, ◌∙◌}
+use Rattle.std.specs.Prelude.{◌&&◌}
+use Rattle.policy.specs.Lists.{distinct}
+use Rattle.policy.specs.Contract.{eq_tok}
+use Rattle.record.specs.Listed.{toks_of, rows_of}
+use Rattle.record.proofs.Others.{rows, and_yes, and_no, contract_form}
+use Rattle.record.proofs.proper.contract_proper.Goals.{then-tokens_once, else-tokens_once, then-rows_proper, else-rows_proper, then-rows_proper-2, else-rows_proper-2}
 use Rattle.record.proofs.proper.contract_proper.Goals as goal
 
-pub returns-then-not-tokens_proper : goal.returns-then-not-tokens_proper
-returns-then-not-tokens_proper c = λ k w. stop_1 _ _ _ _ _ _ _ _ _ _ c.tokens_proper.ensures refl refl refl refl k w (ap not c.if-not-tokens_proper.true)
+pub returns-then-rows_proper-3 : goal.returns-then-rows_proper-3
+returns-then-rows_proper-3 c k w =
+    let l = c.args.l in
+    let R = rows c.args.own.now in
+    let P = distinct eq_tok (toks_of l.provides) in
+    let v1 : c.if-tokens_once.value ≡ (P && R (rows_of l.calls)) = elim c.if-tokens_once.branch [
+      | then-tokens_once w ↦ and_yes c.tokens_once.ensures w.if-tokens_once.true (w.value-is ∙ w.rows_proper.ensures)
+      | else-tokens_once w ↦ and_no c.tokens_once.ensures _ w.if-tokens_once.false w.value-is
+    ] in
+    let v2 : c.if-rows_proper.value ≡ ((P && R (rows_of l.calls)) && R (rows_of l.grants)) = elim c.if-rows_proper.branch [
+      | then-rows_proper w ↦ and_yes v1 w.if-rows_proper.true (w.value-is ∙ w.rows_proper-then-rows_proper.ensures)
+      | else-rows_proper w ↦ and_no v1 _ w.if-rows_proper.false w.value-is
+    ] in
+    let v3 : c.if-rows_proper-2.value ≡ (((P && R (rows_of l.calls)) && R (rows_of l.grants)) && R (rows_of l.needs)) = elim c.if-rows_proper-2.branch [
+      | then-rows_proper-2 w ↦ and_yes v2 w.if-rows_proper-2.true (w.value-is ∙ w.rows_proper-then-rows_proper-2.ensures)
+      | else-rows_proper-2 w ↦ and_no v2 _ w.if-rows_proper-2.false w.value-is
+    ] in
+    let all = contract_form c.args.own.now (toks_of l.provides) (rows_of l.calls) (rows_of l.grants) (rows_of l.needs) k w in
+    and_yes v3 c.if-rows_proper-3.true c.all_called.ensures ∙ all
 
-pub returns-then-not-rows_proper : goal.returns-then-not-rows_proper
-returns-then-not-rows_proper c =
-    λ k w.
-    stop_2 _ _ _ _ _ _ _ _ _ _ c.tokens_proper.ensures c.rows_proper.ensures refl refl refl k w (ap not c.if-not-tokens_proper.false) (ap not c.if-not-rows_proper.true)
-
-pub returns-then-not-rows_proper-2 : goal.returns-then-not-rows_proper-2
-returns-then-not-rows_proper-2 c =
-    λ k w.
-    stop_3 _ _ _ _ _ _ _ _ _ _ c.tokens_proper.ensures c.rows_proper.ensures c.rows_proper-2.ensures refl refl k w (ap not c.if-not-tokens_proper.false) (ap not c.if-not-rows_proper.false) (ap not c.if-not-rows_proper-2.true)
-
-pub returns-then-not-rows_proper-3 : goal.returns-then-not-rows_proper-3
-returns-then-not-rows_proper-3 c =
-    λ k w.
-    stop_4 _ _ _ _ _ _ _ _ _ _ c.tokens_proper.ensures c.rows_proper.ensures c.rows_proper-2.ensures c.rows_proper-3.ensures refl k w
-    (ap not c.if-not-tokens_proper.false) (ap not c.if-not-rows_proper.false) (ap not c.if-not-rows_proper-2.false) (ap not c.if-not-rows_proper-3.true)
-
-pub returns : goal.returns
-returns c =
-    λ k w.
-    last_decides _ _ _ _ _ _ _ _ _ _ c.tokens_proper.ensures c.rows_proper.ensures c.rows_proper-2.ensures c.rows_proper-3.ensures c.all_called.ensures k w
-    (ap not c.if-not-tokens_proper.false) (ap not c.if-not-rows_proper.false) (ap not c.if-not-rows_proper-2.false) (ap not c.if-not-rows_proper-3.false)
+pub returns-else-rows_proper-3 : goal.returns-else-rows_proper-3
+returns-else-rows_proper-3 c k w =
+    let l = c.args.l in
+    let R = rows c.args.own.now in
+    let P = distinct eq_tok (toks_of l.provides) in
+    let v1 : c.if-tokens_once.value ≡ (P && R (rows_of l.calls)) = elim c.if-tokens_once.branch [
+      | then-tokens_once w ↦ and_yes c.tokens_once.ensures w.if-tokens_once.true (w.value-is ∙ w.rows_proper.ensures)
+      | else-tokens_once w ↦ and_no c.tokens_once.ensures _ w.if-tokens_once.false w.value-is
+    ] in
+    let v2 : c.if-rows_proper.value ≡ ((P && R (rows_of l.calls)) && R (rows_of l.grants)) = elim c.if-rows_proper.branch [
+      | then-rows_proper w ↦ and_yes v1 w.if-rows_proper.true (w.value-is ∙ w.rows_proper-then-rows_proper.ensures)
+      | else-rows_proper w ↦ and_no v1 _ w.if-rows_proper.false w.value-is
+    ] in
+    let v3 : c.if-rows_proper-2.value ≡ (((P && R (rows_of l.calls)) && R (rows_of l.grants)) && R (rows_of l.needs)) = elim c.if-rows_proper-2.branch [
+      | then-rows_proper-2 w ↦ and_yes v2 w.if-rows_proper-2.true (w.value-is ∙ w.rows_proper-then-rows_proper-2.ensures)
+      | else-rows_proper-2 w ↦ and_no v2 _ w.if-rows_proper-2.false w.value-is
+    ] in
+    let all = contract_form c.args.own.now (toks_of l.provides) (rows_of l.calls) (rows_of l.grants) (rows_of l.needs) k w in
+    and_no v3 _ c.if-rows_proper-3.false refl ∙ all

@@ -9,4 +9,4 @@ pub returns : goal.returns
 unfolding marked with_mark
 returns c =
     let a = c.args in
-    (c.has_mark.ensures, ap (λ (w : ℕ). set a.seen.now (a.h / 64) w) c.with_mark.ensures)
+    (c.is_set.ensures, ap (λ (w : ℕ). set a.seen.now (a.h / 64) w) c.with_mark.ensures)

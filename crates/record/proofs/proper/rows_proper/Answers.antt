@@ -1,41 +1,28 @@
--- `record::proper::rows_proper` meets its contract: the rows so far are sifted.
+-- `record::proper::rows_proper` meets its contract: the rows before are sifted.
 use native.Mathlib.Omega.{arith}
-use Rattle.record.proofs.Taken.{before_stands}
-use Rattle.record.proofs.Marks.{sifting_start, sifting_own, sifting_twice, sifting_next, sifting_end}
+use mathlib.Core.Logic.{inl}
+use Rattle.record.proofs.Sifting.{rows_low, sifting_own, sifting_twice, sifting_next, sifting_end}
 use Rattle.record.proofs.proper.rows_proper.Goals as goal
 
-pub loop-todo-init : goal.loop-todo-init
-loop-todo-init c = sifting_start c.requires
+-- as many rows as fit in the part
+pub loop-k-init-derived : goal.loop-k-init-derived
+loop-k-init-derived c =
+    let of = c.args.of in
+    let l = rows_low of.left of.part.now of.good in
+    ((tt, tt, inl (rw (c.into_iter-k-iterator.ensures.into_iter_gives, c.enumerate-k-items.ensures.source, c.enumerate-k-items.ensures.count) (omega (arith, l, c.ranges.of)))), tt)
 
-pub overflow_sub-count : goal.overflow_sub-count
-overflow_sub-count c = omega (arith, c.loop-todo.invariant.parts.fewer)
-
-pub take_row-r-requires : goal.take_row-r-requires
-take_row-r-requires c = (c.loop-todo.invariant.parts.stands, c.loop-todo-test.true)
-
-pub aid_is-requires : goal.aid_is-requires
-aid_is-requires c = c.take_row-r.ensures.other
-
-pub returns-then-aid_is : goal.returns-then-aid_is
-returns-then-aid_is c =
-    let l = c.loop-todo in
-    sifting_own l.invariant c.take_row-r.ensures.split c.aid_is.ensures c.if-aid_is.true
-
-pub repeats-requires : goal.repeats-requires
-repeats-requires c = (c.take_row-r.ensures.other, before_stands c.loop-todo.invariant.parts)
+pub returns-then-same_bytes : goal.returns-then-same_bytes
+returns-then-same_bytes c = sifting_own c.loop-k.invariant c.in-Some.ensures.steps.0 c.same_bytes.ensures c.if-same_bytes.true
 
 pub returns-then-repeats : goal.returns-then-repeats
 returns-then-repeats c =
-    let l = c.loop-todo in
-    sifting_twice l.invariant c.take_row-r.ensures.split c.aid_is.ensures c.repeats.ensures c.if-repeats.true
+    let g = rw c.in-Some.ensures.steps.1 at c.repeats.ensures in
+    sifting_twice c.loop-k.invariant c.in-Some.ensures.steps.0 c.same_bytes.ensures g c.if-repeats.true
 
-pub loop-todo-smaller : goal.loop-todo-smaller
-loop-todo-smaller c = omega (arith, c.take_row-r.ensures.split.fewer)
-
-pub loop-todo-preserved : goal.loop-todo-preserved
-loop-todo-preserved c =
-    let l = c.loop-todo in
-    sifting_next l.invariant c.take_row-r.ensures.split c.aid_is.ensures c.repeats.ensures c.if-aid_is.false c.if-repeats.false
+pub loop-k-preserved : goal.loop-k-preserved
+loop-k-preserved c =
+    let g = rw c.in-Some.ensures.steps.1 at c.repeats.ensures in
+    rw c.in-Some.ensures.steps.2 (sifting_next c.loop-k.invariant c.in-Some.ensures.steps.0 c.same_bytes.ensures g c.if-same_bytes.false c.if-repeats.false)
 
 pub returns : goal.returns
-returns c = sifting_end c.loop-todo.invariant c.loop-todo-test.false
+returns c = sifting_end c.loop-k.invariant c.in-None.ensures.steps.0.0

@@ -1,9 +1,7 @@
--- `record::proper::rows_proper` meets its contract: the rows so far are sifted.
-use Rattle.record.proofs.Marks.{Sifting}
+-- `record::proper::rows_proper` meets its contract: the rows before are sifted.
+use Rattle.record.specs.Listed.{rows_of}
+use Rattle.record.proofs.Sifting.{Sifting}
 use Rattle.record.proofs.proper.rows_proper.Given as goal
 
-abbrev pub invariant-loop-todo : goal.invariant-loop-todo
-invariant-loop-todo l = Sifting l.own l.rec l.of l.todo l.seen
-
-abbrev pub decreases-loop-todo : goal.decreases-loop-todo
-decreases-loop-todo l = l.todo.count
+abbrev pub invariant-loop-k : goal.invariant-loop-k
+invariant-loop-k l = Sifting l.own (rows_of l.of) (rows_of l.k-iterator.iter) l.k-iterator.count l.seen

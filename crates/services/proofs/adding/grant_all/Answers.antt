@@ -1,49 +1,35 @@
 -- `services::adding::grant_all` meets its contract. Assumes nothing.
 use Prim.Native.Nat.{ℕ, ◌+◌, ◌≤◌}
-use native.Mathlib.Omega.{arith}
-use mathlib.Core.Path.{refl, sym, subst}
+use mathlib.Core.Path.{sym, subst}
 use lib.ListN.{length}
-use borrow.Author.Rules.{rules}
-use Rattle.policy.specs.Record.{aid}
 use Rattle.policy.specs.Tables.{decode}
 use Rattle.policy.specs.ShortCheck.{count}
 use Rattle.geometry.specs.Geometry.{layout_of, tok_of}
 use Rattle.image.specs.Wrote.{Wrote}
-use Rattle.record.specs.Meaning.{items_in}
+use Rattle.record.specs.Listed.{aids_of}
 use Rattle.services.specs.Adding.{of_service, is_lone, granted_to_each}
 use Rattle.changes.proofs.MaskedRows.{mask_past}
-use Rattle.changes.proofs.ItemLoops.{turning_start, turning_here, turning_next, turning_end}
+use Rattle.changes.proofs.ListLoops.{turning_start, turning_here, turning_next, turning_end}
 use Rattle.services.proofs.adding.grant_all.Goals as goal
 
-pub loop-todo-init : goal.loop-todo-init
-loop-todo-init c =
+pub loop-a-init : goal.loop-a-init
+loop-a-init c =
     let a = c.args in
     let L = layout_of a.c in
     let t = decode L a.img.now in
     let e = c.with_service-still.ensures in
-    let room = subst (λ (m : ℕ). length t.waiting + count (is_lone L m t) (items_in aid a.rec.now a.callers) ≤ L.capacity) (sym e) c.requires.room in
-    (turning_start _ c.requires.laid c.requires.stands (room, mask_past (of_service a.j (tok_of a.t)) t.waiting _ e), refl)
+    let room = subst (λ (m : ℕ). length t.waiting + count (is_lone L m t) (aids_of a.callers) ≤ L.capacity) (sym e) c.requires.room in
+    rw c.into_iter-a-iterator.ensures.into_iter_gives (turning_start _ c.requires.laid (room, mask_past (of_service a.s.provider (tok_of a.s.tokens)) t.waiting _ e))
 
-pub take_aid-r-requires : goal.take_aid-r-requires
-take_aid-r-requires c = (c.loop-todo.invariant.0.left.stands, c.loop-todo-test.true)
+pub grant-requires-clause-room : goal.grant-requires-clause-room
+grant-requires-clause-room c = turning_here _ c.loop-a.invariant c.in-Some.ensures.steps
 
-pub grant-requires : goal.grant-requires
-grant-requires c =
-    let e = c.take_aid-r.ensures in
-    record { laid = c.loop-todo.invariant.0.laid; fits = e.fits; numbers = c.requires.numbers; room = turning_here _ c.loop-todo.invariant.0 e.split }
-
-pub loop-todo-smaller : goal.loop-todo-smaller
-loop-todo-smaller c = omega (arith, c.take_aid-r.ensures.split.fewer)
-
-pub loop-todo-preserved : goal.loop-todo-preserved
-loop-todo-preserved c =
-    let e = c.take_aid-r.ensures in
-    let l = c.loop-todo in
-    (turning_next _ l.invariant.0 e.split c.grant.ensures, search rules)
+pub loop-a-preserved : goal.loop-a-preserved
+loop-a-preserved c = turning_next _ c.loop-a.invariant c.in-Some.ensures.steps c.grant.ensures
 
 pub returns : goal.returns
 returns c =
     let a = c.args in
     let L = layout_of a.c in
-    subst (λ (m : ℕ). Wrote L c.loop-todo.img (granted_to_each L m a.j a.k (tok_of a.t) (items_in aid a.rec.now a.callers) (decode L a.img.now))) c.with_service-still.ensures
-    (turning_end _ c.loop-todo.invariant.0 c.loop-todo-test.false)
+    subst (λ (m : ℕ). Wrote L c.loop-a.img (granted_to_each L m a.s.provider a.s.number (tok_of a.s.tokens) (aids_of a.callers) (decode L a.img.now))) c.with_service-still.ensures
+    (turning_end _ c.loop-a.invariant c.in-None.ensures.steps.0)

@@ -1,38 +1,25 @@
 -- `services::adding::is_due_to` meets its contract. Assumes nothing.
-use Prim.Native.Nat.{◌<◌}
-use native.Mathlib.Omega.{arith}
-use mathlib.Core.Path.{refl}
-use lib.Dec.{eqb}
-use lib.ListN.{length}
-use Rattle.policy.specs.Tables.{Waiting, decode}
-use Rattle.geometry.specs.Geometry.{layout_of}
-use Rattle.image.specs.Read.{waiting_row}
+use Rattle.std.proofs.Common.{rules, tests, ◌≡◌, ◌&&◌, ◌∙◌, ap, eqb, ℕ, Bool}
+use Rattle.std.specs.Prelude.{Some}
+use Rattle.std.specs.Option.{option_eq}
+use Rattle.policy.specs.Tables.{Waiting, bit}
+use Rattle.policy.specs.Lookup.{number_of}
+use Rattle.image.specs.Image.{lay, tables}
+use Rattle.image.specs.Read.{found, waiting_row}
 use Rattle.changes.specs.Joins.{holder}
-use Rattle.changes.proofs.MaskedRows.{some_stop, some_next, some_end}
+use Rattle.bits.proofs.Chains.{any_below}
+use Rattle.services.proofs.Added.Found.{held_same, named_row}
 use Rattle.services.proofs.adding.is_due_to.Goals as goal
-
-pub loop-r-init : goal.loop-r-init
-loop-r-init c = (omega arith, refl)
-
-pub row_to-requires : goal.row_to-requires
-row_to-requires c = record { laid = c.requires; inside = omega (arith, c.loop-r-test.true, c.count-size.ensures) }
-
-pub returns-then-row_to : goal.returns-then-row_to
-returns-then-row_to c =
-    let x = c.args in
-    let t = decode (layout_of x.c) x.img.now in
-    let h : c.loop-r.r < length t.waiting = omega (arith, c.loop-r-test.true, c.count-size.ensures) in
-    some_stop (λ (w : Waiting). eqb (holder (layout_of x.c) t w.caller) x.n) x.due t.waiting _ c.loop-r.r _ h c.loop-r.invariant.1 c.row_to.ensures c.if-row_to.true
-
-pub loop-r-preserved : goal.loop-r-preserved
-loop-r-preserved c =
-    let x = c.args in
-    let t = decode (layout_of x.c) x.img.now in
-    let h : c.loop-r.r < length t.waiting = omega (arith, c.loop-r-test.true, c.count-size.ensures) in
-    (omega arith, some_next (λ (w : Waiting). eqb (holder (layout_of x.c) t w.caller) x.n) x.due t.waiting _ c.loop-r.r _ h c.loop-r.invariant.1 c.row_to.ensures c.if-row_to.false)
 
 pub returns : goal.returns
 returns c =
-    let x = c.args in
-    let t = decode (layout_of x.c) x.img.now in
-    some_end (λ (w : Waiting). eqb (holder (layout_of x.c) t w.caller) x.n) x.due t.waiting (waiting_row t c.loop-r.r) c.loop-r.r (omega (arith, c.loop-r-test.false, c.count-size.ensures)) c.loop-r.invariant.1
+    let a = c.args in
+    let L = lay a.img in
+    let t = tables a.img in
+    let by = λ (w : Waiting). eqb (holder L t w.caller) a.n in
+    let test = λ (r : ℕ). bit a.due r && by (waiting_row t r) in
+    any_below c.count.result test c.any.new.self c.any.ensures.ran
+    (λ x b q k.
+    let h : b ≡ bit a.due x && option_eq eqb (found (number_of L t (waiting_row t x).caller)) (Some a.n) = search (rules, tests, k) in
+    (search (rules, k), h ∙ ap (λ (v : Bool). bit a.due x && v) (held_same L.packages a.n (number_of L t (waiting_row t x).caller) c.requires)))
+    ∙ named_row _ by a.due t.waiting c.count.ensures

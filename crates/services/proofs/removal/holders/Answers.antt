@@ -1,40 +1,33 @@
 -- `services::removal::holders` meets its contract. Assumes nothing.
 use native.Mathlib.Omega.{arith}
-use mathlib.Core.Path.{◌∙◌}
-use Rattle.policy.specs.Tables.{decode}
+use Rattle.std.proofs.Common.{rules, tests, ◌∙◌, ◌<◌, ℕ, ap}
+use mathlib.Core.Bool.{cond}
+use Rattle.std.specs.List.{range_with_len}
+use Rattle.std.proofs.lemmas.List.FromFn.{length-range_with_len}
+use Rattle.std.proofs.lemmas.Iterator.{YieldsList-from_map}
+use Rattle.std.proofs.lemmas.Iterator.Consumers.{YieldsList-at, sum_by_from_yields_List}
+use Rattle.std.proofs.lemmas.Iterator.Adapters.{at_most_from_yields_List, fits_from_length}
+use Rattle.policy.specs.Lists.{upto}
 use Rattle.policy.specs.Lookup.{numbers}
-use Rattle.geometry.specs.Geometry.{layout_of}
+use Rattle.policy.specs.ShortCheck.{sum}
 use Rattle.geometry.proofs.Bounds.{limits}
+use Rattle.image.specs.Image.{lay, tables}
 use Rattle.services.specs.Removal.{between}
-use Rattle.bits.proofs.Gathered.{tally_start, tally_fits, tally_turn, tally_end, sum_count}
-use Rattle.bits.proofs.Row.{row_bit}
-use Rattle.bits.proofs.Tests.{bool_low, bool_is}
+use Rattle.bits.proofs.Gathered.{sum_count}
+use Rattle.bits.proofs.Chains.{given_all, sum_below}
+use Rattle.services.proofs.Removed.Rows.{bit_number, bit_small}
 use Rattle.services.proofs.removal.holders.Goals as goal
 
-pub loop-i-init : goal.loop-i-init
-loop-i-init c = tally_start _
-
-pub between-row-requires : goal.between-row-requires
-between-row-requires c = record { laid = c.requires.laid; inside = (c.requires.inside.0, omega arith) }
-
-pub has_bit-requires : goal.has_bit-requires
-has_bit-requires c = omega (arith, (limits c.args.c).services_low, c.requires.inside.1)
-
-pub overflow_add-total : goal.overflow_add-total
-overflow_add-total c =
-    let l = c.loop-i in
-    let a = c.args in
-    tally_fits _ l.invariant c.loop-i-test.true _ (bool_low c.has_bit.result) c.packages-size.ensures (limits a.c).packages_low
-
-pub loop-i-preserved : goal.loop-i-preserved
-loop-i-preserved c =
-    let l = c.loop-i in
-    let a = c.args in
-    tally_turn _ l.invariant c.loop-i-test.true _ (bool_low c.has_bit.result)
-    (bool_is c.has_bit.result _ (c.has_bit.ensures ∙ row_bit (layout_of a.c).services _ c.between-row.result c.between-row.ensures a.k c.requires.inside.1))
+pub sum-requires-clause-fits : goal.sum-requires-clause-fits
+sum-requires-clause-fits c =
+    let n = c.packages.result in
+    let low : n < 17 = omega (arith, c.packages.ensures, (limits c.args.img.card).packages_low) in
+    fits_from_length _ _ 16 _ (at_most_from_yields_List (YieldsList-at c.map.ensures.source (given_all n)) (omega (arith, length-range_with_len 0 n))) c.map.ensures.closure (omega arith) (λ x r q k. search (rules, tests, k, bit_small))
 
 pub returns : goal.returns
 returns c =
     let a = c.args in
-    let v = tally_end _ c.loop-i.invariant c.packages-size.ensures c.loop-i-test.false (limits a.c).packages_low in
-    v.0 ∙ sum_count (λ i. between a.tb (decode (layout_of a.c) a.img.now) a.j i a.k) (numbers (layout_of a.c))
+    let held = λ (i : ℕ). between a.tb (tables a.img) a.j i a.k in
+    sum_by_from_yields_List (λ i. cond (held i) 1 0) (range_with_len 0 c.packages.result) c.map.result _ c.sum.ensures.ran
+    (YieldsList-from_map _ (λ i. cond (held i) 1 0) (YieldsList-at c.map.ensures.source (given_all c.packages.result)) c.map.ensures.closure (λ x r q k. search (rules, tests, k, bit_number)))
+    ∙ sum_below (λ i. cond (held i) 1 0) c.packages.result ∙ ap (λ (n : ℕ). sum (λ i. cond (held i) 1 0) (upto n)) c.packages.ensures ∙ sum_count held (numbers (lay a.img))

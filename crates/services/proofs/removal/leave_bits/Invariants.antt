@@ -6,4 +6,4 @@ use Rattle.changes.proofs.AppendedRows.{Appended}
 use Rattle.services.proofs.removal.leave_bits.Given as goal
 
 abbrev pub invariant-loop-i : goal.invariant-loop-i
-invariant-loop-i l = let t = decode (layout_of l.c) l.initial.img in Appended (layout_of l.c) l.l t (left_bit (layout_of l.c) l.l t l.tb l.j l.k) l.callers l.i l.img
+invariant-loop-i l = let t = decode (layout_of l.c) l.initial.img in Appended (layout_of l.c) l.l t (left_bit (layout_of l.c) l.l t l.tb l.j l.k) (layout_of l.c).packages l.i l.img

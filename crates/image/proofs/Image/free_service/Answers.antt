@@ -1,0 +1,6 @@
+-- `image::Image::free_service` meets its contract.
+use Rattle.image.proofs.Seen.{seen}
+use Rattle.image.proofs.Image.free_service.Goals as goal
+
+pub returns-clause-is : goal.returns-clause-is
+returns-clause-is c = search seen

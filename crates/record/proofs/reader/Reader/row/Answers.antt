@@ -1,0 +1,18 @@
+-- `record::reader::Reader::row` meets its contract: what was read ends where the rest begins.
+use Rattle.geometry.specs.Geometry.{layout_of}
+use Rattle.record.proofs.Fronts.{rest}
+use Rattle.record.proofs.Tails.{ends_row, end_low, end_here}
+use Rattle.record.proofs.reader.Reader.row.Goals as goal
+
+pub overflow_sub-self : goal.overflow_sub-self
+overflow_sub-self c =
+    let L = layout_of c.args.c in
+    let s = c.args.self.now in
+    end_low (ends_row L) s.src.now s.inside (rw (rest s.at s.src.now) at c.in_ok-row.ensures)
+
+pub returns : goal.returns
+returns c =
+    let L = layout_of c.args.c in
+    let s = c.args.self.now in
+    let e = rw (rest s.at s.src.now) at c.in_ok-row.ensures in
+    rw (end_here (ends_row L) s.src.now s.inside e) e
