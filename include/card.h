@@ -66,7 +66,7 @@ extern "C" {
  * CARD_STACK_ENLARGE are new, and card_check, card_empty, card_judge and card_read_out take its images, for which 4.0 gave 1; card_aid
  * takes its records, of version 02, for which 4.0 found no AID. On the small card every answer and byte is what it was.
  * CARD_STACK_CHECK goes from 416 to 576, CARD_STACK_CONVERT from 448 to 640, CARD_STACK_READ_OUT from 512 to 640, CARD_STACK_AID from
- * 256 to 832.
+ * 256 to 320.
  *
  * 4.0: kinds 9 and 10, which added and removed a need, are retired: a record of such a kind gets 2, and card_aid finds no AID in it. A
  * need comes with a whole contract (kinds 1 and 11), and goes with its call (kind 6), its package, or the next whole contract; one that
@@ -99,8 +99,8 @@ extern "C" {
 #define CARD_LARGE_RECORD_SIZE 15564
 
 /*
- * Bytes of stack that a call takes at most, on either card, its return address and glibc's memcpy, memmove and memset among them. No
- * theorem speaks of the stack: these are measured, with a little room, and a test holds the archive to them (tests/tests/stack.rs).
+ * Bytes of stack that a call takes at most, on either card, its return address and glibc's memcpy and memset among them. No theorem
+ * speaks of the stack: these are measured, with a little room, and a test holds the archive to them (tests/tests/stack.rs).
  */
 #define CARD_STACK_CHECK 576
 #define CARD_STACK_EMPTY 64
@@ -108,7 +108,7 @@ extern "C" {
 #define CARD_STACK_ENLARGE 640
 #define CARD_STACK_JUDGE 1536
 #define CARD_STACK_READ_OUT 640
-#define CARD_STACK_AID 832
+#define CARD_STACK_AID 320
 
 /*
  * The answers. Where several causes apply the lowest is given. The second number of a refusal is 255, and 0 when reading out; that of an

@@ -39,11 +39,10 @@ pub fn without_bit(row: u16, k: usize) -> u16
 }
 
 // The lowest number whose bit is clear; 16 where there is none.
-#[tactic(auto, using(crate::proofs::Row::lowest_clear))]
 pub fn lowest_clear(row: u16) -> usize
     ensures { result ≡ or_else (first (λ k. not (bit row k)) (upto 16)) 16 (λ k. k) }
 {
-    row.trailing_ones() as usize
+    u16::trailing_zeros(!row) as usize
 }
 
 // How many bits are set.

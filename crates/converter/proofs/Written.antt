@@ -52,9 +52,10 @@ module _ (old : List ℕ) (ok : T (sound narrow old)) where
     front_long = omega (arith, length_part 3 787 old (omega (arith, old_size old ok)))
 
     -- the header, then the part up to the rows
-    pub front_made : (end : ℕ) → end ≡ 790 → (one two : List ℕ) → one ≡ small.header → two ≡ take (end - 3) (drop 3 old) → put_mid 3 (end - 3) (one ++ drop 3 out) two ≡ over 0 front out
+    pub front_made : (end : ℕ) → end ≡ 790 → (one two : List ℕ) → one ≡ small.header → two ≡ over 3 (take (end - 3) (drop 3 old)) (one ++ drop 3 out) → two ≡ over 0 front out
     front_made end e one two p q =
-        over_next 0 small.header out 3 refl 3 (front_of old) _ _ (ap (λ (z : List ℕ). z ++ drop 3 out) p) (put_part 3 end 787 _ two old 3 end e e (omega (arith, old_size old ok)) q) (omega arith) refl
+        over_next 0 small.header out 3 refl 3 (front_of old) _ _ (ap (λ (z : List ℕ). z ++ drop 3 out) p)
+        (q ∙ ap (λ (k : ℕ). over 3 (take (k - 3) (drop 3 old)) (one ++ drop 3 out)) e) (omega arith) refl
 
     -- the rows, after the front, then zeros to the end
     pub all_made : (n : ℕ) → n ≡ old_count old → (one two : List ℕ) (r : ℕ) → one ≡ over 0 front out → Laid (new_row old) 20 790 n one two r → n ≤ r → (end : ℕ) → end ≡ place_at small WaitingGrants n

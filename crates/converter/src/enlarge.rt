@@ -17,7 +17,7 @@ fn copy_fill(bytes: &[u8], place: &mut [u8])
     requires { length bytes.now ≤ length place.old }
     ensures { place.new ≡ filled (length place.old) bytes.now }
 {
-    place[..bytes.len()].copy_from_slice(bytes);
+    rows::put(place, 0, bytes);
     place[bytes.len()..].fill(0);
 }
 

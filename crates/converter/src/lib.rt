@@ -69,7 +69,7 @@ fn copy_front(old: &[u8], out: &mut [u8])
 {
     let end = geometry::place_at(Card::Small, Kept::WaitingGrants, 0);
     out[..3].copy_from_slice(&geometry::header(Card::Small));
-    out[3..end].copy_from_slice(&old[3..end]);
+    rows::put(out, 3, &old[3..end]);
 }
 
 // The image of version 02 with the same tables: the front, the rows in order, and zeros to the end.

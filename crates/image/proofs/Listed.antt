@@ -22,7 +22,7 @@ use Rattle.image.proofs.Access as at
 use Rattle.image.proofs.Places.{list_fits}
 use Rattle.image.proofs.LaidImage.{is_laid}
 use Rattle.image.proofs.Seen.{aid_held_lem, laid_size}
-use Rattle.image.proofs.Masks.{mask_turn}
+use Rattle.image.proofs.Masks.{mask_turn, mask_low, mask_doubled, mask_added}
 
 module _ (c : Card) (img : List ℕ) (h : Laid (layout_of c) img) (l : Kept) where
   abbrev t : Tables
@@ -117,7 +117,9 @@ module _ (c : Card) (img : List ℕ) (h : Laid (layout_of c) img) (l : Kept) whe
 
 pub ruleset listed = (is_laid, list_counts, list_counted, row_lt, row_aid, row_start, aid_short, held_sum, held_end, held_in, holder_is, aid_is, number_byte, number_sum, number_seen, tokens_sum, tokens_room, tokens_read, rules)
 
--- ---- the loop that gathers a mask of rows
+-- ---- the loop that gathers a mask of rows: `search masks`
 module _ (l : Kept) (f : Item l → Bool) (m : List (Item l)) (r mask : ℕ) (e : mask ≡ mask_of f (drop r m)) (h : 0 < r) (i : r ≤ length m) where
   pub item_turn : (b : Bool) → b ≡ f (get_or m (r - 1) (item l [] no_tok 0)) → mask * 2 + bool_byte b ≡ mask_of f (drop (r - 1) m)
   item_turn = mask_turn f m r mask e h i (item l [] no_tok 0)
+
+pub ruleset masks = (mask_low, mask_doubled, mask_added, item_turn, list_low, is_laid, rules)

@@ -51,21 +51,7 @@ slot_made at a img s h =
     ∙ ap (over (at + 1 + n) (replicate (16 - n) 0)) q
     ∙ over_on at (n ∷ a) img (omega arith) (at + 1 + n) (replicate (16 - n) 0) (omega arith)
 
--- the same, as writes to parts leave it
-pub slot_put : (at : ℕ) (a img : List ℕ) {x z : List ℕ} → length a ≤ 16 → at + 17 ≤ length img → x ≡ a → z ≡ replicate (length z) 0 → length z ≡ at + 17 - (at + 1 + length a)
-    → take (at + 1 + length a) (take (at + 1) (set img at (length a)) ++ (x ++ drop (at + 1 + length a - (at + 1)) (drop (at + 1) (set img at (length a)))))
-    ++ (z ++ drop (at + 17 - (at + 1 + length a)) (drop (at + 1 + length a) (take (at + 1) (set img at (length a)) ++ (x ++ drop (at + 1 + length a - (at + 1)) (drop (at + 1) (set img at (length a)))))))
-    ≡ over at (write_aid a) img
-slot_put at a img {x} {z} s h p q e =
-    let n = length a in
-    let one = set img at n in
-    let l : length x ≡ at + 1 + n - (at + 1) = ap length p ∙ omega arith in
-    let w : at + 17 - (at + 1 + n) ≡ 16 - n = omega arith in
-    let zeros : z ≡ replicate (16 - n) 0 = q ∙ ap (λ (k : ℕ). replicate k 0) (e ∙ w) in
-    lent (at + 1 + n) (at + 17 - (at + 1 + n)) z (take (at + 1) one ++ (x ++ drop (at + 1 + n - (at + 1)) (drop (at + 1) one))) e
-    ∙ ap₂ (over (at + 1 + n)) zeros (lent (at + 1) (at + 1 + n - (at + 1)) x one l ∙ ap (λ (y : List ℕ). over (at + 1) y one) p)
-    ∙ slot_made at a img s h
-
+-- the same of no AID, as a write to a part leaves it
 pub slot_cleared : (at : ℕ) (img : List ℕ) {z : List ℕ} → z ≡ replicate (length z) 0 → length z ≡ at + 17 - at
     → take at img ++ (z ++ drop (at + 17 - at) (drop at img)) ≡ over at (write_aid []) img
 slot_cleared at img {z} q e =

@@ -82,10 +82,10 @@ fn put_slot(img: &mut [u8], at: usize, aid: &[u8])
     requires { (at + 17 ≤ length img.old) × (length aid.now ≤ 16) }
     ensures { img.new ≡ over at (write_aid aid.now) img.old }
 {
-    let end = at + 1 + aid.len();
-    img[at] = aid.len() as u8;
-    img[at + 1..end].copy_from_slice(aid);
-    img[end..at + 17].fill(0);
+    let n = aid.len();
+    img[at] = n as u8;
+    rows::put(img, at + 1, aid);
+    rows::clear(img, at + 1 + n, 16 - n);
 }
 
 // The AID of package n.

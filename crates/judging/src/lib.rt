@@ -53,7 +53,8 @@ fn change(img: &mut [u8], c: Card, own: Aid, k: RowKind, r: Row) -> Verdict
     links::change(img, c, own.bytes, r.other.bytes, r.tokens, k)
 }
 
-// Causes 3 to 11, and the change, of a record that was read, on a sound image.
+// Causes 3 to 11, and the change, of a record that was read, on a sound image. Out of line, so that it takes the stack that reading took.
+#[inline(never)]
 fn judge_read(img: &mut [u8], c: Card, r: Record) -> Verdict
     requires { Taken (layout_of c) img.old (bytes_of r.aid) (kind_of r.kind) }
     ensures { Answers (properly (layout_of c) img.old (bytes_of r.entry.aid) (kind_of r.entry.kind)) result img.new }

@@ -35,7 +35,7 @@ pub struct Plan {
 }
 
 // Bit k of a table's entry in row i, column j.
-fn has(img: Image, tb: Table, i: usize, j: usize, k: usize) -> bool
+pub fn has(img: Image, tb: Table, i: usize, j: usize, k: usize) -> bool
     requires { BitAt (lay img) i j k }
     ensures { result ≡ table_of tb (tables img.entry) i j k }
 {

@@ -1,4 +1,3 @@
-pub mod Chains
 pub mod Checks
 pub mod Placed
 pub mod Dropped

@@ -190,7 +190,7 @@ fn renewal(img: Image, own: &[u8], l: Lists, n: usize) -> Bring
 }
 
 // Decides whether the package `own` is loaded with the lists of the record.
-fn load(img: Image, own: &[u8], l: Lists) -> Result<Bring, Refusal>
+pub fn load(img: Image, own: &[u8], l: Lists) -> Result<Bring, Refusal>
     requires { Asked (lay img) img.bytes.now own.now (load_by l) }
     ensures { Decides (lay img.entry) img.entry.bytes.now (contract_by own.now l.entry) (load_by l.entry)
         (Loads (lay img.entry) img.entry.bytes.now (contract_by own.now l.entry)) result }
@@ -207,7 +207,7 @@ fn load(img: Image, own: &[u8], l: Lists) -> Result<Bring, Refusal>
 }
 
 // Decides whether the lists of the record replace the contract of the package `own`.
-fn replace(img: Image, own: &[u8], l: Lists) -> Result<Bring, Refusal>
+pub fn replace(img: Image, own: &[u8], l: Lists) -> Result<Bring, Refusal>
     requires { Asked (lay img) img.bytes.now own.now (replace_by l) }
     ensures { Decides (lay img.entry) img.entry.bytes.now (contract_by own.now l.entry) (replace_by l.entry)
         (Renews (lay img.entry) img.entry.bytes.now (contract_by own.now l.entry)) result }

@@ -105,7 +105,7 @@ fn bring_in(img: &mut [u8], c: Card, b: Bring, l: Lists)
 }
 
 // All writes of an accepted load.
-fn load(img: &mut [u8], c: Card, b: Bring, own: &[u8], l: Lists)
+pub fn load(img: &mut [u8], c: Card, b: Bring, own: &[u8], l: Lists)
     requires asked { Asked (layout_of c) img.old own.now (load_by l) }
     requires loads { Loads (layout_of c) img.old (contract_by own.now l) b }
     ensures { Wrote (layout_of c) img.new (load_at (layout_of c) (tables_of c img.old) b.at (contract_by own.now l.entry)).tables }
@@ -187,7 +187,7 @@ fn leave_noted(img: &mut [u8], c: Card, aid: &[u8], rows: &[u16], tokens: &[u8])
 
 // All writes of an accepted whole contract. The calls of the others on services that go are noted first, since their places may be taken
 // again, and stand behind the package's own.
-fn replace(img: &mut [u8], c: Card, b: Bring, own: &[u8], l: Lists)
+pub fn replace(img: &mut [u8], c: Card, b: Bring, own: &[u8], l: Lists)
     requires asked { Asked (layout_of c) img.old own.now (replace_by l) }
     requires renews { Renews (layout_of c) img.old (contract_by own.now l) b }
     ensures { Wrote (layout_of c) img.new (replace_at (layout_of c) (tables_of c img.old) b.at (contract_by own.now l.entry)).tables }

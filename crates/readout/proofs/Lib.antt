@@ -1,4 +1,5 @@
 pub mod Records
 pub mod Rows
 pub mod Turns
+pub mod Copies
 pub mod Writers

@@ -7,8 +7,12 @@ use native.Mathlib.Omega.{arith}
 use lib.ListN.{get_or}
 use borrow.Author.Tests.{le-leb, lt-leb, ne_eqb}
 use Rattle.policy.specs.Layout.{Layout, nine}
-use Rattle.policy.specs.Contract.{Row}
-use Rattle.policy.specs.Record.{Got, got, bad, Change, load, replace, remove, remove_service, add_call, remove_call, add_grant, remove_grant, and_then, given, valid_tokens, valid_row, a_contract, a_service, change, kinds}
+use Rattle.record.specs.declared.ContractKind.{ContractKind}
+use Rattle.record.specs.declared.ContractKind.TheVariants.{Load, Replace}
+use Rattle.record.specs.declared.RowKind.{RowKind}
+use Rattle.record.specs.declared.RowKind.TheVariants.{AddCall, RemoveCall, AddGrant, RemoveGrant}
+use Rattle.record.specs.Meaning.{whole_of, change_of, whole_byte, row_byte}
+use Rattle.policy.specs.Record.{got, bad, Change, remove, remove_service, and_then, given, valid_tokens, valid_row, a_contract, a_service, change, kinds}
 use Rattle.geometry.specs.declared.Card.{Card}
 use Rattle.geometry.specs.declared.Card.TheVariants.{Small, Large}
 use Rattle.geometry.specs.Geometry.{layout_of}
@@ -40,8 +44,9 @@ module _ (c : Card) (t : List ℕ) where
   unfolding change
   kind_read k on = rw on
 
-  pub change_1 : change L 1 t ≡ a_contract L load t
-  change_1 = kind_read 1 (reads_8 c 1 (omega arith))
+  pub change_whole : (k : ContractKind) → change L (whole_byte k) t ≡ a_contract L (whole_of k) t
+  change_whole Load = kind_read 1 (reads_8 c 1 (omega arith))
+  change_whole Replace = kind_read 11 (reads_11 c)
 
   pub change_2 : change L 2 t ≡ got remove t
   change_2 = kind_read 2 (reads_8 c 2 (omega arith))
@@ -52,23 +57,11 @@ module _ (c : Card) (t : List ℕ) where
   pub change_4 : change L 4 t ≡ and_then (valid_tokens L t) (λ s u. got (remove_service s) u)
   change_4 = kind_read 4 (reads_8 c 4 (omega arith))
 
-  abbrev of_row : (Row → Change) → Got Change
-  of_row f = and_then (valid_row L t) (λ r u. got (f r) u)
-
-  pub change_5 : change L 5 t ≡ of_row add_call
-  change_5 = kind_read 5 (reads_8 c 5 (omega arith))
-
-  pub change_6 : change L 6 t ≡ of_row remove_call
-  change_6 = kind_read 6 (reads_8 c 6 (omega arith))
-
-  pub change_7 : change L 7 t ≡ of_row add_grant
-  change_7 = kind_read 7 (reads_8 c 7 (omega arith))
-
-  pub change_8 : change L 8 t ≡ of_row remove_grant
-  change_8 = kind_read 8 (reads_8 c 8 (omega arith))
-
-  pub change_11 : change L 11 t ≡ a_contract L replace t
-  change_11 = kind_read 11 (reads_11 c)
+  pub change_row : (k : RowKind) → change L (row_byte k) t ≡ and_then (valid_row L t) (λ r u. got (change_of k r) u)
+  change_row AddCall = kind_read 5 (reads_8 c 5 (omega arith))
+  change_row RemoveCall = kind_read 6 (reads_8 c 6 (omega arith))
+  change_row AddGrant = kind_read 7 (reads_8 c 7 (omega arith))
+  change_row RemoveGrant = kind_read 8 (reads_8 c 8 (omega arith))
 
   -- R-13: 'Kinds 9 and 10 are retired and get 2'; there is no kind 0, and none above 11
   pub change_none : (k : ℕ) → (k ≡ 11 → ⊥) → (0 < k → 8 < k) → change L k t ≡ bad

@@ -74,6 +74,10 @@ module _ (L : Layout) where
             pub all_read : length z ≤ at → some (record { aid = a; change = k }) ≡ parse L s
             all_read m = sym (read ∙ rw (drop_of_length-le z m))
 
+-- a reader has bytes left over
+pub not_all : {A : Type 0} {a : A} {g : Got A} (z : List ℕ) (at : ℕ) → at ≤ length z → (at ≡ length z → ⊥) → got a (drop at z) ≡ g → none ≡ whole g
+not_all z at h n e = rw (← e, drop-cons z at 0 (omega (arith, h, n)))
+
 -- a record that was read
 module _ (L : Layout) (s : List ℕ) where
   pub first_none : none ≡ parse L s → [] ≡ first_aid L s

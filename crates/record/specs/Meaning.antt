@@ -1,5 +1,5 @@
 -- What was read, and the changes of the kinds.
-use Rattle.std.specs.Prelude.{ℕ, List, []}
+use Rattle.std.specs.Prelude.{ℕ, ◌≡◌, List, [], Option, Some, None}
 use Rattle.policy.specs.Contract.{Tok, Row}
 use Rattle.policy.specs.Record.{Got, got, bad, Reader, many, Change, load, replace, add_call, remove_call, add_grant, remove_grant}
 use Rattle.record.specs.declared.ContractKind.{ContractKind}
@@ -32,3 +32,19 @@ change_of AddCall r = add_call r
 change_of RemoveCall r = remove_call r
 change_of AddGrant r = add_grant r
 change_of RemoveGrant r = remove_grant r
+
+-- the kind byte of each
+abbrev pub whole_byte : ContractKind → ℕ
+whole_byte Load = 1
+whole_byte Replace = 11
+
+abbrev pub row_byte : RowKind → ℕ
+row_byte AddCall = 5
+row_byte RemoveCall = 6
+row_byte AddGrant = 7
+row_byte RemoveGrant = 8
+
+-- r is the case with the kind byte n, and nothing exactly where none has it
+abbrev pub Names : {K : Type 0} → (K → ℕ) → ℕ → Option K → Type 0
+Names byte n (Some k) = n ≡ byte k
+Names {K} byte n None = (k : K) → n ≡ byte k → ⊥

@@ -2,8 +2,9 @@
 use Rattle.std.specs.Prelude.{ℕ, zero, suc, ◌≡◌, ◌<◌, List, Option, Some, None, option_and_then}
 use Rattle.std.specs.Borrow.{Bor}
 use Rattle.policy.specs.Layout.{Layout}
-use Rattle.policy.specs.Record.{Got, got, bad, Reader, given, ◌>>=◌, done, number, valid_tokens}
+use Rattle.policy.specs.Record.{Got, got, bad, Reader, given, ◌>>=◌, done, number, whole, valid_tokens}
 use Rattle.std.proofs.Math.Dec.{leb}
+use Rattle.std.proofs.Math.Option.{Option as Maybe, none, some}
 use Rattle.geometry.specs.Geometry.{tok_of}
 use Rattle.geometry.specs.declared.Tokens.{Tokens}
 
@@ -48,7 +49,12 @@ abbrev pub times : (List ℕ → Option (List ℕ)) → ℕ → List ℕ → Opt
 times f zero s = Some s
 times f (suc n) s = option_and_then (times f n) (f s)
 
--- ---- a reader that moves on: what it had left to read is s, and now is t
+-- ---- a reader that moves on: of its bytes it goes to another place, and where nothing is read it stays
+pub record Moves {A : Type 0} (src : Bor (List ℕ)) (at : ℕ) (r : Option A) (new : Bor (List ℕ)) (next : ℕ) : Type 0 where
+  pub same : new ≡ src
+  pub stays : r ≡ None → next ≡ at
+
+-- what it had left to read is s, and now is t
 abbrev pub got_on : {A B : Type 0} → (A → B) → Option A → List ℕ → Got B
 got_on view (Some x) t = got (view x) t
 got_on view None t = bad
@@ -64,3 +70,11 @@ module _ (L : Layout) where
   pub record TokensOn (s : List ℕ) (r : Option Tokens) (t : List ℕ) : Type 0 where
     pub reads : ReadsOn tok_of (valid_tokens L) s r t
     pub in_range : OnInRange r
+
+-- ---- r is what p reads of s with no bytes left over, and nothing exactly where there is none
+abbrev pub seen : {A B : Type 0} → (A → B) → Option A → Maybe B
+seen view (Some x) = some (view x)
+seen view None = none
+
+abbrev pub ReadsAll : {A B : Type 0} → (A → B) → Reader B → List ℕ → Option A → Type 0
+ReadsAll view p s r = seen view r ≡ whole (p s)

@@ -9,7 +9,7 @@ use geometry::Tokens;
 #[derive(Clone, Copy)]
 pub struct Aid<'a> {
     pub bytes: &'a [u8],
-    ghost valid: { (5 ≤ length bytes.now) × (length bytes.now ≤ 16) },
+    pub ghost valid: { (5 ≤ length bytes.now) × (length bytes.now ≤ 16) },
 }
 
 // A row: the other end's AID, and the tokens of a service.
@@ -24,7 +24,7 @@ pub struct Row<'a> {
 pub struct Services<'a> {
     pub part: &'a [u8],
     pub left: usize,
-    ghost good: { T (is_got (many tokens left part.now)) },
+    pub ghost good: { T (is_got (many tokens left part.now)) },
 }
 
 // The callers of a service.
@@ -32,7 +32,7 @@ pub struct Services<'a> {
 pub struct Aids<'a> {
     pub part: &'a [u8],
     pub left: usize,
-    ghost good: { T (is_got (many aid left part.now)) },
+    pub ghost good: { T (is_got (many aid left part.now)) },
 }
 
 // Calls, grants or needs.
@@ -40,7 +40,7 @@ pub struct Aids<'a> {
 pub struct Rows<'a> {
     pub part: &'a [u8],
     pub left: usize,
-    ghost good: { T (is_got (many a_row left part.now)) },
+    pub ghost good: { T (is_got (many a_row left part.now)) },
 }
 
 // The four lists of a contract.

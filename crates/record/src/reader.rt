@@ -4,7 +4,7 @@ ghost use Rattle.std.specs.Prelude.{◌≤◌, length, drop};
 ghost use Rattle.policy.specs.Record.{aid, valid_row, token_list, caller_list, row_list};
 ghost use Rattle.geometry.specs.Geometry.{layout_of};
 ghost use Rattle.record.specs.Listed.{bytes_of, row_of, toks_of, aids_of, rows_of};
-ghost use Rattle.record.specs.Reading.{ReadsOn, TokensOn};
+ghost use Rattle.record.specs.Reading.{ReadsOn, TokensOn, Moves};
 
 use crate::list::{Aid, Aids, Row, Rows, Services};
 use crate::parts;
@@ -14,13 +14,14 @@ use geometry::{Card, Tokens};
 pub struct Reader<'a> {
     pub src: &'a [u8],
     pub at: usize,
-    ghost inside: { at ≤ length src.now },
+    pub ghost inside: { at ≤ length src.now },
 }
 
 impl<'a> Reader<'a> {
     // The AID at the position.
     pub fn aid(&mut self) -> Option<Aid<'a>>
-        ensures { ReadsOn bytes_of aid (drop self.old.at self.old.src.now) result (drop self.new.at self.new.src.now) }
+        ensures reads { ReadsOn bytes_of aid (drop self.old.at self.old.src.now) result (drop self.new.at self.new.src.now) }
+        ensures moves { Moves self.old.src self.old.at result self.new.src self.new.at }
     {
         let (aid, rest) = parts::read_aid(&self.src[self.at..])?;
         *self = Reader {
@@ -32,7 +33,8 @@ impl<'a> Reader<'a> {
 
     // The tokens at the position.
     pub fn tokens(&mut self, c: Card) -> Option<Tokens>
-        ensures { TokensOn (layout_of c) (drop self.old.at self.old.src.now) result (drop self.new.at self.new.src.now) }
+        ensures reads { TokensOn (layout_of c) (drop self.old.at self.old.src.now) result (drop self.new.at self.new.src.now) }
+        ensures moves { Moves self.old.src self.old.at result self.new.src self.new.at }
     {
         let (tokens, rest) = parts::read_tokens(&self.src[self.at..], c)?;
         *self = Reader {
@@ -44,7 +46,8 @@ impl<'a> Reader<'a> {
 
     // The row at the position.
     pub fn row(&mut self, c: Card) -> Option<Row<'a>>
-        ensures { ReadsOn row_of (valid_row (layout_of c)) (drop self.old.at self.old.src.now) result (drop self.new.at self.new.src.now) }
+        ensures reads { ReadsOn row_of (valid_row (layout_of c)) (drop self.old.at self.old.src.now) result (drop self.new.at self.new.src.now) }
+        ensures moves { Moves self.old.src self.old.at result self.new.src self.new.at }
     {
         let (row, rest) = parts::read_row(&self.src[self.at..], c)?;
         *self = Reader {
@@ -56,8 +59,9 @@ impl<'a> Reader<'a> {
 
     // The services of a contract, at the position.
     pub fn services(&mut self, c: Card) -> Option<Services<'a>>
-        ensures { ReadsOn toks_of (token_list (layout_of c)) (drop self.old.at self.old.src.now)
+        ensures reads { ReadsOn toks_of (token_list (layout_of c)) (drop self.old.at self.old.src.now)
             result (drop self.new.at self.new.src.now) }
+        ensures moves { Moves self.old.src self.old.at result self.new.src self.new.at }
     {
         let (services, rest) = parts::read_services(&self.src[self.at..], c)?;
         *self = Reader {
@@ -69,8 +73,9 @@ impl<'a> Reader<'a> {
 
     // The callers of a service, at the position.
     pub fn callers(&mut self, c: Card) -> Option<Aids<'a>>
-        ensures { ReadsOn aids_of (caller_list (layout_of c)) (drop self.old.at self.old.src.now)
+        ensures reads { ReadsOn aids_of (caller_list (layout_of c)) (drop self.old.at self.old.src.now)
             result (drop self.new.at self.new.src.now) }
+        ensures moves { Moves self.old.src self.old.at result self.new.src self.new.at }
     {
         let (callers, rest) = parts::read_callers(&self.src[self.at..], c)?;
         *self = Reader {
@@ -82,7 +87,8 @@ impl<'a> Reader<'a> {
 
     // The calls, grants or needs of a contract, at the position.
     pub fn rows(&mut self, c: Card) -> Option<Rows<'a>>
-        ensures { ReadsOn rows_of (row_list (layout_of c)) (drop self.old.at self.old.src.now) result (drop self.new.at self.new.src.now) }
+        ensures reads { ReadsOn rows_of (row_list (layout_of c)) (drop self.old.at self.old.src.now) result (drop self.new.at self.new.src.now) }
+        ensures moves { Moves self.old.src self.old.at result self.new.src self.new.at }
     {
         let (rows, rest) = parts::read_rows(&self.src[self.at..], c)?;
         *self = Reader {

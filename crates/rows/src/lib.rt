@@ -100,11 +100,14 @@ pub fn same_short(a: &[u8], at: usize, b: &[u8]) -> bool
 }
 
 // The bytes of src over those of dst from index at on.
+// Stays: `copy_from_slice` of a length that is not known calls `memmove`, which a host on bare metal would have to supply.
 pub fn put(dst: &mut [u8], at: usize, src: &[u8])
     requires { at + length src.now ≤ length dst.old }
     ensures { dst.new ≡ over at src.now dst.old }
 {
-    dst[at..at + src.len()].copy_from_slice(src);
+    for j in 0..src.len() {
+        dst[at + j] = src[j];
+    }
 }
 
 // The n bytes at `from` over those at `to`, which is n or more before.

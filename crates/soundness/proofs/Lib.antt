@@ -9,4 +9,3 @@ pub mod Passes
 pub mod Agree
 pub mod Tests
 pub mod Marks
-pub mod Chains

@@ -6,4 +6,4 @@ use Rattle.converter.proofs.copy_front.Goals as goal
 pub returns : goal.returns
 returns c =
     let a = c.args in
-    front_made a.old.now c.requires.sound a.out.now c.requires.sized _ c.place_at-end.ensures _ _ (c.copy_from_slice.ensures.after ∙ c.header.ensures) c.copy_from_slice-2.ensures.after
+    front_made a.old.now c.requires.sound a.out.now c.requires.sized _ c.place_at-end.ensures _ _ (c.copy_from_slice.ensures.after ∙ c.header.ensures) c.put.ensures

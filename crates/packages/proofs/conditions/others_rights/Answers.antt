@@ -3,7 +3,7 @@ use Rattle.std.proofs.Common.{rules}
 use Rattle.image.specs.Image.{lay, tables}
 use Rattle.record.specs.Listed.{rows_of}
 use Rattle.packages.specs.Conditions.{named_granted}
-use Rattle.packages.proofs.Chains.{all_below}
+use Rattle.bits.proofs.Chains.{all_below}
 use Rattle.packages.proofs.conditions.others_rights.Goals as goal
 
 pub returns : goal.returns

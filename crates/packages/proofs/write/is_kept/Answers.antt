@@ -8,7 +8,7 @@ use Rattle.policy.specs.Contract.{eq_tok}
 use Rattle.policy.specs.Tables.{bit}
 use Rattle.geometry.specs.Geometry.{tok_of}
 use Rattle.image.specs.Image.{lay, tables}
-use Rattle.packages.proofs.Chains.{any_below}
+use Rattle.bits.proofs.Chains.{any_below}
 use Rattle.packages.proofs.Placed.{none_kept}
 use Rattle.packages.proofs.write.is_kept.Goals as goal
 

@@ -1,24 +1,6 @@
--- `record::reading::read_lists` meets its contract: four lists, each after the one before it.
-use Rattle.policy.specs.Record.{a_contract}
+-- `record::reading::read_lists` meets its contract: where bytes are left over there is nothing.
+use Rattle.record.proofs.Parsed.{not_all}
 use Rattle.record.proofs.reading.read_lists.Goals as goal
 
-pub returns-in_err-provides : goal.returns-in_err-provides
-unfolding a_contract
-returns-in_err-provides c k = rw (c.from_residual.ensures, ← c.in_err-provides.ensures)
-
-pub returns-in_err-calls : goal.returns-in_err-calls
-unfolding a_contract
-returns-in_err-calls c k = rw (c.from_residual-in_err-calls.ensures, ← c.in_ok-provides.ensures, ← c.in_err-calls.ensures)
-
-pub returns-in_err-grants : goal.returns-in_err-grants
-unfolding a_contract
-returns-in_err-grants c k = rw (c.from_residual-in_err-grants.ensures, ← c.in_ok-provides.ensures, ← c.in_ok-calls.ensures, ← c.in_err-grants.ensures)
-
-pub returns-in_err-needs : goal.returns-in_err-needs
-unfolding a_contract
-returns-in_err-needs c k =
-    rw (c.from_residual-in_err-needs.ensures, ← c.in_ok-provides.ensures, ← c.in_ok-calls.ensures, ← c.in_ok-grants.ensures, ← c.in_err-needs.ensures)
-
-pub returns : goal.returns
-unfolding a_contract
-returns c k = rw (← c.in_ok-provides.ensures, ← c.in_ok-calls.ensures, ← c.in_ok-grants.ensures, ← c.in_ok-needs.ensures)
+pub returns-then-r : goal.returns-then-r
+returns-then-r c k = not_all _ _ c.lists.new.r.inside c.if-r.true (c.in_ok-read.ensures k)

@@ -8,8 +8,8 @@ overflow_sub-self c =
     let s = c.args.self.now in
     end_low ends_aid s.src.now s.inside (rw (rest s.at s.src.now) at c.in_ok-aid.ensures)
 
-pub returns : goal.returns
-returns c =
+pub returns-clause-reads : goal.returns-clause-reads
+returns-clause-reads c =
     let s = c.args.self.now in
     let e = rw (rest s.at s.src.now) at c.in_ok-aid.ensures in
     rw (end_here ends_aid s.src.now s.inside e) e

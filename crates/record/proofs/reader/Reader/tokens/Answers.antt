@@ -10,8 +10,8 @@ overflow_sub-self c =
     let s = c.args.self.now in
     end_low (ends_tokens L) s.src.now s.inside (rw (rest s.at s.src.now) at c.in_ok-tokens.ensures.reads)
 
-pub returns : goal.returns
-returns c =
+pub returns-clause-reads : goal.returns-clause-reads
+returns-clause-reads c =
     let L = layout_of c.args.c in
     let s = c.args.self.now in
     let e = rw (rest s.at s.src.now) at c.in_ok-tokens.ensures.reads in
